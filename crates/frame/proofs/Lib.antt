@@ -1,0 +1,6 @@
+pub mod Below
+pub mod Causes
+pub mod Layouts
+pub mod Lists
+pub mod Rows
+pub mod Windows

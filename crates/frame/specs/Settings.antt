@@ -1,0 +1,42 @@
+-- Settings and their refusals: document 01, "Settings" and "Causes and their numbers", 1 to 7.
+-- Assumes nothing.
+use Prim.Native.Nat.{ℕ, suc}
+use mathlib.Core.Bool.{Bool, cond, _&&_, _||_}
+use mathlib.Core.List.{List, [], _∷_}
+use lib.Dec.{ltb, eqb}
+use lib.ListN.{length}
+use Rattle.frame.specs.declared.Settings.{Settings}
+use Rattle.frame.specs.Table.{windowOf}
+
+-- 01's number range: x is not one of low, low + 1, .., high.
+abbrev pub outside : ℕ → ℕ → ℕ → Bool
+outside low high x = ltb x low || ltb high x
+
+-- Refusals are tried in their order, and the first one met is answered: `k`, or `next` where k is 0, no refusal.
+abbrev pub orElse : ℕ → ℕ → ℕ
+orElse ℕ.zero next = next
+orElse (suc k) next = suc k
+
+-- 1: configuration over 6. 2: N_RB not 6 to 110. 3: N1 over 2047.
+unfoldable pub cellRefusal : Settings → ℕ
+cellRefusal s = cond (ltb 6 (s .config)) 1 (cond (outside 6 110 (s .nrb)) 2 (cond (ltb 2047 (s .n1)) 3 0))
+
+-- 4: mode not 0 or 1. 5: mode 1, configuration 5.
+unfoldable pub modeRefusal : Settings → ℕ
+modeRefusal s = cond (ltb 1 (s .mode)) 4 (cond (eqb (s .mode) 1 && eqb (s .config) 5) 5 0)
+
+-- 6: blocks not 1 or 2.
+unfoldable pub blocksRefusal : Settings → ℕ
+blocksRefusal s = cond (outside 1 2 (s .blocks)) 6 0
+
+-- Refusals 1 to 6, lowest number first; 0 if the settings are accepted.
+unfoldable pub settingsRefusal : Settings → ℕ
+settingsRefusal s = orElse (cellRefusal s) (orElse (modeRefusal s) (blocksRefusal s))
+
+-- 7: subframe over 9 or without a window, that is M = 0.
+unfoldable pub noWindowRefusal : ℕ → ℕ
+noWindowRefusal size = cond (eqb size 0) 7 0
+
+-- A call for one uplink subframe n refuses 1 to 6, then 7.
+unfoldable pub windowRefusal : Settings → ℕ → ℕ
+windowRefusal s n = orElse (settingsRefusal s) (noWindowRefusal (length (windowOf (s .config) n)))

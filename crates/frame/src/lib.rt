@@ -1,0 +1,23 @@
+// The frame of a TDD cell: its settings, its layout, and the windows of Table 10.1-1.
+mod refusals;
+mod table;
+
+pub use refusals::settings_refusal;
+pub use refusals::window_refusal;
+
+// The settings of a cell (document 01, "Settings"), as raw numbers: a call refuses what 01 does not allow.
+#[repr(C)]
+pub struct Settings {
+    pub config: u16,
+    pub nrb: u16,
+    pub n1: u16,
+    pub mode: u16,
+    pub blocks: u16,
+}
+
+// The window of an uplink subframe: M, then K in the print's order, and its positions in time order, earliest first.
+pub struct Window {
+    pub size: u16,
+    pub k: [u16; 9],
+    pub order: [u16; 9],
+}

@@ -1,0 +1,79 @@
+// Settings and their refusals (document 01, "Settings"; refusals 1 to 7).
+use crate::Settings;
+use crate::table::window_of;
+ghost use mathlib.Core.Path.{_≡_};
+ghost use Rattle.frame.specs.Settings.{cellRefusal, modeRefusal, blocksRefusal, settingsRefusal, windowRefusal};
+
+fn cell_refusal(s: Settings) -> u16
+    ensures { λ r. ⌜ r ≡ cellRefusal s ⌝ }
+{
+    if 6 < s.config {
+        return 1;
+    }
+    if s.nrb < 6 {
+        return 2;
+    }
+    if 110 < s.nrb {
+        return 2;
+    }
+    if 2047 < s.n1 {
+        return 3;
+    }
+    0
+}
+
+fn mode_refusal(s: Settings) -> u16
+    ensures { λ r. ⌜ r ≡ modeRefusal s ⌝ }
+{
+    if 1 < s.mode {
+        return 4;
+    }
+    if s.mode == 1 {
+        if s.config == 5 {
+            return 5;
+        }
+    }
+    0
+}
+
+fn blocks_refusal(s: Settings) -> u16
+    ensures { λ r. ⌜ r ≡ blocksRefusal s ⌝ }
+{
+    if s.blocks < 1 {
+        return 6;
+    }
+    if 2 < s.blocks {
+        return 6;
+    }
+    0
+}
+
+// The first of refusals 1 to 6 that the settings meet; 0 if they are accepted.
+pub fn settings_refusal(s: Settings) -> u16
+    ensures { λ r. ⌜ r ≡ settingsRefusal s ⌝ }
+{
+    let cell = cell_refusal(s);
+    if cell != 0 {
+        return cell;
+    }
+    let mode = mode_refusal(s);
+    if mode != 0 {
+        return mode;
+    }
+    blocks_refusal(s)
+}
+
+// The first of refusals 1 to 7 that settings and uplink subframe n meet; 0 if n has a window.
+pub fn window_refusal(s: Settings, n: u16) -> u16
+    ensures { λ r. ⌜ r ≡ windowRefusal s n ⌝ }
+{
+    let k = settings_refusal(s);
+    if k != 0 {
+        return k;
+    }
+    let w = window_of(s.config, n);
+    if w.size == 0 {
+        return 7;
+    }
+    0
+}

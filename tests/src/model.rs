@@ -1,0 +1,194 @@
+//! A second implementation of the rules, made to be plainly right.
+//!
+//! Nothing here computes a resource by the formula. The resources of a window
+//! are laid out one after the other as a list of (position, CCE), and both calls
+//! are a search in that list: the resource of a pair is the place where it lies,
+//! and a pair or a place that is not in the list is refused.
+
+use crate::{InverseAnswer, ResourceAnswer, Settings};
+
+/// The frame, subframes 0 to 9, and the windows of each configuration, as
+/// printed: the uplink subframe n, then K in order.
+const TABLE: [(&str, &str); 7] = [
+    ("DSUUUDSUUU", "2: 6; 4: 4; 7: 6; 9: 4"),
+    ("DSUUDDSUUD", "2: 7,6; 3: 4; 7: 7,6; 8: 4"),
+    ("DSUDDDSUDD", "2: 8,7,4,6; 7: 8,7,4,6"),
+    ("DSUUUDDDDD", "2: 7,6,11; 3: 6,5; 4: 5,4"),
+    ("DSUUDDDDDD", "2: 12,8,7,11; 3: 6,5,4,7"),
+    ("DSUDDDDDDD", "2: 13,12,9,8,7,5,4,11,6"),
+    ("DSUUUDSUUD", "2: 7; 3: 7; 4: 5; 7: 7; 8: 7"),
+];
+
+/// The bandwidths allowed, in resource blocks.
+pub const NRB: std::ops::RangeInclusive<u16> = 6..=110;
+
+/// The longest window.
+const LONGEST: u16 = 9;
+
+/// The window of one uplink subframe of one configuration.
+#[derive(Clone, Debug, PartialEq, Eq)]
+pub struct Window {
+    pub config: u16,
+    pub n: u16,
+    pub k: Vec<u16>,
+}
+
+impl Window {
+    /// M, the number of downlink subframes in the window.
+    pub fn size(&self) -> u16 {
+        self.k.len() as u16
+    }
+}
+
+/// The pairs (position, CCE) of one window in the order of their resources:
+/// the first has resource N1, the next N1 + 1, and so on.
+struct Layout(Vec<(u16, u16)>);
+
+/// The windows and the layouts, made once and then searched.
+pub struct Model {
+    windows: Vec<Window>,
+    layouts: Vec<Vec<Layout>>,
+}
+
+impl Default for Model {
+    fn default() -> Self {
+        Self::new()
+    }
+}
+
+impl Model {
+    pub fn new() -> Self {
+        let layouts_of_size = |size| NRB.map(|nrb| Layout::new(size, nrb)).collect();
+        Self {
+            windows: (0..7).flat_map(windows_of).collect(),
+            layouts: (1..=LONGEST).map(layouts_of_size).collect(),
+        }
+    }
+
+    /// All windows, by configuration, then n rising.
+    pub fn windows(&self) -> &[Window] {
+        &self.windows
+    }
+
+    pub fn resource(
+        &self,
+        settings: Settings,
+        n: u16,
+        position: u16,
+        cce: u16,
+    ) -> ResourceAnswer {
+        match self.layout(settings, n) {
+            Err(refusal) => ResourceAnswer::refused(refusal),
+            Ok(layout) => match layout.place_of(position, cce) {
+                None => ResourceAnswer::refused(11),
+                Some(place) => ResourceAnswer::of(settings.n1 + place),
+            },
+        }
+    }
+
+    pub fn inverse(&self, settings: Settings, n: u16, resource: u16) -> InverseAnswer {
+        match self.layout(settings, n) {
+            Err(refusal) => InverseAnswer::refused(refusal),
+            Ok(layout) => match layout.pair_at(resource, settings.n1) {
+                None => InverseAnswer::refused(13),
+                Some((position, cce)) => InverseAnswer::of(position, cce),
+            },
+        }
+    }
+
+    /// The layout that settings and n name, or their refusal.
+    fn layout(&self, settings: Settings, n: u16) -> Result<&Layout, u16> {
+        if let Some(refusal) = settings_refusal(settings) {
+            return Err(refusal);
+        }
+        let window = self.window(settings.config, n).ok_or(7u16)?;
+        let of_size = &self.layouts[usize::from(window.size() - 1)];
+        Ok(&of_size[usize::from(settings.nrb - NRB.start())])
+    }
+
+    fn window(&self, config: u16, n: u16) -> Option<&Window> {
+        self.windows
+            .iter()
+            .find(|window| window.config == config && window.n == n)
+    }
+}
+
+impl Layout {
+    /// By the formula, a CCE of region p at position m lies at
+    /// M × N_p + m × (N_(p+1) − N_p) + (c − N_p) above N1. So the regions follow
+    /// one another, in a region the positions, and at a position the CCEs.
+    fn new(size: u16, nrb: u16) -> Self {
+        let mut pairs = Vec::new();
+        for p in 0..4 {
+            for position in 0..size {
+                for cce in edge(nrb, p)..edge(nrb, p + 1) {
+                    pairs.push((position, cce));
+                }
+            }
+        }
+        Self(pairs)
+    }
+
+    fn place_of(&self, position: u16, cce: u16) -> Option<u16> {
+        let place = self.0.iter().position(|pair| *pair == (position, cce))?;
+        Some(place as u16)
+    }
+
+    fn pair_at(&self, resource: u16, n1: u16) -> Option<(u16, u16)> {
+        let place = resource.checked_sub(n1)?;
+        self.0.get(usize::from(place)).copied()
+    }
+}
+
+/// N_p, found by counting: the greatest whole number x with
+/// 36 × x ≤ N_RB × (12 × p − 4), or 0 where there is none.
+pub fn edge(nrb: u16, p: u16) -> u16 {
+    let product = i32::from(nrb) * (12 * i32::from(p) - 4);
+    let fits = |x: &u16| 36 * i32::from(*x) <= product;
+    (0..=u16::MAX).take_while(fits).last().unwrap_or(0)
+}
+
+/// The ten letters of a configuration's frame: D, S or U.
+pub fn frame(config: u16) -> &'static str {
+    TABLE[usize::from(config)].0
+}
+
+/// The lowest number among the causes that the settings meet.
+fn settings_refusal(settings: Settings) -> Option<u16> {
+    let Settings {
+        config,
+        nrb,
+        n1,
+        mode,
+        blocks,
+    } = settings;
+    let causes = [
+        (1, config > 6),
+        (2, !NRB.contains(&nrb)),
+        (3, n1 > 2047),
+        (4, ![0, 1].contains(&mode)),
+        (5, (mode, config) == (1, 5)),
+        (6, ![1, 2].contains(&blocks)),
+    ];
+    let met = causes.into_iter().filter(|(_, met)| *met);
+    met.map(|(number, _)| number).min()
+}
+
+/// The windows of one configuration, read from the printed row.
+fn windows_of(config: u16) -> Vec<Window> {
+    let (_, row) = TABLE[usize::from(config)];
+    row.split(';').map(|text| window(config, text)).collect()
+}
+
+fn window(config: u16, text: &str) -> Window {
+    let (n, k) = text.split_once(':').expect("n, then a colon, then K");
+    Window {
+        config,
+        n: number(n),
+        k: k.split(',').map(number).collect(),
+    }
+}
+
+fn number(text: &str) -> u16 {
+    text.trim().parse().expect("a number of the table")
+}

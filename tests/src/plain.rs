@@ -1,0 +1,160 @@
+//! The two calls as one would write them in plain Rust with speed in mind:
+//! table lookup, the formula, a loop over the regions, a closed form for the
+//! inverse. The benchmark measures the engine against these.
+
+use crate::{InverseAnswer, ResourceAnswer, Settings};
+
+/// K by configuration and subframe, in printed order; empty where there is no window.
+pub const K: [[&[u8]; 10]; 7] = [
+    [&[], &[], &[6], &[], &[4], &[], &[], &[6], &[], &[4]],
+    [&[], &[], &[7, 6], &[4], &[], &[], &[], &[7, 6], &[4], &[]],
+    [
+        &[],
+        &[],
+        &[8, 7, 4, 6],
+        &[],
+        &[],
+        &[],
+        &[],
+        &[8, 7, 4, 6],
+        &[],
+        &[],
+    ],
+    [
+        &[],
+        &[],
+        &[7, 6, 11],
+        &[6, 5],
+        &[5, 4],
+        &[],
+        &[],
+        &[],
+        &[],
+        &[],
+    ],
+    [
+        &[],
+        &[],
+        &[12, 8, 7, 11],
+        &[6, 5, 4, 7],
+        &[],
+        &[],
+        &[],
+        &[],
+        &[],
+        &[],
+    ],
+    [
+        &[],
+        &[],
+        &[13, 12, 9, 8, 7, 5, 4, 11, 6],
+        &[],
+        &[],
+        &[],
+        &[],
+        &[],
+        &[],
+        &[],
+    ],
+    [&[], &[], &[7], &[7], &[5], &[], &[], &[7], &[7], &[]],
+];
+
+/// M by configuration and subframe, 0 where there is no window.
+const SIZES: [[u8; 10]; 7] = sizes();
+
+const fn sizes() -> [[u8; 10]; 7] {
+    let mut sizes = [[0; 10]; 7];
+    let mut config = 0;
+    while config < 7 {
+        let mut n = 0;
+        while n < 10 {
+            sizes[config][n] = K[config][n].len() as u8;
+            n += 1;
+        }
+        config += 1;
+    }
+    sizes
+}
+
+/// The resource of a position and first CCE, under the signature of the C call.
+#[inline(never)]
+pub extern "C" fn plain_resource(
+    settings: Settings,
+    n: u16,
+    position: u16,
+    cce: u16,
+) -> ResourceAnswer {
+    match resource(&settings, n, position, cce) {
+        Ok(resource) => ResourceAnswer::of(resource),
+        Err(refusal) => ResourceAnswer::refused(refusal),
+    }
+}
+
+/// The position and first CCE of a resource, under the signature of the C call.
+#[inline(never)]
+pub extern "C" fn plain_inverse(settings: Settings, n: u16, resource: u16) -> InverseAnswer {
+    match inverse(&settings, n, resource) {
+        Ok((position, cce)) => InverseAnswer::of(position, cce),
+        Err(refusal) => InverseAnswer::refused(refusal),
+    }
+}
+
+fn resource(settings: &Settings, n: u16, position: u16, cce: u16) -> Result<u16, u16> {
+    check(settings)?;
+    let size = window_size(settings.config, n)?;
+    let (lower, upper) = region(settings.nrb, 1, cce).ok_or(11u16)?;
+    if position >= size {
+        return Err(11);
+    }
+    Ok((size - position - 1) * lower + position * upper + cce + settings.n1)
+}
+
+fn inverse(settings: &Settings, n: u16, resource: u16) -> Result<(u16, u16), u16> {
+    check(settings)?;
+    let size = window_size(settings.config, n)?;
+    let place = resource.checked_sub(settings.n1).ok_or(13u16)?;
+    let (lower, upper) = region(settings.nrb, size, place).ok_or(13u16)?;
+    let within = place - size * lower;
+    let width = upper - lower;
+    Ok((within / width, lower + within % width))
+}
+
+fn check(settings: &Settings) -> Result<(), u16> {
+    if settings.config > 6 {
+        Err(1)
+    } else if settings.nrb < 6 || settings.nrb > 110 {
+        Err(2)
+    } else if settings.n1 > 2047 {
+        Err(3)
+    } else if settings.mode > 1 {
+        Err(4)
+    } else if settings.mode == 1 && settings.config == 5 {
+        Err(5)
+    } else if settings.blocks != 1 && settings.blocks != 2 {
+        Err(6)
+    } else {
+        Ok(())
+    }
+}
+
+/// M of a window, for a configuration that has been checked.
+fn window_size(config: u16, n: u16) -> Result<u16, u16> {
+    let row = &SIZES[usize::from(config)];
+    match row.get(usize::from(n)) {
+        Some(&size) if size > 0 => Ok(u16::from(size)),
+        _ => Err(7),
+    }
+}
+
+/// The edges N_p and N_(p+1) of the first region with `place` below `each` × N_(p+1).
+fn region(nrb: u16, each: u16, place: u16) -> Option<(u16, u16)> {
+    let mut lower = 0;
+    for p in 1..=4 {
+        let upper = nrb * (12 * p - 4) / 36;
+        if place < each * upper {
+            return Some((lower, upper));
+        }
+        lower = upper;
+    }
+    None
+}
