@@ -1,10 +1,8 @@
 -- Each downlink subframe is in exactly one window: document 00, demand 3, over the subframes 0, 1, 2, .. of an endless run.
 -- Assumes nothing.
-use Prim.Native.Nat.{ℕ, _+_, _<_, _≤_, _%_}
-use mathlib.Core.Bool.{true}
+use Prim.Native.Nat.{ℕ, _+_, _<_, _%_}
 use mathlib.Core.Path.{_≡_}
 use lib.ListN.{length, getD}
-use Rattle.frame.specs.Layout.{downlink}
 use Rattle.frame.specs.Table.{windowOf}
 
 -- Subframe d of the run stands at position m of the window of subframe s: d is s - k_m.

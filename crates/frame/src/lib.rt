@@ -4,6 +4,8 @@ mod table;
 
 pub use refusals::settings_refusal;
 pub use refusals::window_refusal;
+pub use table::is_downlink;
+pub use table::window_of;
 
 // The settings of a cell (document 01, "Settings"), as raw numbers: a call refuses what 01 does not allow.
 #[repr(C)]

@@ -1,0 +1,97 @@
+-- What accepted settings are, field by field, and that those facts are all that acceptance asks.
+-- Assumes nothing.
+use Prim.Native.Nat.{ℕ, zero, suc, _<_, _≤_}
+use mathlib.Core.Bool.{Bool, true, false, cond, _&&_, _||_}
+use mathlib.Core.Path.{_≡_, refl, sym, _∙_}
+use native.Mathlib.Decide.{ℕ-discrete}
+use native.Mathlib.Omega.{arith}
+use lib.Dec.{ltb, eqb}
+use lib.ListN.{length}
+use borrow.Author.Tests.{ltb-false, eq-eqb, ne-eqb, le-ltb, eqb-false}
+use Rattle.frame.specs.declared.Settings.{Settings}
+use Rattle.frame.specs.Settings.{orElse, outside, cellRefusal, modeRefusal, blocksRefusal, settingsRefusal, noWindowRefusal, windowRefusal}
+use Rattle.frame.specs.Table.{windowOf}
+
+pub record Accepted (s : Settings) : Type 0 where
+  pub config : s .config ≤ 6
+  pub nrbLeast : 6 ≤ s .nrb
+  pub nrbMost : s .nrb ≤ 110
+  pub n1 : s .n1 ≤ 2047
+  pub mode : s .mode ≤ 1
+  pub noFive : s .mode ≡ 1 → s .config ≡ 5 → ⊥
+  pub blocksLeast : 1 ≤ s .blocks
+  pub blocksMost : s .blocks ≤ 2
+
+-- No refusal of two is neither.
+pub neither : (k next : ℕ) → orElse k next ≡ 0 → (k ≡ 0) × (next ≡ 0)
+neither zero next e = (refl, e)
+neither (suc k) next e = absurd (omega arith)
+
+-- No refusal of a chain is its first test failed, and none further on.
+pub unmet : (b : Bool) (k next : ℕ) → cond b (suc k) next ≡ 0 → (b ≡ false) × (next ≡ 0)
+unmet true k next e = absurd (omega arith)
+unmet false k next e = (refl, e)
+
+-- A number that is not outside lies between.
+pub between : (low high x : ℕ) → outside low high x ≡ false → (low ≤ x) × (x ≤ high)
+between low high x e = go (ltb x low) (ltb high x) refl refl e
+  where
+    go : (a b : Bool) → ltb x low ≡ a → ltb high x ≡ b → (a || b) ≡ false → (low ≤ x) × (x ≤ high)
+    go true b p q r = let z : _≡_ {A = ℕ} 0 1 = cc in absurd (omega arith)
+    go false true p q r = let z : _≡_ {A = ℕ} 0 1 = cc in absurd (omega arith)
+    go false false p q r = (ltb-false x low p, ltb-false high x q)
+
+pub not-outside : (low high x : ℕ) → low ≤ x → x ≤ high → outside low high x ≡ false
+not-outside low high x l h = rw (le-ltb x low l, le-ltb high x h)
+
+not-five : (m c : ℕ) → (eqb m 1 && eqb c 5) ≡ false → m ≡ 1 → c ≡ 5 → ⊥
+not-five m c e em ec =
+    let z : true ≡ false = rw (eq-eqb m 1 em, eq-eqb c 5 ec) at e in
+    let y : _≡_ {A = ℕ} 0 1 = cc in
+    omega arith
+
+pub accepted : (s : Settings) → settingsRefusal s ≡ 0 → Accepted s
+unfolding settingsRefusal cellRefusal modeRefusal blocksRefusal
+accepted s e =
+    let a = neither (cellRefusal s) (orElse (modeRefusal s) (blocksRefusal s)) e in
+    let b = neither (modeRefusal s) (blocksRefusal s) (a .1) in
+    let config = unmet (ltb 6 (s .config)) 0 (cond (outside 6 110 (s .nrb)) 2 (cond (ltb 2047 (s .n1)) 3 0)) (a .0) in
+    let nrb = unmet (outside 6 110 (s .nrb)) 1 (cond (ltb 2047 (s .n1)) 3 0) (config .1) in
+    let n1 = unmet (ltb 2047 (s .n1)) 2 0 (nrb .1) in
+    let mode = unmet (ltb 1 (s .mode)) 3 (cond (eqb (s .mode) 1 && eqb (s .config) 5) 5 0) (b .0) in
+    let five = unmet (eqb (s .mode) 1 && eqb (s .config) 5) 4 0 (mode .1) in
+    let blocks = unmet (outside 1 2 (s .blocks)) 5 0 (b .1) in
+    record {
+      config = ltb-false 6 (s .config) (config .0);
+      nrbLeast = between 6 110 (s .nrb) (nrb .0) .0;
+      nrbMost = between 6 110 (s .nrb) (nrb .0) .1;
+      n1 = ltb-false 2047 (s .n1) (n1 .0);
+      mode = ltb-false 1 (s .mode) (mode .0);
+      noFive = not-five (s .mode) (s .config) (five .0);
+      blocksLeast = between 1 2 (s .blocks) (blocks .0) .0;
+      blocksMost = between 1 2 (s .blocks) (blocks .0) .1;
+    }
+
+five-unmet : (m c : ℕ) → (m ≡ 1 → c ≡ 5 → ⊥) → (eqb m 1 && eqb c 5) ≡ false
+five-unmet m c h = elim (ℕ-discrete m 1) [ yes e ↦ rw (eq-eqb m 1 e, ne-eqb c 5 (h e)) | no e ↦ rw (ne-eqb m 1 e) ]
+
+pub accepting : (s : Settings) → Accepted s → settingsRefusal s ≡ 0
+unfolding settingsRefusal cellRefusal modeRefusal blocksRefusal
+accepting s a =
+    rw (
+      le-ltb 6 (s .config) (a .config),
+      not-outside 6 110 (s .nrb) (a .nrbLeast) (a .nrbMost),
+      le-ltb 2047 (s .n1) (a .n1),
+      le-ltb 1 (s .mode) (a .mode),
+      five-unmet (s .mode) (s .config) (a .noFive),
+      not-outside 1 2 (s .blocks) (a .blocksLeast) (a .blocksMost),
+    )
+
+-- Where 1 to 7 are not met, the settings are accepted and n has a window.
+pub answered : (s : Settings) (n : ℕ) → windowRefusal s n ≡ 0 → Accepted s × (0 < length (windowOf (s .config) n))
+unfolding windowRefusal noWindowRefusal
+answered s n e =
+    let size : ℕ = length (windowOf (s .config) n) in
+    let a = neither (settingsRefusal s) (cond (eqb size 0) 7 0) e in
+    let some = eqb-false size 0 (unmet (eqb size 0) 6 0 (a .1) .0) in
+    (accepted s (a .0), omega arith)

@@ -1,0 +1,3 @@
+pub mod Adding
+pub mod Answers
+pub mod Paged

@@ -1,0 +1,57 @@
+-- The two calls from the map and the inverse of their window: 1 to 7 first.
+-- Assumes nothing.
+use Prim.Native.Nat.{ℕ, zero, suc}
+use mathlib.Core.Path.{_≡_, refl, sym, ap, _∙_}
+use native.Mathlib.Omega.{arith}
+use Rattle.frame.specs.declared.Settings.{Settings}
+use Rattle.frame.specs.declared.Window.{Window}
+use Rattle.frame.specs.Coded.{codedWindow}
+use Rattle.frame.specs.Settings.{orElse, windowRefusal}
+use Rattle.frame.specs.Table.{windowOf}
+use Rattle.frame.proofs.Accepted.{answered}
+use Rattle.frame.proofs.Windows.{window-size}
+use Rattle.resource.specs.declared.Mapped.the-variants as mapped
+use Rattle.resource.specs.declared.Inverted.the-variants as inverted
+use Rattle.resource.specs.Calls.{mappedAs, invertedAs, resourceIn, inverseIn, sizeOf, resourceOf, inverseOf}
+use Rattle.resource.specs.Cell.{Cell}
+use Rattle.resource.proofs.OneToOne.{resource-call, inverse-call}
+
+mapped-first : (k w next r : ℕ) → k ≡ w → (k ≡ 0 → ⊥) → mapped.Refused k ≡ mappedAs (orElse w next) r
+mapped-first k zero next r e h = absurd (h e)
+mapped-first k (suc w) next r e h = rw e
+
+inverted-first : (k w next m c : ℕ) → k ≡ w → (k ≡ 0 → ⊥) → inverted.Refused k ≡ invertedAs (orElse w next) m c
+inverted-first k zero next m c e h = absurd (h e)
+inverted-first k (suc w) next m c e h = rw e
+
+module _ (s : Settings) (n : ℕ) where
+  -- 1 to 7
+  pub resource-refused : (k m c : ℕ) → k ≡ windowRefusal s n → (k ≡ 0 → ⊥) → mapped.Refused k ≡ resourceOf s n m c
+  unfolding resourceOf
+  resource-refused k m c e h = mapped-first k (windowRefusal s n) _ _ e h
+
+  pub inverse-refused : (k r : ℕ) → k ≡ windowRefusal s n → (k ≡ 0 → ⊥) → inverted.Refused k ≡ inverseOf s n r
+  unfolding inverseOf
+  inverse-refused k r e h = inverted-first k (windowRefusal s n) _ _ _ e h
+
+  -- the window that was read
+  module _ (k : ℕ) (asked : k ≡ windowRefusal s n) (none : k ≡ 0) (w : Window) (read : w ≡ codedWindow (windowOf (s .config) n)) where
+    size-read : w .size ≡ sizeOf s n
+    size-read = ap (λ (w : Window). w .size) read
+
+    pub cell : Cell (s .nrb) (s .n1) (w .size)
+    cell =
+        let a = answered s n (sym asked ∙ none) in
+        rw size-read
+        (record {
+          nrbMost = a .0 .nrbMost;
+          n1Most = a .0 .n1;
+          sizeLeast = a .1;
+          sizeMost = window-size (s .config) n;
+        })
+
+    pub resource-answered : (m c : ℕ) → resourceIn (s .nrb) (s .n1) (w .size) m c ≡ resourceOf s n m c
+    resource-answered m c = rw size-read (sym (resource-call s n (sym asked ∙ none) m c))
+
+    pub inverse-answered : (r : ℕ) → inverseIn (s .nrb) (s .n1) (w .size) r ≡ inverseOf s n r
+    inverse-answered r = rw size-read (sym (inverse-call s n (sym asked ∙ none) r))

@@ -1,0 +1,4 @@
+pub mod Calls
+pub mod Cell
+pub mod Formula
+pub mod OneToOne

@@ -1,0 +1,143 @@
+// The PUCCH resource of a grant, and the grant's place back from a resource (document 01, "Resources").
+use frame::Settings;
+ghost use mathlib.Core.Path.{_≡_};
+ghost use Prim.Native.Nat.{_<_, _≤_};
+ghost use Rattle.resource.specs.Formula.{edge, regionOf};
+ghost use Rattle.resource.specs.Calls.{resourceIn, inverseIn, resourceOf, inverseOf};
+ghost use Rattle.resource.specs.Cell.{Cell};
+
+// The number of a grant's first CCE. CCEs and PUCCH resources are counted apart: only `resource_of` and `inverse_of` lead from
+// one count to the other.
+#[repr(C)]
+pub struct Cce(u16);
+
+// The number of a PUCCH resource.
+#[repr(C)]
+pub struct Resource(u16);
+
+impl Cce {
+    pub fn new(number: u16) -> Cce
+        ensures { λ r. ⌜ r .0 ≡ number ⌝ }
+    {
+        Cce(number)
+    }
+
+    pub fn number(self) -> u16
+        ensures { λ r. ⌜ r ≡ self .0 ⌝ }
+    {
+        self.0
+    }
+}
+
+impl Resource {
+    pub fn new(number: u16) -> Resource
+        ensures { λ r. ⌜ r .0 ≡ number ⌝ }
+    {
+        Resource(number)
+    }
+
+    pub fn number(self) -> u16
+        ensures { λ r. ⌜ r ≡ self .0 ⌝ }
+    {
+        self.0
+    }
+}
+
+// The answer of the resource call.
+pub enum Mapped {
+    At(Resource),
+    Refused(u16),
+}
+
+// The answer of the inverse: position and first CCE.
+pub enum Inverted {
+    At(u16, Cce),
+    Refused(u16),
+}
+
+// The resource of the grant at position m with first CCE c, in the window of uplink subframe n.
+pub fn resource_of(s: Settings, n: u16, m: u16, c: Cce) -> Mapped
+    ensures { λ r. ⌜ r ≡ resourceOf s n m (c .0) ⌝ }
+{
+    let refusal = frame::window_refusal(s, n);
+    if refusal != 0 {
+        return Mapped::Refused(refusal);
+    }
+    let w = frame::window_of(s.config, n);
+    resource_in(s, w.size, m, c)
+}
+
+// The position and first CCE whose resource this is, in the window of uplink subframe n.
+pub fn inverse_of(s: Settings, n: u16, r: Resource) -> Inverted
+    ensures { λ p. ⌜ p ≡ inverseOf s n (r .0) ⌝ }
+{
+    let refusal = frame::window_refusal(s, n);
+    if refusal != 0 {
+        return Inverted::Refused(refusal);
+    }
+    let w = frame::window_of(s.config, n);
+    inverse_in(s, w.size, r)
+}
+
+// N_p = max(0, floor(N_RB × (12 × p − 4) / 36)), p 0 to 4.
+fn edge_of(nrb: u16, p: u16) -> u16
+    requires { ⌜ (nrb ≤ 110) × (p ≤ 4) ⌝ }
+    ensures { λ r. ⌜ r ≡ edge nrb p ⌝ }
+{
+    if p == 0 {
+        return 0;
+    }
+    nrb * (12 * p - 4) / 36
+}
+
+// The region of a CCE: the search ends with the first region whose upper edge lies above it.
+fn region_of(nrb: u16, c: u16) -> u16
+    requires { ⌜ (nrb ≤ 110) × (c < edge nrb 4) ⌝ }
+    ensures { λ p. ⌜ p ≡ regionOf nrb c ⌝ }
+{
+    let mut p = 0;
+    loop {
+        if c < edge_of(nrb, p + 1) {
+            break p;
+        }
+        p += 1;
+    }
+}
+
+// The formula, in a window of `size` positions: resource = (M − m − 1) × N_p + m × N_(p+1) + c + N1.
+fn resource_in(s: Settings, size: u16, m: u16, cce: Cce) -> Mapped
+    requires { ⌜ Cell (s .nrb) (s .n1) size ⌝ }
+    ensures { λ r. ⌜ r ≡ resourceIn (s .nrb) (s .n1) size m (cce .0) ⌝ }
+{
+    let c = cce.0;
+    if size <= m {
+        return Mapped::Refused(11);
+    }
+    if edge_of(s.nrb, 4) <= c {
+        return Mapped::Refused(11);
+    }
+    let p = region_of(s.nrb, c);
+    let low = edge_of(s.nrb, p);
+    let high = edge_of(s.nrb, p + 1);
+    Mapped::At(Resource((size - m - 1) * low + m * high + c + s.n1))
+}
+
+// The formula back. With t = resource − N1, the region is that of t / M; each position has as many resources there as the region has CCEs.
+fn inverse_in(s: Settings, size: u16, resource: Resource) -> Inverted
+    requires { ⌜ Cell (s .nrb) (s .n1) size ⌝ }
+    ensures { λ r. ⌜ r ≡ inverseIn (s .nrb) (s .n1) size (resource .0) ⌝ }
+{
+    let r = resource.0;
+    if r < s.n1 {
+        return Inverted::Refused(13);
+    }
+    let t = r - s.n1;
+    if size * edge_of(s.nrb, 4) <= t {
+        return Inverted::Refused(13);
+    }
+    let p = region_of(s.nrb, t / size);
+    let low = edge_of(s.nrb, p);
+    let width = edge_of(s.nrb, p + 1) - low;
+    let x = t - size * low;
+    Inverted::At(x / width, Cce(low + x % width))
+}
