@@ -3,6 +3,7 @@ pub mod Below
 pub mod Causes
 pub mod Layouts
 pub mod Lists
+pub mod Padded
 pub mod Rows
 pub mod Times
 pub mod Windows
