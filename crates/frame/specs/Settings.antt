@@ -39,3 +39,7 @@ noWindowRefusal size = cond (eqb size 0) 7 0
 -- A call for one uplink subframe n refuses 1 to 6, then 7.
 unfoldable pub windowRefusal : Settings → ℕ → ℕ
 windowRefusal s n = orElse (settingsRefusal s) (noWindowRefusal (length (windowOf (s .config) n)))
+
+-- 01's bundled reply is used in mode 0, and in mode 1 where M = 1; else the window is multiplexed.
+unfoldable pub bundles : Settings → ℕ → Bool
+bundles s size = eqb (s .mode) 0 || eqb size 1

@@ -2,6 +2,7 @@
 mod refusals;
 mod table;
 
+pub use refusals::is_bundled;
 pub use refusals::settings_refusal;
 pub use refusals::window_refusal;
 pub use table::is_downlink;

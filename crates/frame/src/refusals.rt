@@ -1,8 +1,8 @@
-// Settings and their refusals (document 01, "Settings"; refusals 1 to 7).
+// Settings and their refusals (document 01, "Settings"; refusals 1 to 7), and which reply a window takes.
 use crate::Settings;
 use crate::table::window_of;
 ghost use mathlib.Core.Path.{_≡_};
-ghost use Rattle.frame.specs.Settings.{cellRefusal, modeRefusal, blocksRefusal, settingsRefusal, windowRefusal};
+ghost use Rattle.frame.specs.Settings.{cellRefusal, modeRefusal, blocksRefusal, settingsRefusal, windowRefusal, bundles};
 
 fn cell_refusal(s: Settings) -> u16
     ensures { λ r. ⌜ r ≡ cellRefusal s ⌝ }
@@ -76,4 +76,14 @@ pub fn window_refusal(s: Settings, n: u16) -> u16
         return 7;
     }
     0
+}
+
+// A window of `size` positions is answered by the bundled reply; else it is multiplexed.
+pub fn is_bundled(s: Settings, size: u16) -> bool
+    ensures { λ r. ⌜ r ≡ bundles s size ⌝ }
+{
+    if s.mode == 0 {
+        return true;
+    }
+    size == 1
 }

@@ -1,3 +1,4 @@
 pub mod Fold
 pub mod Heard
 pub mod Memory
+pub mod Replies

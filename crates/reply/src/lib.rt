@@ -4,6 +4,7 @@ mod fold;
 pub use fold::seen_in;
 use frame::Settings;
 use resource::Cce;
+use resource::Resource;
 ghost use mathlib.Core.Bool.{cond};
 ghost use mathlib.Core.Path.{_≡_};
 ghost use Prim.Native.Nat.{_<_, _≤_};
@@ -48,6 +49,23 @@ pub struct Slot {
     pub cce: u8,
     pub dai: u8,
     pub results: u8,
+}
+
+// A reply: its kind, 1 bundled or 2 multiplexed, its PUCCH resource and its two bits, the second 0 in a one-bit reply.
+pub struct Reply {
+    pub kind: u16,
+    pub resource: Resource,
+    pub b0: u16,
+    pub b1: u16,
+}
+
+// What a feed is answered (document 01, "The running handset").
+pub enum Answer {
+    Taken,
+    NoWindow,
+    Silent,
+    Sent(Reply),
+    Refused(u16),
 }
 
 // What the fold over a window finds: U, V, the position and first CCE of the last heard grant, and each block's AND.

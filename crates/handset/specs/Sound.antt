@@ -1,0 +1,31 @@
+-- Refusal 8: lent state fails 1 to 6, expects a subframe over 9, or remembers a grant failing 9 to 12 in the subframe it was fed in.
+-- Assumes nothing.
+use Prim.Native.Nat.{ℕ, _+_, _%_}
+use mathlib.Core.Bool.{Bool, true, cond, _&&_}
+use mathlib.Core.List.{List, [], _∷_}
+use lib.Dec.{eqb, leb}
+use Rattle.frame.specs.declared.Settings.{Settings}
+use Rattle.frame.specs.Settings.{settingsRefusal}
+use Rattle.reply.specs.declared.Slot.{Slot}
+use Rattle.reply.specs.Heard.{heardRefusal}
+use Rattle.reply.specs.Memory.{heardIn}
+use Rattle.handset.specs.declared.Handset.{Handset}
+
+-- A remembered subframe is of a kind that there is, and what it heard is valid in subframe n.
+unfoldable pub slotSound : Settings → ℕ → Slot → Bool
+slotSound s n t = leb (t .kind) 1 && eqb (heardRefusal s n (heardIn t)) 0
+
+-- The subframe before n; before 0 comes 9.
+abbrev pub previous : ℕ → ℕ
+previous n = (n + 9) % 10
+
+-- The newest slot was fed in the subframe before n, the next one in the subframe before that, and so on.
+unfoldable pub allSound : Settings → ℕ → List Slot → Bool
+allSound s n [] = true
+allSound s n (t ∷ ts) = slotSound s (previous n) t && allSound s (previous n) ts
+
+unfoldable pub stateSound : Handset → Bool
+stateSound h = eqb (settingsRefusal (h .settings)) 0 && leb (h .next) 9 && allSound (h .settings) (h .next) (h .past)
+
+unfoldable pub stateRefusal : Handset → ℕ
+stateRefusal h = cond (stateSound h) 0 8

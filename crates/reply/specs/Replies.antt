@@ -1,0 +1,80 @@
+-- The reply of a window: document 01, "The bundled reply" and "The multiplexed reply". Over any settings, whose mode is the window's.
+-- Assumes nothing.
+use Prim.Native.Nat.{ℕ, _+_, _-_, _%_}
+use mathlib.Core.Bool.{Bool, cond, not, _&&_}
+use mathlib.Core.List.{List, map}
+use lib.Dec.{eqb}
+use lib.ListN.{length, getD}
+use Rattle.frame.specs.declared.Settings.{Settings}
+use Rattle.frame.specs.Settings.{bundles}
+use Rattle.frame.specs.Table.{windowOf}
+use Rattle.resource.specs.declared.Mapped.{Mapped}
+use Rattle.resource.specs.declared.Mapped.the-variants as mapped
+use Rattle.resource.specs.Calls.{resourceOf}
+use Rattle.symbols.specs.declared.State.{State}
+use Rattle.symbols.specs.declared.State.the-variants.{Ack, Nack, Dtx}
+use Rattle.symbols.specs.declared.Symbol.{Symbol}
+use Rattle.symbols.specs.declared.Symbol.the-variants as symbol
+use Rattle.symbols.specs.Selection.{symbolOf}
+use Rattle.reply.specs.declared.Answer.{Answer}
+use Rattle.reply.specs.declared.Answer.the-variants.{Taken, NoWindow, Silent, Sent, Refused}
+use Rattle.reply.specs.declared.Seen.{Seen}
+use Rattle.reply.specs.declared.View.{View}
+use Rattle.reply.specs.declared.View.the-variants.{Silence, Signalled}
+use Rattle.reply.specs.Fold.{seenOf}
+use Rattle.reply.specs.Memory.{bit}
+
+-- A reply of a kind, 1 bundled or 2 multiplexed, with two bits, on the resource that the map gives. The one place that makes a
+-- reply. A valid grant has a resource; without one nothing is sent.
+unfoldable pub replyOn : ℕ → Mapped → ℕ → ℕ → Answer
+replyOn kind (mapped.At r) b0 b1 = Sent (record { kind = kind; resource = r; b0 = b0; b1 = b1 })
+replyOn kind (mapped.Refused k) b0 b1 = Silent
+
+-- The DAI that the last of U grants has where none was missed: ((U − 1) mod 4) + 1.
+unfoldable pub expected : ℕ → ℕ
+expected u = (u - 1) % 4 + 1
+
+-- A miss is shown: configurations 1 to 6 with V unequal to the expected value. Configuration 0 doesn't read the DAI.
+unfoldable pub missShown : Settings → Seen → Bool
+missShown s seen = not (eqb (s .config) 0) && not (eqb (seen .v) (expected (seen .u)))
+
+-- Two bits (1b) for blocks 2, one (1a) for blocks 1, whose second is 0.
+unfoldable pub secondBit : Settings → Seen → ℕ
+secondBit s seen = cond (eqb (s .blocks) 2) (bit (seen .second)) 0
+
+-- The bundled reply: silent where U = 0 or a miss is shown; else each block's bit is 1 (ACK) if every heard grant decoded it, on
+-- the resource of the last heard grant.
+unfoldable pub bundledAnswer : Settings → ℕ → Seen → Answer
+bundledAnswer s n seen =
+    cond (eqb (seen .u) 0) Silent
+    (cond (missShown s seen) Silent
+    (replyOn 1 (resourceOf s n (seen .position) (seen .cce .0)) (bit (seen .first)) (secondBit s seen)))
+
+-- State of a position: A if heard with every carried block decoded, N if heard otherwise, D if unheard.
+unfoldable pub stateOf : View → State
+stateOf Silence = Dtx
+stateOf (Signalled g) = cond (g .first && g .second) Ack Nack
+
+-- The first CCE of a heard grant.
+unfoldable pub cceOf : View → ℕ
+cceOf Silence = 0
+cceOf (Signalled g) = g .cce .0
+
+-- The state of a window: the states of its positions, in the order of K as printed.
+unfoldable pub windowState : (ℕ → View) → List ℕ → List State
+windowState view ks = map (λ (k : ℕ). stateOf (view k)) ks
+
+-- The symbol is sent on the resource of position i, its index.
+unfoldable pub symbolAnswer : Settings → ℕ → (ℕ → View) → List ℕ → Symbol → Answer
+symbolAnswer s n view ks (symbol.Sent i b0 b1) = replyOn 2 (resourceOf s n i (cceOf (view (getD ks i 0)))) b0 b1
+symbolAnswer s n view ks symbol.Silent = Silent
+
+unfoldable pub multiplexedAnswer : Settings → ℕ → (ℕ → View) → List ℕ → Answer
+multiplexedAnswer s n view ks = symbolAnswer s n view ks (symbolOf (windowState view ks))
+
+-- The answer of uplink subframe n, where k ago stood what `view` says.
+unfoldable pub windowAnswer : Settings → ℕ → (ℕ → View) → Answer
+windowAnswer s n view =
+    let ks : List ℕ = windowOf (s .config) n in
+    cond (eqb (length ks) 0) NoWindow
+    (cond (bundles s (length ks)) (bundledAnswer s n (seenOf view ks)) (multiplexedAnswer s n view ks))

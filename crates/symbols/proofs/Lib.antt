@@ -1,0 +1,5 @@
+pub mod Codes
+pub mod Reading
+pub mod Rows
+pub mod States
+pub mod Tables
