@@ -1,6 +1,8 @@
-//! Holds the engine to the model, and counts what was compared.
+//! Holds the engine to the model, and counts what was compared. The plain
+//! implementation is held to the model on the way.
 
 use crate::model::Model;
+use crate::plain::{plain_inverse, plain_resource};
 use crate::{inverse, resource, Settings};
 
 /// The number of windows in the table.
@@ -33,10 +35,11 @@ impl<'a> Comparison<'a> {
     pub fn resource(&mut self, settings: Settings, n: u16, position: u16, cce: u16) {
         let due = self.model.resource(settings, n, position, cce);
         let given = resource(settings, n, position, cce);
+        let plain = plain_resource(settings, n, position, cce);
         assert!(
-            given == due,
-            "feedback_resource({settings:?}, n {n}, position {position}, cce {cce}): \
-             the engine gives {given:?}, the model {due:?}"
+            given == due && plain == due,
+            "feedback_resource({settings:?}, n {n}, position {position}, cce {cce}): the engine \
+             gives {given:?}, the model {due:?}, the plain implementation {plain:?}"
         );
         self.counts[usize::from(due.refusal)] += 1;
     }
@@ -44,10 +47,11 @@ impl<'a> Comparison<'a> {
     pub fn inverse(&mut self, settings: Settings, n: u16, resource: u16) {
         let due = self.model.inverse(settings, n, resource);
         let given = inverse(settings, n, resource);
+        let plain = plain_inverse(settings, n, resource);
         assert!(
-            given == due,
-            "feedback_inverse({settings:?}, n {n}, resource {resource}): \
-             the engine gives {given:?}, the model {due:?}"
+            given == due && plain == due,
+            "feedback_inverse({settings:?}, n {n}, resource {resource}): the engine gives \
+             {given:?}, the model {due:?}, the plain implementation {plain:?}"
         );
         self.counts[usize::from(due.refusal)] += 1;
     }

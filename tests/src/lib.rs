@@ -52,20 +52,12 @@ impl ResourceAnswer {
 impl InverseAnswer {
     pub fn refused(refusal: u16) -> Self {
         let (position, cce) = (0, 0);
-        Self {
-            refusal,
-            position,
-            cce,
-        }
+        Self { refusal, position, cce }
     }
 
     pub fn of(position: u16, cce: u16) -> Self {
         let refusal = 0;
-        Self {
-            refusal,
-            position,
-            cce,
-        }
+        Self { refusal, position, cce }
     }
 }
 

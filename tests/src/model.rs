@@ -70,13 +70,7 @@ impl Model {
         &self.windows
     }
 
-    pub fn resource(
-        &self,
-        settings: Settings,
-        n: u16,
-        position: u16,
-        cce: u16,
-    ) -> ResourceAnswer {
+    pub fn resource(&self, settings: Settings, n: u16, position: u16, cce: u16) -> ResourceAnswer {
         match self.layout(settings, n) {
             Err(refusal) => ResourceAnswer::refused(refusal),
             Ok(layout) => match layout.place_of(position, cce) {
@@ -107,9 +101,7 @@ impl Model {
     }
 
     fn window(&self, config: u16, n: u16) -> Option<&Window> {
-        self.windows
-            .iter()
-            .find(|window| window.config == config && window.n == n)
+        self.windows.iter().find(|window| window.config == config && window.n == n)
     }
 }
 
@@ -155,13 +147,7 @@ pub fn frame(config: u16) -> &'static str {
 
 /// The lowest number among the causes that the settings meet.
 fn settings_refusal(settings: Settings) -> Option<u16> {
-    let Settings {
-        config,
-        nrb,
-        n1,
-        mode,
-        blocks,
-    } = settings;
+    let Settings { config, nrb, n1, mode, blocks } = settings;
     let causes = [
         (1, config > 6),
         (2, !NRB.contains(&nrb)),
@@ -182,11 +168,7 @@ fn windows_of(config: u16) -> Vec<Window> {
 
 fn window(config: u16, text: &str) -> Window {
     let (n, k) = text.split_once(':').expect("n, then a colon, then K");
-    Window {
-        config,
-        n: number(n),
-        k: k.split(',').map(number).collect(),
-    }
+    Window { config, n: number(n), k: k.split(',').map(number).collect() }
 }
 
 fn number(text: &str) -> u16 {

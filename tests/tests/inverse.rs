@@ -19,13 +19,7 @@ fn every_resource_of_every_window() {
             for n1 in N1 {
                 for (mode, blocks) in MODE_AND_BLOCKS {
                     let config = window.config;
-                    let settings = Settings {
-                        config,
-                        nrb,
-                        n1,
-                        mode,
-                        blocks,
-                    };
+                    let settings = Settings { config, nrb, n1, mode, blocks };
                     let past_last = n1 + window.size() * edge(nrb, 4);
                     for resource in (0..=past_last + 3).chain([32767, 65535]) {
                         comparison.inverse(settings, window.n, resource);
@@ -53,13 +47,7 @@ fn every_subframe_and_bandwidth() {
             for nrb in (0..=255).chain([1000, 65535]) {
                 for n1 in [0, 2047] {
                     let (mode, blocks) = (0, 1);
-                    let settings = Settings {
-                        config,
-                        nrb,
-                        n1,
-                        mode,
-                        blocks,
-                    };
+                    let settings = Settings { config, nrb, n1, mode, blocks };
                     for resource in [0, 6, 1205, 1206, 2046, 2047, 2053, 3252, 3253, 65535] {
                         comparison.inverse(settings, n, resource);
                     }
@@ -83,13 +71,7 @@ fn every_number_as_each_argument() {
         for nrb in [6, 50, 110] {
             let config = window.config;
             let (n1, mode, blocks) = (10, 0, 2);
-            let settings = Settings {
-                config,
-                nrb,
-                n1,
-                mode,
-                blocks,
-            };
+            let settings = Settings { config, nrb, n1, mode, blocks };
             for any in 0..=65535 {
                 comparison.inverse(settings, any, n1);
                 comparison.inverse(settings, window.n, any);

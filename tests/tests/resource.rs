@@ -22,13 +22,7 @@ fn every_pair_of_every_window() {
             for n1 in N1 {
                 for (mode, blocks) in MODE_AND_BLOCKS {
                     let config = window.config;
-                    let settings = Settings {
-                        config,
-                        nrb,
-                        n1,
-                        mode,
-                        blocks,
-                    };
+                    let settings = Settings { config, nrb, n1, mode, blocks };
                     for position in (0..=window.size() + 1).chain(FAR) {
                         for cce in (0..=edge(nrb, 4) + 2).chain(FAR) {
                             comparison.resource(settings, window.n, position, cce);
@@ -55,13 +49,7 @@ fn every_subframe_and_bandwidth() {
             for nrb in (0..=255).chain([1000, 65535]) {
                 for n1 in [0, 2047] {
                     let (mode, blocks) = (0, 1);
-                    let settings = Settings {
-                        config,
-                        nrb,
-                        n1,
-                        mode,
-                        blocks,
-                    };
+                    let settings = Settings { config, nrb, n1, mode, blocks };
                     for position in [0, 1, 8, 9, 65535] {
                         for cce in [0, 5, 6, 133, 134, 65535] {
                             comparison.resource(settings, n, position, cce);
@@ -72,9 +60,9 @@ fn every_subframe_and_bandwidth() {
         }
     }
     // CCEs 0, 5 and 6 are below N_4 at every bandwidth, 133 at 110 (N_4 = 134)
-    // alone. Position 0 is in all 21 windows, 1 in the nine that are longer than
+    // alone. Position 0 is in all 21 windows, 1 in the ten that are longer than
     // one subframe, and 8 in that of configuration 5.
-    let pairs = (21 + 9 + 1) * (3 * BANDWIDTHS + 1);
+    let pairs = (21 + 10 + 1) * (3 * BANDWIDTHS + 1);
     comparison.finish(10 * 259 * 258 * 2 * 5 * 6, pairs * 2);
 }
 
@@ -87,13 +75,7 @@ fn every_number_as_each_argument() {
         for nrb in [6, 50, 110] {
             let config = window.config;
             let (n1, mode, blocks) = (10, 0, 2);
-            let settings = Settings {
-                config,
-                nrb,
-                n1,
-                mode,
-                blocks,
-            };
+            let settings = Settings { config, nrb, n1, mode, blocks };
             for any in 0..=65535 {
                 comparison.resource(settings, any, 0, 0);
                 comparison.resource(settings, window.n, any, 0);

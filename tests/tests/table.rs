@@ -1,10 +1,9 @@
-//! The model by itself: its table, its edges, and the plain implementation
-//! beside it. What the engine is held to is held to the papers here.
+//! The model by itself: its table and its edges. What the engine is held to is
+//! held to the papers here.
 
 use feedback_tests::compare::{BANDWIDTHS, CCES, POSITIONS, WINDOWS};
 use feedback_tests::model::{edge, frame, Model, Window, NRB};
-use feedback_tests::plain::{self, plain_inverse, plain_resource};
-use feedback_tests::Settings;
+use feedback_tests::plain;
 
 const TABLE: &str = include_str!("../data/table-10.1-1.csv");
 
@@ -14,11 +13,18 @@ fn printed(line: &str) -> Window {
     Window {
         config: field().parse().expect("a configuration"),
         n: field().parse().expect("a subframe"),
-        k: field()
-            .split(' ')
-            .map(|k| k.parse().expect("a k"))
-            .collect(),
+        k: field().split(' ').map(|k| k.parse().expect("a k")).collect(),
     }
+}
+
+/// The model has these windows, in this order, and no others.
+fn assert_same_windows(windows: &[Window]) {
+    let model = Model::new();
+    for (models, window) in model.windows().iter().zip(windows) {
+        assert_eq!(models, window);
+    }
+    assert_eq!(model.windows().len() as u64, WINDOWS);
+    assert_eq!(windows.len() as u64, WINDOWS);
 }
 
 #[test]
@@ -26,8 +32,7 @@ fn windows_are_those_of_the_printed_table() {
     let (heading, rows) = TABLE.split_once('\n').expect("a heading");
     assert_eq!(heading, "configuration,n,K");
     let windows: Vec<Window> = rows.lines().map(printed).collect();
-    assert_eq!(windows.len() as u64, WINDOWS);
-    assert_eq!(Model::new().windows(), windows);
+    assert_same_windows(&windows);
 }
 
 #[test]
@@ -73,79 +78,5 @@ fn plain_table_is_the_models() {
             });
         }
     }
-    assert_eq!(Model::new().windows(), windows);
-}
-
-/// The settings for the comparison of plain and model: allowed ones, and one
-/// more for each refusal.
-fn settings_beside_each_refusal(config: u16, nrb: u16) -> [Settings; 8] {
-    let good = Settings {
-        config,
-        nrb,
-        n1: 10,
-        mode: 0,
-        blocks: 1,
-    };
-    let n1 = 2048;
-    let mode = 2;
-    [
-        good,
-        Settings { n1: 2047, ..good },
-        Settings { mode: 1, ..good },
-        Settings { blocks: 2, ..good },
-        Settings { n1, ..good },
-        Settings { mode, ..good },
-        Settings { blocks: 0, ..good },
-        Settings { blocks: 3, ..good },
-    ]
-}
-
-#[test]
-fn plain_gives_the_models_answers() {
-    let model = Model::new();
-    let mut compared = 0u64;
-    for config in 0..=7 {
-        for nrb in 5..=111 {
-            for settings in settings_beside_each_refusal(config, nrb) {
-                for n in 0..=10 {
-                    compared += plain_resources_agree(&model, settings, n);
-                    compared += plain_inverses_agree(&model, settings, n);
-                }
-            }
-        }
-    }
-    println!("{compared} compared");
-    assert_eq!(compared, 8 * 107 * 8 * 11 * (PLAIN_PAIRS + PLAIN_RESOURCES));
-}
-
-const PLAIN_PAIRS: u64 = 11 * 137;
-const PLAIN_RESOURCES: u64 = 12 + 1218 + 1;
-
-fn plain_resources_agree(model: &Model, settings: Settings, n: u16) -> u64 {
-    let mut compared = 0;
-    for position in 0..=10 {
-        for cce in (0..=135).chain([u16::MAX]) {
-            let (plain, due) = (
-                plain_resource(settings, n, position, cce),
-                model.resource(settings, n, position, cce),
-            );
-            assert_eq!(plain, due, "{settings:?} {n} {position} {cce}");
-            compared += 1;
-        }
-    }
-    compared
-}
-
-fn plain_inverses_agree(model: &Model, settings: Settings, n: u16) -> u64 {
-    let mut compared = 0;
-    let reach = settings.n1..settings.n1 + 1218;
-    for resource in (0..12).chain(reach).chain([u16::MAX]) {
-        let (plain, due) = (
-            plain_inverse(settings, n, resource),
-            model.inverse(settings, n, resource),
-        );
-        assert_eq!(plain, due, "{settings:?} {n} {resource}");
-        compared += 1;
-    }
-    compared
+    assert_same_windows(&windows);
 }

@@ -8,7 +8,7 @@ use native.Mathlib.Omega.{arith}
 use lib.Dec.{ltb, leb}
 use borrow.Author.Tests.{lt-ltb, le-leb, ltb-true}
 use Rattle.frame.specs.declared.Settings.{Settings}
-use Rattle.frame.specs.Settings.{windowRefusal}
+use Rattle.frame.specs.Settings.{orElse, windowRefusal}
 use Rattle.resource.specs.declared.Cce.{Cce}
 use Rattle.resource.specs.declared.Resource.{Resource}
 use Rattle.resource.specs.declared.Mapped.{Mapped}
@@ -166,3 +166,19 @@ pub calls-one-to-one : (s : Settings) (n : ℕ) → windowRefusal s n ≡ 0
 calls-one-to-one s n e =
     rw (fun-ext (λ m. fun-ext (resource-call s n e m)), fun-ext (inverse-call s n e))
     (one-to-one (s .nrb) (s .n1) (sizeOf s n))
+
+-- A call that gives a resource was not refused.
+not-refused : (w next r : ℕ) (x : Resource) → mappedAs (orElse w next) r ≡ mapped.At x → w ≡ 0
+not-refused zero next r x e = refl
+not-refused (suc w) next r x e = let z : _≡_ {A = ℕ} 0 1 = cc in absurd (omega arith)
+
+pub call-accepted : (s : Settings) (n m c : ℕ) (x : Resource) → resourceOf s n m c ≡ mapped.At x → windowRefusal s n ≡ 0
+unfolding resourceOf
+call-accepted s n m c x e = not-refused (windowRefusal s n) _ _ x e
+
+-- The inverse gives back the pair whose resource the call gave.
+pub call-back : (s : Settings) (n m c r : ℕ) → resourceOf s n m c ≡ mapped.At (record { 0 = r }) → inverseOf s n r ≡ inverted.At m (record { 0 = c })
+call-back s n m c r e =
+    let good : windowRefusal s n ≡ 0 = call-accepted s n m c (record { 0 = r }) e in
+    let f = mapped-in (s .nrb) (s .n1) (sizeOf s n) m c r (sym (resource-call s n good m c) ∙ e) in
+    inverse-call s n good r ∙ rw (f .2) at (paired (s .nrb) (s .n1) (sizeOf s n) m c (f .0) (f .1) .back)

@@ -2,6 +2,8 @@
 -- Assumes nothing.
 use Prim.Native.Nat.{ℕ}
 use mathlib.Core.Bool.{Bool, cond, _&&_, _||_}
+use mathlib.Core.Logic.{_⊎_}
+use mathlib.Core.Path.{_≡_}
 use lib.Dec.{ltb, eqb}
 use Rattle.frame.specs.declared.Settings.{Settings}
 use Rattle.frame.specs.Settings.{bundles}
@@ -41,3 +43,13 @@ readInverted s size (inverted.Refused k) b0 b1 = Refused k
 -- The reading inverts the resource to position and first CCE: 1 to 7, then 13, then 14.
 unfoldable pub readOf : Settings → ℕ → ℕ → ℕ → ℕ → Reading
 readOf s n r b0 b1 = readInverted s (sizeOf s n) (inverseOf s n r) b0 b1
+
+-- The pair that a reading names.
+abbrev pub placeIn : Reading → Inverted
+placeIn (Bundled m c b0 b1) = inverted.At m c
+placeIn (Multiplexed m c positions) = inverted.At m c
+placeIn (Refused k) = inverted.Refused k
+
+-- "the station's reading, given bits it doesn't refuse, gives the pair back" (document 00, demand 3).
+abbrev pub GivesBack : ℕ → ℕ → Reading → Type 0
+GivesBack m c reading = (reading ≡ Refused 14) ⊎ (placeIn reading ≡ inverted.At m (record { 0 = c }))

@@ -1,39 +1,51 @@
+-- `station::read` meets its contract: the reading of what the inverse gives. Assumes nothing.
+use Prim.Native.Nat.{ℕ}
+use mathlib.Core.Path.{_≡_, sym, ap, _∙_}
 use borrow.Author.Needs.{needs}
+use Rattle.frame.specs.declared.Settings.{Settings}
+use Rattle.frame.specs.declared.Window.{Window}
+use Rattle.frame.specs.Coded.{codedWindow}
+use Rattle.frame.specs.Table.{windowOf}
+use Rattle.resource.specs.declared.Cce.{Cce}
+use Rattle.resource.specs.declared.Inverted.{Inverted}
+use Rattle.resource.specs.declared.Inverted.the-variants as inverted
+use Rattle.resource.specs.Calls.{sizeOf, inverseOf}
+use Rattle.station.specs.Readings.{readInverted, readAt, readOf}
 use Rattle.station.proofs.read.Statement.{statement}
 use Rattle.station.proofs.read.Tie as tie
-use Rattle.station.proofs.read.Reads as reads
-use Rattle.station.proofs.read.Lts as lts
-use Rattle.frame.proofs.window_of.Reads as window-of-reads
-use Rattle.resource.proofs.inverse_of.Reads as inverse-of-reads
-use Rattle.station.proofs.read_at.Reads as read-at-reads
 
--- src/lib.rt:53:11
+module _ (s : Settings) (n r b0 b1 : ℕ) (i : Inverted) (asked : i ≡ inverseOf s n r) where
+  said : (j : Inverted) → i ≡ j → readInverted s (sizeOf s n) j b0 b1 ≡ readOf s n r b0 b1
+  unfolding readOf
+  said j same = rw (sym same ∙ asked)
+
+  given : (m : ℕ) (c : Cce) → i ≡ inverted.At m c → (w : Window) → w ≡ codedWindow (windowOf (s .config) n)
+      → readAt s (w .size) m c b0 b1 ≡ readOf s n r b0 b1
+  given m c same w read = ap (λ (w : Window). readAt s (w .size) m c b0 b1) read ∙ said (inverted.At m c) same
+
 inverse-of-requires : tie.Need-inverse-of-requires
 inverse-of-requires c κs = search needs
 
--- src/lib.rt:54:27
 enum-known-k : tie.Need-enum-known-k
 enum-known-k c = search needs
 
--- src/lib.rt:55:22
 enum-known-m : tie.Need-enum-known-m
 enum-known-m c = search needs
 
--- src/lib.rt:56:17
 window-of-requires : tie.Need-window-of-requires
 window-of-requires c κs = search needs
 
--- src/lib.rt:57:13
 read-at-requires : tie.Need-read-at-requires
 read-at-requires c κs = search needs
 
--- src/lib.rt:50:1
 returns : tie.Need-returns
-returns c = ?
+returns c = said _ _ _ _ _ _ (c .before .before .before .inverse-of .ensures) _ (c .before .k .given .1)
 
--- src/lib.rt:50:1
 returns-2 : tie.Need-returns-2
-returns-2 c = ?
+returns-2 c =
+    c .read-at .ensures
+    ∙ given _ _ _ _ _ _ (c .before .before .before .before .before .inverse-of .ensures) _ _ (c .before .before .before .m .given .1) _
+    (c .before .window-of .ensures)
 
 pub read-spec : {M : Type 1} → statement M
 read-spec =

@@ -1,43 +1,55 @@
+-- `station::read_at` meets its contract: bundled, or by what the symbol delivers. Assumes nothing.
+use Prim.Native.Nat.{ℕ}
+use mathlib.Core.Bool.{Bool, true, false}
+use mathlib.Core.Path.{_≡_, sym, _∙_}
 use borrow.Author.Needs.{needs}
+use Rattle.frame.specs.declared.Settings.{Settings}
+use Rattle.frame.specs.Settings.{bundles}
+use Rattle.resource.specs.declared.Cce.{Cce}
+use Rattle.symbols.specs.declared.Delivery.{Delivery}
+use Rattle.symbols.specs.Delivered.{deliveryOf}
+use Rattle.station.specs.Readings.{bundledReading, multiplexedReading, readAt}
 use Rattle.station.proofs.read_at.Statement.{statement}
 use Rattle.station.proofs.read_at.Tie as tie
-use Rattle.station.proofs.read_at.Reads as reads
-use Rattle.station.proofs.read_at.Lts as lts
-use Rattle.frame.proofs.is_bundled.Reads as is-bundled-reads
-use Rattle.station.proofs.read_bundled.Reads as read-bundled-reads
-use Rattle.symbols.proofs.delivered.Reads as delivered-reads
 
--- src/lib.rt:40:8
+module _ (s : Settings) (size m : ℕ) (c : Cce) (b0 b1 : ℕ) (test : Bool) (asked : test ≡ bundles s size) where
+  bundled : test ≡ true → bundledReading s m c b0 b1 ≡ readAt s size m c b0 b1
+  unfolding readAt
+  bundled on = rw (sym asked ∙ on)
+
+  multiplexed : test ≡ false → (d : Delivery) → d ≡ deliveryOf size m b0 b1 → (e : Delivery) → d ≡ e → multiplexedReading m c e ≡ readAt s size m c b0 b1
+  unfolding readAt
+  multiplexed off d told e same = rw (sym asked ∙ off, sym told ∙ same)
+
 is-bundled-requires : tie.Need-is-bundled-requires
 is-bundled-requires c κs = search needs
 
--- src/lib.rt:41:9
 read-bundled-requires : tie.Need-read-bundled-requires
 read-bundled-requires c κs = search needs
 
--- src/lib.rt:41:9
 returns : tie.Need-returns
-returns c = ?
+returns c = c .read-bundled .ensures ∙ bundled _ _ _ _ _ _ _ (c .before .before .is-bundled .ensures) (c .before .if1 .taken)
 
--- src/lib.rt:43:11
 delivered-requires : tie.Need-delivered-requires
 delivered-requires c κs = search needs
 
--- src/lib.rt:44:23
 enum-known-positions : tie.Need-enum-known-positions
 enum-known-positions c = search needs
 
--- src/lib.rt:45:28
 enum-told : tie.Need-enum-told
 enum-told c = search needs
 
--- src/lib.rt:37:1
 returns-2 : tie.Need-returns-2
-returns-2 c = ?
+unfolding multiplexedReading
+returns-2 c =
+    multiplexed _ _ _ _ _ _ _ (c .before .before .before .before .before .is-bundled .ensures) (c .before .before .before .before .if1 .left) _
+    (c .before .before .before .delivered .ensures) _ (c .before .positions .given .1)
 
--- src/lib.rt:37:1
 returns-3 : tie.Need-returns-3
-returns-3 c = ?
+unfolding multiplexedReading
+returns-3 c =
+    multiplexed _ _ _ _ _ _ _ (c .before .before .before .before .is-bundled .ensures) (c .before .before .before .if1 .left) _
+    (c .before .before .delivered .ensures) _ (c .enum-told .given .1)
 
 pub read-at-spec : {M : Type 1} → statement M
 read-at-spec =

@@ -1,0 +1,214 @@
+//! The refusals and their order: each argument at its limits, one past them and
+//! far away, alone, in pairs, and all together.
+
+use feedback_tests::compare::Comparison;
+use feedback_tests::model::Model;
+use feedback_tests::{inverse, resource, InverseAnswer, ResourceAnswer, Settings};
+
+/// The settings' special values: 0, each limit, one past it, 65535, and numbers
+/// that would be allowed if only their low eight bits were read.
+const CONFIG: &[u16] = &[0, 1, 5, 6, 7, 257, 65535];
+const NRB: &[u16] = &[0, 5, 6, 50, 110, 111, 306, 65535];
+const N1: &[u16] = &[0, 10, 2047, 2048, 65535];
+const MODE: &[u16] = &[0, 1, 2, 256, 257, 65535];
+const BLOCKS: &[u16] = &[0, 1, 2, 3, 257, 65535];
+
+/// The special values of the other arguments.
+const N: &[u16] = &[0, 2, 3, 9, 10, 258, 65535];
+const POSITION: &[u16] = &[0, 1, 8, 9, 256, 65535];
+const CCE: &[u16] = &[0, 6, 7, 133, 134, 256, 65535];
+const RESOURCE: &[u16] = &[0, 9, 10, 131, 132, 2046, 2047, 3252, 3253, 32768, 65535];
+
+/// The arguments of each call, in order, by their special values.
+const RESOURCE_CALL: [&[u16]; 8] = [CONFIG, NRB, N1, MODE, BLOCKS, N, POSITION, CCE];
+const INVERSE_CALL: [&[u16]; 7] = [CONFIG, NRB, N1, MODE, BLOCKS, N, RESOURCE];
+
+/// Arguments that are not refused, from which the changes start.
+const RESOURCE_STARTS: [[u16; 8]; 4] = [
+    [1, 50, 10, 0, 1, 2, 1, 60],
+    [5, 110, 2047, 0, 2, 2, 8, 133],
+    [0, 6, 0, 1, 1, 9, 0, 6],
+    [3, 25, 100, 1, 2, 3, 1, 20],
+];
+const INVERSE_STARTS: [[u16; 7]; 4] = [
+    [1, 50, 10, 0, 1, 2, 131],
+    [5, 110, 2047, 0, 2, 2, 3252],
+    [0, 6, 0, 1, 1, 9, 6],
+    [3, 25, 100, 1, 2, 3, 101],
+];
+
+fn compare_resource(comparison: &mut Comparison, arguments: [u16; 8]) {
+    let [config, nrb, n1, mode, blocks, n, position, cce] = arguments;
+    comparison.resource(Settings { config, nrb, n1, mode, blocks }, n, position, cce);
+}
+
+fn compare_inverse(comparison: &mut Comparison, arguments: [u16; 7]) {
+    let [config, nrb, n1, mode, blocks, n, resource] = arguments;
+    comparison.inverse(Settings { config, nrb, n1, mode, blocks }, n, resource);
+}
+
+/// Every change of one argument to every 16-bit number.
+fn alone<const A: usize>(start: [u16; A], mut each: impl FnMut([u16; A])) {
+    for at in 0..A {
+        for value in 0..=65535 {
+            let mut arguments = start;
+            arguments[at] = value;
+            each(arguments);
+        }
+    }
+}
+
+/// Every change of two arguments to special values.
+fn in_pairs<const A: usize>(start: [u16; A], call: [&[u16]; A], mut each: impl FnMut([u16; A])) {
+    for (first, second) in pairs_below(A) {
+        for one in call[first] {
+            for other in call[second] {
+                let mut arguments = start;
+                arguments[first] = *one;
+                arguments[second] = *other;
+                each(arguments);
+            }
+        }
+    }
+}
+
+/// The number of changes that `in_pairs` makes: half of what the square of the
+/// sum has beyond the sum of the squares.
+fn number_of_pairs(call: &[&[u16]]) -> u64 {
+    let sizes = call.iter().map(|values| values.len() as u64);
+    let square = sizes.clone().sum::<u64>().pow(2);
+    (square - sizes.map(|size| size * size).sum::<u64>()) / 2
+}
+
+fn pairs_below(end: usize) -> impl Iterator<Item = (usize, usize)> {
+    (0..end).flat_map(move |first| (first + 1..end).map(move |second| (first, second)))
+}
+
+/// Every way to give all arguments special values: a count in which each
+/// argument is one digit.
+fn all_together<const A: usize>(call: [&[u16]; A], mut each: impl FnMut([u16; A])) {
+    for number in 0..number_of_all(&call) {
+        let mut rest = number as usize;
+        each(call.map(|values| {
+            let digit = rest % values.len();
+            rest /= values.len();
+            values[digit]
+        }));
+    }
+}
+
+fn number_of_all(call: &[&[u16]]) -> u64 {
+    call.iter().map(|values| values.len() as u64).product()
+}
+
+/// Of all ways together, those refused 1 to 6, counted by hand from the lists
+/// above: what is refused n passed n − 1 causes. `others` counts the ways to
+/// give the arguments that are not settings.
+fn assert_settings_refused(comparison: &Comparison, others: u64) {
+    let after_nrb = 5 * 6 * 6 * others;
+    assert_eq!(comparison.refused(1), 3 * 8 * after_nrb);
+    assert_eq!(comparison.refused(2), 4 * 5 * after_nrb);
+    assert_eq!(comparison.refused(3), 4 * 3 * 2 * 6 * 6 * others);
+    assert_eq!(comparison.refused(4), 4 * 3 * 3 * 4 * 6 * others);
+    assert_eq!(comparison.refused(5), 3 * 3 * 6 * others);
+    assert_eq!(comparison.refused(6), 7 * 3 * 3 * 4 * others);
+}
+
+#[test]
+fn resource_with_one_argument_changed() {
+    let model = Model::new();
+    let mut comparison = Comparison::with(&model);
+    for start in RESOURCE_STARTS {
+        alone(start, |arguments| compare_resource(&mut comparison, arguments));
+    }
+    println!("{} compared", comparison.total());
+    assert_eq!(comparison.total(), 4 * 8 * 65536);
+    assert!([0, 1, 2, 3, 4, 5, 6, 7, 11].iter().all(|number| comparison.refused(*number) > 0));
+}
+
+#[test]
+fn inverse_with_one_argument_changed() {
+    let model = Model::new();
+    let mut comparison = Comparison::with(&model);
+    for start in INVERSE_STARTS {
+        alone(start, |arguments| compare_inverse(&mut comparison, arguments));
+    }
+    println!("{} compared", comparison.total());
+    assert_eq!(comparison.total(), 4 * 7 * 65536);
+    assert!([0, 1, 2, 3, 4, 5, 6, 7, 13].iter().all(|number| comparison.refused(*number) > 0));
+}
+
+#[test]
+fn resource_with_two_arguments_changed() {
+    let model = Model::new();
+    let mut comparison = Comparison::with(&model);
+    for start in RESOURCE_STARTS {
+        in_pairs(start, RESOURCE_CALL, |arguments| compare_resource(&mut comparison, arguments));
+    }
+    println!("{} compared", comparison.total());
+    assert_eq!(comparison.total(), 4 * number_of_pairs(&RESOURCE_CALL));
+    assert!([0, 1, 2, 3, 4, 5, 6, 7, 11].iter().all(|number| comparison.refused(*number) > 0));
+}
+
+#[test]
+fn inverse_with_two_arguments_changed() {
+    let model = Model::new();
+    let mut comparison = Comparison::with(&model);
+    for start in INVERSE_STARTS {
+        in_pairs(start, INVERSE_CALL, |arguments| compare_inverse(&mut comparison, arguments));
+    }
+    println!("{} compared", comparison.total());
+    assert_eq!(comparison.total(), 4 * number_of_pairs(&INVERSE_CALL));
+    assert!([0, 1, 2, 3, 4, 5, 6, 7, 13].iter().all(|number| comparison.refused(*number) > 0));
+}
+
+#[test]
+fn resource_with_all_arguments_special() {
+    let model = Model::new();
+    let mut comparison = Comparison::with(&model);
+    all_together(RESOURCE_CALL, |arguments| compare_resource(&mut comparison, arguments));
+    println!("{} compared", comparison.total());
+    assert_eq!(comparison.total(), 7 * 8 * 5 * 6 * 6 * 7 * 6 * 7);
+    assert_settings_refused(&comparison, 7 * 6 * 7);
+}
+
+#[test]
+fn inverse_with_all_arguments_special() {
+    let model = Model::new();
+    let mut comparison = Comparison::with(&model);
+    all_together(INVERSE_CALL, |arguments| compare_inverse(&mut comparison, arguments));
+    println!("{} compared", comparison.total());
+    assert_eq!(comparison.total(), 7 * 8 * 5 * 6 * 6 * 7 * 11);
+    assert_settings_refused(&comparison, 7 * 11);
+}
+
+/// One cause after another is put right, and the next number is answered: the
+/// order, written out by hand.
+#[test]
+fn lowest_number_first() {
+    let steps: [(u16, Settings, u16); 8] = {
+        let all = Settings { config: 7, nrb: 5, n1: 2048, mode: 2, blocks: 0 };
+        let nrb = Settings { config: 5, ..all };
+        let n1 = Settings { nrb: 6, ..nrb };
+        let mode = Settings { n1: 2047, ..n1 };
+        let no_multiplexing = Settings { mode: 1, ..mode };
+        let blocks = Settings { mode: 0, ..no_multiplexing };
+        let none = Settings { blocks: 1, ..blocks };
+        [
+            (1, all, 10),
+            (2, nrb, 10),
+            (3, n1, 10),
+            (4, mode, 10),
+            (5, no_multiplexing, 10),
+            (6, blocks, 10),
+            (7, none, 10),
+            (0, none, 2),
+        ]
+    };
+    for (number, settings, n) in steps {
+        let last = |last| if number == 0 { last } else { number };
+        let (pair, other) = (ResourceAnswer::refused(last(11)), InverseAnswer::refused(last(13)));
+        assert_eq!(resource(settings, n, 9, 7), pair, "{settings:?}, n {n}, position 9, cce 7");
+        assert_eq!(inverse(settings, n, 2046), other, "{settings:?}, n {n}, resource 2046");
+    }
+}
