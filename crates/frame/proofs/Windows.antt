@@ -9,7 +9,7 @@ use mathlib.Core.Path.{_≡_, refl, sym, ap, _∙_, subst₂}
 use native.Mathlib.Decide.{decLt}
 use native.Mathlib.Nat.{zero-lt-suc}
 use native.Mathlib.Omega.{arith}
-use lib.Dec.{T, eqb, leb, lit≤, eqb→eq}
+use lib.Dec.{T, leb→le, eqb, leb, lit≤, eqb→eq}
 use lib.Ieee.Bits.{is-true}
 use lib.Ieee.Fits.{and-l, and-r}
 use lib.ListN.{length, getD, List·getD-eq-default}
@@ -199,3 +199,15 @@ exactly-one c d e =
           let same : s ≡ d + k = sym (w .distance) ∙ ap (λ (x : ℕ). d + x) (distance-only c s m d w) in
           (same, sym (window-position c (s % 10) m (w .position)) ∙ rw (distance-only c s m d w, same));
     }
+
+zero-tested : T (everyRow (λ (c n : ℕ) (ks : List ℕ). leb (length ks) 1 || not (eqb c 0)) table)
+unfolding table
+zero-tested = tt
+
+-- Configuration 0 has windows of one subframe.
+pub zero-windows : (n : ℕ) → length (windowOf 0 n) ≤ 1
+zero-windows n = leb→le _ 1 (only (leb (length (windowOf 0 n)) 1) (window-passes _ zero-tested 0 n tt))
+  where
+    only : (b : Bool) → T (b || false) → T b
+    only true t = tt
+    only false t = t

@@ -1,0 +1,4 @@
+pub mod BundledWindow
+pub mod Entries
+pub mod Exactly
+pub mod Folded

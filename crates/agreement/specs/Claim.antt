@@ -1,0 +1,89 @@
+-- Demand 3, whole, as a claim about an engine: its make, feed, resource, inverse and reading as functions. Document 00, demand 3,
+-- and document 01, "The runs of demand 3", in their sentences' order. proofs/Demand3.antt proves it of the definitions that the
+-- promises of the code are equations with: makeOf (handset::make), feedOf (handset::feed), resourceOf and inverseOf
+-- (resource::resource_of and inverse_of), readOf (station::read).
+-- Assumes nothing.
+use Prim.Native.Nat.{ℕ, _+_, _%_, _<_}
+use mathlib.Core.Bool.{true, false}
+use mathlib.Core.List.{List, [], map}
+use mathlib.Core.Logic.{_⊎_, _↔_}
+use mathlib.Core.Path.{_≡_}
+use lib.ListN.{length, getD}
+use Rattle.frame.specs.declared.Settings.{Settings}
+use Rattle.frame.specs.Layout.{downlink}
+use Rattle.frame.specs.Once.{InExactlyOne}
+use Rattle.frame.specs.Order.{timesOf}
+use Rattle.frame.specs.Settings.{settingsRefusal, windowRefusal}
+use Rattle.frame.specs.Table.{windowOf}
+use Rattle.resource.specs.declared.Inverted.{Inverted}
+use Rattle.resource.specs.declared.Mapped.{Mapped}
+use Rattle.resource.specs.declared.Mapped.the-variants as mapped
+use Rattle.resource.specs.Calls.{sizeOf}
+use Rattle.resource.specs.Formula.{edge, resourceNumber}
+use Rattle.resource.specs.OneToOne.{OneToOne}
+use Rattle.reply.specs.declared.Answer.{Answer}
+use Rattle.reply.specs.declared.Answer.the-variants as answer
+use Rattle.reply.specs.declared.Heard.{Heard}
+use Rattle.reply.specs.declared.Heard.the-variants.{Nothing}
+use Rattle.reply.specs.Heard.{heardRefusal}
+use Rattle.handset.specs.declared.Fed.{Fed}
+use Rattle.handset.specs.declared.Handset.{Handset}
+use Rattle.handset.specs.declared.Made.{Made}
+use Rattle.station.specs.declared.Reading.{Reading}
+use Rattle.station.specs.Readings.{GivesBack}
+use Rattle.agreement.specs.Run.{Item, Send, Turn, turns, heardFrom, subframeAt, sentAgo, heardAgo, Schedule, BringsSent}
+use Rattle.agreement.specs.Window.{Entry, at, Bundled, Multiplexed}
+
+pub record Engine : Type 0 where
+  pub make : Settings → Made
+  pub feed : Handset → Heard → Fed
+  pub resource : Settings → ℕ → ℕ → ℕ → Mapped
+  pub inverse : Settings → ℕ → ℕ → Inverted
+  pub read : Settings → ℕ → ℕ → ℕ → ℕ → Reading
+
+-- The answer at the run's subframe s, which was fed and not refused.
+pub record Answered (e : Engine) (set : Settings) (sent : ℕ → Send) (heard : List Heard) (s : ℕ) (a : Answer) : Type 0 where
+  -- "A downlink subframe is answered "taken","
+  pub taken : downlink (set .config) (s % 10) ≡ true → a ≡ answer.Taken
+  -- "an uplink one without a window "no window", and one with a window "silent" where no reply is sent"
+  pub noWindow : downlink (set .config) (s % 10) ≡ false → windowOf (set .config) (s % 10) ≡ [] → a ≡ answer.NoWindow
+  -- "Take any window whose uplink subframe was fed too. If 01 bundles it": mode 0, or mode 1 where M = 1
+  pub bundled : 0 < length (windowOf (set .config) (s % 10)) → (set .mode ≡ 0) ⊎ (length (windowOf (set .config) (s % 10)) ≡ 1)
+      → Bundled set (e .read set (s % 10)) (windowOf (set .config) (s % 10))
+      (map (λ (k : ℕ). at k (sentAgo sent s k) (heardAgo heard s k)) (timesOf (windowOf (set .config) (s % 10)))) a
+  -- "If 01 multiplexes it": mode 1, and M is not 1
+  pub multiplexed : 0 < length (windowOf (set .config) (s % 10)) → set .mode ≡ 1 → (length (windowOf (set .config) (s % 10)) ≡ 1 → ⊥)
+      → Multiplexed (e .resource set (s % 10)) (e .read set (s % 10)) (windowOf (set .config) (s % 10)) (heardAgo heard s)
+      (map (λ (k : ℕ). at k (sentAgo sent s k) (heardAgo heard s k)) (timesOf (windowOf (set .config) (s % 10)))) a
+
+-- A feed of the run, at the run's next subframe s.
+pub record TurnClaim (e : Engine) (set : Settings) (sent : ℕ → Send) (heard : List Heard) (s : ℕ) (t : Turn) : Type 0 where
+  -- "A feed is refused exactly when a cause for a feed .. is met at the run's next subframe, and 8 never is"
+  pub refusedExactly : ((k : ℕ) × (t .fed .answer ≡ answer.Refused k)) ↔ (heardRefusal set (s % 10) (t .brought) ≡ 0 → ⊥)
+  -- "it then answers its number and leaves the handset"
+  pub refused : (heardRefusal set (s % 10) (t .brought) ≡ 0 → ⊥)
+      → t .fed ≡ record { answer = answer.Refused (heardRefusal set (s % 10) (t .brought)); handset = t .handset }
+  pub accepted : heardRefusal set (s % 10) (t .brought) ≡ 0 → Answered e set sent heard s (t .fed .answer)
+
+pub record Demand3 (e : Engine) : Type 0 where
+  -- "In a window of M downlink subframes, the pairs of position and first CCE map, by 01's formula,"
+  pub byFormula : (set : Settings) (n m c : ℕ) → windowRefusal set n ≡ 0 → m < sizeOf set n → c < edge (set .nrb) 4
+      → e .resource set n m c ≡ mapped.At (record { 0 = resourceNumber (set .nrb) (set .n1) (sizeOf set n) m c })
+  -- "one to one onto the resources N1 to N1 + M × N_4 − 1,"
+  pub oneToOne : (set : Settings) (n : ℕ) → windowRefusal set n ≡ 0
+      → OneToOne (sizeOf set n) (edge (set .nrb) 4) (set .n1) (e .resource set n) (e .inverse set n)
+  -- "and the station's reading, given bits it doesn't refuse, gives the pair back."
+  pub givesBack : (set : Settings) (n m c r b0 b1 : ℕ) → e .resource set n m c ≡ mapped.At (record { 0 = r })
+      → GivesBack m c (e .read set n r b0 b1)
+  -- "Each downlink subframe is in exactly one window."
+  pub exactlyOne : (c d : ℕ) → downlink c (d % 10) ≡ true → InExactlyOne c d
+  -- "from a fresh handset": accepted settings make one
+  pub made : (set : Settings) → settingsRefusal set ≡ 0 → e .make set .refusal ≡ 0
+  -- "For every list of feeds from a fresh handset, refused ones included, whichever valid grants were sent by the DAI rule and
+  -- whichever of them were lost, this holds after it": for each feed of the list, at its subframe of the run
+  pub run : (set : Settings) → settingsRefusal set ≡ 0 → (sent : ℕ → Send) → Schedule set sent
+      → (items : List Item) → BringsSent set sent items
+      → (i : ℕ) → i < length items
+      → TurnClaim e set sent (heardFrom set 0 items) (subframeAt set items i)
+      (getD (turns (e .feed) (e .make set .handset) items) i
+      (record { handset = e .make set .handset; brought = Nothing; fed = e .feed (e .make set .handset) Nothing }))

@@ -1,0 +1,3 @@
+pub mod Claim
+pub mod Run
+pub mod Window

@@ -1,0 +1,136 @@
+-- What demand 3 says of one window whose uplink subframe was fed: document 00, demand 3, and document 01, "The runs of demand 3".
+-- Assumes nothing.
+use Prim.Native.Nat.{ℕ, _+_, _/_, _%_, _^_, _<_, _≤_}
+use mathlib.Core.Bool.{Bool, true, false, cond, _&&_, _||_}
+use mathlib.Core.List.{List, [], _∷_, map}
+use mathlib.Core.Logic.{_⊎_, _↔_}
+use mathlib.Core.Path.{_≡_}
+use lib.Dec.{eqb}
+use lib.ListN.{length, getD}
+use Rattle.frame.specs.declared.Settings.{Settings}
+use Rattle.resource.specs.declared.Mapped.{Mapped}
+use Rattle.resource.specs.declared.Mapped.the-variants as mapped
+use Rattle.reply.specs.declared.Answer.{Answer}
+use Rattle.reply.specs.declared.Answer.the-variants as answer
+use Rattle.reply.specs.declared.Grant.{Grant}
+use Rattle.reply.specs.declared.Heard.{Heard}
+use Rattle.reply.specs.declared.Heard.the-variants.{Nothing, Granted}
+use Rattle.reply.specs.declared.Reply.{Reply}
+use Rattle.station.specs.declared.Reading.{Reading}
+use Rattle.station.specs.declared.Reading.the-variants as reading
+use Rattle.symbols.specs.declared.State.{State}
+use Rattle.symbols.specs.declared.State.the-variants.{Ack, Nack, Dtx}
+use Rattle.symbols.specs.declared.Symbol.the-variants as symbol
+use Rattle.symbols.specs.Selection.{symbolOf}
+use Rattle.agreement.specs.Run.{Send, nothing, grant}
+
+-- A subframe of a window: its k, what was sent there and what was heard.
+pub data Entry : Type 0 where
+  at : (k : ℕ) → (sent : Send) → (heard : Heard) → Entry
+
+abbrev pub isHeard : Heard → Bool
+isHeard Nothing = false
+isHeard (Granted g) = true
+
+-- A grant was heard.
+abbrev pub anyHeard : List Entry → Bool
+anyHeard [] = false
+anyHeard (at k sent heard ∷ es) = isHeard heard || anyHeard es
+
+-- A grant that was sent and not heard.
+abbrev pub isLost : Send → Heard → Bool
+isLost nothing heard = false
+isLost (grant b c d) Nothing = true
+isLost (grant b c d) (Granted g) = false
+
+-- The lost grants before the last heard one, the subframes in time order.
+abbrev pub lostBefore : List Entry → ℕ
+lostBefore [] = 0
+lostBefore (at k sent heard ∷ es) = cond (anyHeard es) (cond (isLost sent heard) 1 0 + lostBefore es) 0
+
+-- The last heard grant, by its k and its first CCE.
+pub data Last : Type 0 where
+  unheard : Last
+  heardAt : (k cce : ℕ) → Last
+
+abbrev pub asLast : ℕ → Heard → Last
+asLast k Nothing = unheard
+asLast k (Granted g) = heardAt k (g .cce .0)
+
+abbrev pub later : Last → Last → Last
+later earlier unheard = earlier
+later earlier (heardAt k c) = heardAt k c
+
+abbrev pub lastHeard : List Entry → Last
+lastHeard [] = unheard
+lastHeard (at k sent heard ∷ es) = later (asLast k heard) (lastHeard es)
+
+-- A grant decoded a block; a one-block grant stands for both blocks.
+abbrev pub decodedFirst : Grant → Bool
+decodedFirst g = g .first
+
+abbrev pub decodedSecond : Grant → Bool
+decodedSecond g = cond (eqb (g .blocks) 2) (g .second) (g .first)
+
+-- Every heard grant decoded the block.
+abbrev pub EveryHeard : (Grant → Bool) → List Entry → Type 0
+EveryHeard decoded [] = Unit {0}
+EveryHeard decoded (at k sent Nothing ∷ es) = EveryHeard decoded es
+EveryHeard decoded (at k sent (Granted g) ∷ es) = (decoded g ≡ true) × EveryHeard decoded es
+
+-- State of a position: A if heard with every carried block decoded, N if heard otherwise, D if unheard.
+abbrev pub stateIn : Heard → State
+stateIn Nothing = Dtx
+stateIn (Granted g) = cond (decodedFirst g && decodedSecond g) Ack Nack
+
+-- A reply is sent, and it is this one; no reply is sent, and the answer is "silent".
+abbrev pub SentExactly : Answer → Type 0 → (Reply → Type 0) → Type 0
+SentExactly a Due Right =
+    (((r : Reply) × (a ≡ answer.Sent r)) ↔ Due)
+    × ((r : Reply) → a ≡ answer.Sent r → Right r)
+    × (((r : Reply) → a ≡ answer.Sent r → ⊥) → a ≡ answer.Silent)
+
+-- "If 01 bundles it": `ks` is K as printed, `es` the window's subframes in time order; `read` is the station's reading with the
+-- same settings and n = s mod 10.
+pub record BundledReply (set : Settings) (read : ℕ → ℕ → ℕ → Reading) (ks : List ℕ) (es : List Entry) (r : Reply) : Type 0 where
+  pub kind : r .kind ≡ 1
+  -- "It is read as that last grant": its position is the place of its k in K, and the reply's bits are the ACK bits
+  pub isRead : (k c : ℕ) → lastHeard es ≡ heardAt k c
+      → (m : ℕ) × (m < length ks) × (getD ks m 0 ≡ k)
+      × (read (r .resource .0) (r .b0) (r .b1) ≡ reading.Bundled m (record { 0 = c }) (r .b0) (r .b1))
+  -- "and a block's bit is ACK exactly when every heard grant decoded it"
+  pub first : (r .b0 ≡ 1) ↔ EveryHeard decodedFirst es
+  pub second : set .blocks ≡ 2 → (r .b1 ≡ 1) ↔ EveryHeard decodedSecond es
+  -- a bit is 0 or 1; a one-bit reply's second is 0
+  pub bits : (r .b0 ≤ 1) × (r .b1 ≤ 1) × (set .blocks ≡ 1 → r .b1 ≡ 0)
+
+abbrev pub Bundled : Settings → (ℕ → ℕ → ℕ → Reading) → List ℕ → List Entry → Answer → Type 0
+Bundled set read ks es a =
+    -- "a reply is sent exactly when a grant was heard and 0, 4 or 8 of its grants before the last heard one were lost"
+    SentExactly a
+    ((anyHeard es ≡ true) × ((lostBefore es ≡ 0) ⊎ (lostBefore es ≡ 4) ⊎ (lostBefore es ≡ 8)))
+    (BundledReply set read ks es)
+
+-- "If 01 multiplexes it": `states` are the states of its positions, in the order of K.
+pub record MultiplexedReply (map : ℕ → ℕ → Mapped) (read : ℕ → ℕ → ℕ → Reading) (ks : List ℕ) (heard : ℕ → Heard) (states : List State) (r : Reply) : Type 0 where
+  pub kind : r .kind ≡ 2
+  -- "01's symbol for its state is sent": its index and its two bits
+  pub index : ℕ
+  pub isSymbol : symbolOf states ≡ symbol.Sent index (r .b0) (r .b1)
+  pub position : index < length ks
+  -- the grant at its index, on whose resource it is sent
+  pub granted : Grant
+  pub isHeard : heard (getD ks index 0) ≡ Granted granted
+  pub onResource : map index (granted .cce .0) ≡ mapped.At (r .resource)
+  -- "and read as the grant at its index, delivered for exactly the positions that are A in every state sending the same symbol":
+  -- bit p of the set is position p
+  pub delivered : ℕ
+  pub isRead : read (r .resource .0) (r .b0) (r .b1) ≡ reading.Multiplexed index (granted .cce) delivered
+  pub exactly : (p : ℕ) → p < length ks
+      → (delivered / 2 ^ p % 2 ≡ 1) ↔ ((ss : List State) → length ss ≡ length ks → symbolOf ss ≡ symbol.Sent index (r .b0) (r .b1) → getD ss p Dtx ≡ Ack)
+  pub noOther : delivered < 2 ^ length ks
+
+abbrev pub Multiplexed : (ℕ → ℕ → Mapped) → (ℕ → ℕ → ℕ → Reading) → List ℕ → (ℕ → Heard) → List Entry → Answer → Type 0
+Multiplexed onto read ks heard es a =
+    -- "is sent exactly when a grant was heard"
+    SentExactly a (anyHeard es ≡ true) (MultiplexedReply onto read ks heard (map (λ (k : ℕ). stateIn (heard k)) ks))
