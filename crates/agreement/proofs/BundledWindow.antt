@@ -104,8 +104,8 @@ module _ (set : Settings) (n : ℕ) (good : windowRefusal set n ≡ 0) (ok : Acc
       seen-entries S H F (windowOf (set .config) n) (timesOf (windowOf (set .config) n)) unseen
       (all-of _ (timesOf (windowOf (set .config) n))
       (λ k e.
-        let w = of-window (set .config) n k (in-time (set .config) n k e) in
-        (w .back, view k (w .least) (w .most))))
+      let w = of-window (set .config) n k (in-time (set .config) n k e) in
+      (w .back, view k (w .least) (w .most))))
 
   u-is : seen .u ≡ heardCount es
   unfolding seen es
@@ -175,7 +175,7 @@ module _ (set : Settings) (n : ℕ) (good : windowRefusal set n ≡ 0) (ok : Acc
       go true t =
           let least : 1 ≤ heardCount es = some-counted es t in
           let other : seen .v ≡ (seen .u - 1) % 4 + 1 → ⊥ = λ e.
-            none (t, fits-only (heardCount es) (lostBefore es) least (omega (arith, es-few, window-size (set .config) n)) (sym (v-is t) ∙ rw u-is at e)) in
+          none (t, fits-only (heardCount es) (lostBefore es) least (omega (arith, es-few, window-size (set .config) n)) (sym (v-is t) ∙ rw u-is at e)) in
           let some : set .config ≡ 0 → ⊥ = λ e. none (t, inl (one-subframe e)) in
           rw (ne-eqb (seen .u) 0 (λ z. omega (arith, u-is)), ne-eqb (set .config) 0 some, ne-eqb (seen .v) ((seen .u - 1) % 4 + 1) other)
 
@@ -184,14 +184,14 @@ module _ (set : Settings) (n : ℕ) (good : windowRefusal set n ≡ 0) (ok : Acc
   unfolding seen es stepOf viewOf
   first-all =
       let a = all-decoded (windowOf (set .config) n) (λ (s : Seen). s .first) decodedFirst (λ s m. refl) (λ s m g. refl)
-        (map (entry S H) (timesOf (windowOf (set .config) n))) unseen in
+      (map (entry S H) (timesOf (windowOf (set .config) n))) unseen in
       (λ e. a .0 e .1, λ h. a .1 (refl, h))
 
   second-all : (seen .second ≡ true) ↔ EveryHeard decodedSecond es
   unfolding seen es stepOf viewOf
   second-all =
       let a = all-decoded (windowOf (set .config) n) (λ (s : Seen). s .second) decodedSecond (λ s m. refl) (λ s m g. refl)
-        (map (entry S H) (timesOf (windowOf (set .config) n))) unseen in
+      (map (entry S H) (timesOf (windowOf (set .config) n))) unseen in
       (λ e. a .0 e .1, λ h. a .1 (refl, h))
 
   second-bit : set .blocks ≡ 2 → secondBit set seen ≡ bit (seen .second)
@@ -247,20 +247,22 @@ module _ (set : Settings) (n : ℕ) (good : windowRefusal set n ≡ 0) (ok : Acc
       let f = found (l .0) (l .1) (l .2) in
       let m : ℕ = positionOf (l .0) (windowOf (set .config) n) in
       let p = calls-one-to-one set n good .into m (l .1) (f .of .position) (f .below) in
-      let r : Reply = record { kind = 1; resource = record { 0 = p .0 }; b0 = bit (seen .first); b1 = secondBit set seen } in
-      (r,
-      due some lost ∙ goes-on m (l .1) (p .0) (f .at-position) (f .at-cce) (p .3 .there),
-      record {
-        kind = refl;
-        isRead = λ k c e.
-          let q = same-last (l .0) (l .1) k c (sym (l .2) ∙ e) in
-          (m, f .of .position, f .of .back ∙ q .0, reads m (l .1) (p .0) (p .3 .there) ∙ ap (λ (x : ℕ). reading.Bundled m (record { 0 = x }) (bit (seen .first)) (secondBit set seen)) (q .1));
-        first = (λ e. first-all .0 (bit-true (seen .first) .0 e), λ h. bit-true (seen .first) .1 (first-all .1 h));
-        second = λ two.
-          (λ e. second-all .0 (bit-true (seen .second) .0 (sym (second-bit two) ∙ e)),
-          λ h. second-bit two ∙ bit-true (seen .second) .1 (second-all .1 h));
-        bits = (bit-most (seen .first), second-most, one-bit)
-      })
+      let r : Reply = record { kind = 1; resource = record { 0 = p .0 }; b0 = bit (seen .first); b1 = secondBit set seen } in (
+        r,
+        due some lost ∙ goes-on m (l .1) (p .0) (f .at-position) (f .at-cce) (p .3 .there),
+        record {
+          kind = refl;
+          isRead = λ k c e.
+              let q = same-last (l .0) (l .1) k c (sym (l .2) ∙ e) in
+              (m, f .of .position, f .of .back ∙ q .0, reads m (l .1) (p .0) (p .3 .there) ∙ ap (λ (x : ℕ). reading.Bundled m (record { 0 = x }) (bit (seen .first)) (secondBit set seen)) (q .1));
+          first = (λ e. first-all .0 (bit-true (seen .first) .0 e), λ h. bit-true (seen .first) .1 (first-all .1 h));
+          second = λ two. (
+            λ e. second-all .0 (bit-true (seen .second) .0 (sym (second-bit two) ∙ e)),
+            λ h. second-bit two ∙ bit-true (seen .second) .1 (second-all .1 h),
+          );
+          bits = (bit-most (seen .first), second-most, one-bit);
+        },
+      )
 
   pub bundled-window : Bundled set (readOf set n) (windowOf (set .config) n) (map (entry S H) (timesOf (windowOf (set .config) n))) (bundledAnswer set n (seenOf F (windowOf (set .config) n)))
   unfolding es

@@ -39,6 +39,14 @@ pub all-of : (P : ℕ → Type 0) (ks : List ℕ) → ((k : ℕ) → member k ks
 all-of P [] h = tt
 all-of P (k ∷ ks) h = (h k (head-member k ks), all-of P ks (λ j e. h j (tail-member j k ks e)))
 
+pub of-all : (P : ℕ → Type 0) (ks : List ℕ) → AllOf P ks → (k : ℕ) → member k ks ≡ true → P k
+of-all P [] h k e = absurd (false≢true e)
+of-all P (j ∷ ks) h k e = go (eqb j k) refl (of-all P ks (h .1) k) e
+  where
+    go : (b : Bool) → eqb j k ≡ b → (member k ks ≡ true → P k) → (b || member k ks) ≡ true → P k
+    go true b rest e = rw (← eqb-true j k b) (h .0)
+    go false b rest e = rest e
+
 -- What a k of a window is.
 pub record OfWindow (c n k : ℕ) : Type 0 where
   pub position : positionOf k (windowOf c n) < length (windowOf c n)
@@ -107,6 +115,7 @@ module _ (S : ℕ → Send) (H : ℕ → Heard) where
       here g h e =
           let same : j ≡ k = cc in
           rw (← same) (record { inside = head-member j ts; granted = g; heard = h; cce = cc })
+
       go : (l : Last) → lastHeard (map entry ts) ≡ l → (x : Heard) → H j ≡ x
           → ((k c : ℕ) → lastHeard (map entry ts) ≡ heardAt k c → LastOf ts k c) → later (asLast j x) l ≡ heardAt k c → LastOf (j ∷ ts) k c
       go unheard u Nothing h rest e = no-last k c e
@@ -122,9 +131,11 @@ module _ (S : ℕ → Send) (H : ℕ → Heard) where
     where
       later-one : (x : Heard) (l : Last) (k c : ℕ) → l ≡ heardAt k c → later (asLast j x) l ≡ heardAt k c
       later-one x l k c e = rw e
+
       either : (l : Last) (g : Grant) → (k c : ℕ) × (later (heardAt j (g .cce .0)) l ≡ heardAt k c)
       either unheard g = (j, g .cce .0, refl)
       either (heardAt k c) g = (k, c, refl)
+
       go : (x : Heard) (t : Bool) → anyHeard (map entry ts) ≡ t → (anyHeard (map entry ts) ≡ true → (k c : ℕ) × (lastHeard (map entry ts) ≡ heardAt k c))
           → (isHeard x || anyHeard (map entry ts)) ≡ true → (k c : ℕ) × (later (asLast j x) (lastHeard (map entry ts)) ≡ heardAt k c)
       go Nothing t u rest e =

@@ -18,12 +18,14 @@ sent-not-silent r a e f = let z : _≡_ {A = ℕ} 0 1 = cc in omega arith
 module _ (a : Answer) (Due : Type 0) (Right : Reply → Type 0) where
   pub sent-exactly : (Due ⊎ (Due → ⊥)) → (Due → (r : Reply) × (a ≡ answer.Sent r) × Right r) → ((Due → ⊥) → a ≡ answer.Silent) → SentExactly a Due Right
   sent-exactly (inl due) yes′ no′ =
-      let it = yes′ due in
-      ((λ r. due, λ d. (it .0, it .1)),
-      λ r e. subst Right (same-reply (it .0) r (sym (it .1) ∙ e)) (it .2),
-      λ none. absurd (none (it .0) (it .1)))
+      let it = yes′ due in (
+        (λ r. due, λ d. (it .0, it .1)),
+        λ r e. subst Right (same-reply (it .0) r (sym (it .1) ∙ e)) (it .2),
+        λ none. absurd (none (it .0) (it .1)),
+      )
   sent-exactly (inr not) yes′ no′ =
-      let silent : a ≡ answer.Silent = no′ not in
-      ((λ r. absurd (sent-not-silent (r .0) a (r .1) silent), λ due. absurd (not due)),
-      λ r e. absurd (sent-not-silent r a e silent),
-      λ none. silent)
+      let silent : a ≡ answer.Silent = no′ not in (
+        (λ r. absurd (sent-not-silent (r .0) a (r .1) silent), λ due. absurd (not due)),
+        λ r e. absurd (sent-not-silent r a e silent),
+        λ none. silent,
+      )

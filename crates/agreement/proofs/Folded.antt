@@ -72,9 +72,11 @@ module _ (ks : List ℕ) where
     where
       next : Seen
       next = stepOf seen (positionOf k ks) (viewOf (Granted g))
+
       same : Brings (grant b c d) (Granted g) → g .dai ≡ d
       same (inl p) = let z : _≡_ {A = ℕ} 0 1 = cc in absurd (omega arith)
       same (inr p) = cc
+
       go : (t : Bool) → anyHeard es ≡ t → (anyHeard es ≡ true → foldIn ks next es .v ≡ (suc j + heardCount es + lostBefore es - 1) % 4 + 1)
           → foldIn ks next es .v ≡ (j + (1 + heardCount es) + cond (anyHeard es) (0 + lostBefore es) 0 - 1) % 4 + 1
       go true t rest = rw t (rest t ∙ omega arith)
@@ -125,12 +127,13 @@ module _ (ks : List ℕ) where
         (λ e. let p = rest .0 e in (sym same ∙ p .0, p .1), λ p. rest .1 (same ∙ p .0, p .1))
     all-decoded (at k sent (Granted g) ∷ es) seen =
         let rest = all-decoded es (stepOf seen (positionOf k ks) (viewOf (Granted g))) in
-        let join = joined seen (positionOf k ks) g in
-        (λ e.
-          let p = rest .0 e in
-          let q = both-true (field seen) (decoded g) (sym join ∙ p .0) in
-          (q .0, (q .1, p .1)),
-        λ p. rest .1 (join ∙ rw (p .0, p .1 .0), p .1 .1))
+        let join = joined seen (positionOf k ks) g in (
+          λ e.
+              let p = rest .0 e in
+              let q = both-true (field seen) (decoded g) (sym join ∙ p .0) in
+              (q .0, (q .1, p .1)),
+          λ p. rest .1 (join ∙ rw (p .0, p .1 .0), p .1 .1),
+        )
       where
         both-true : (a b : Bool) → (a && b) ≡ true → (a ≡ true) × (b ≡ true)
         both-true true b e = (refl, e)

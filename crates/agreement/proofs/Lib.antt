@@ -1,4 +1,9 @@
 pub mod BundledWindow
+pub mod Demand3
 pub mod Entries
 pub mod Exactly
 pub mod Folded
+pub mod Memory
+pub mod MultiplexedWindow
+pub mod NeverRefused
+pub mod Turns

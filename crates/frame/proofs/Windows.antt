@@ -13,7 +13,7 @@ use lib.Dec.{T, leb→le, eqb, leb, lit≤, eqb→eq}
 use lib.Ieee.Bits.{is-true}
 use lib.Ieee.Fits.{and-l, and-r}
 use lib.ListN.{length, getD, List·getD-eq-default}
-use borrow.Author.Tests.{eqb-true}
+use borrow.Author.Tests.{eqb-true, leb-true}
 use Rattle.frame.specs.Layout.{Letter, D, S, U, layouts, letterOf, carries, downlink}
 use Rattle.frame.specs.Once.{InWindow, InExactlyOne}
 use Rattle.frame.specs.Order.{member, positionOf}
@@ -211,3 +211,16 @@ zero-windows n = leb→le _ 1 (only (leb (length (windowOf 0 n)) 1) (window-pass
     only : (b : Bool) → T (b || false) → T b
     only true t = tt
     only false t = t
+
+four-tested : T (everyRow (λ (c n : ℕ) (ks : List ℕ). leb (length ks) 4 || eqb c 5) table)
+unfolding table
+four-tested = tt
+
+-- Only configuration 5 has a window of more than four subframes.
+pub small-windows : (c n : ℕ) → (c ≡ 5 → ⊥) → length (windowOf c n) ≤ 4
+small-windows c n h = go (leb (length (windowOf c n)) 4) refl (eqb c 5) refl (window-passes _ four-tested c n tt)
+  where
+    go : (a : Bool) → leb (length (windowOf c n)) 4 ≡ a → (b : Bool) → eqb c 5 ≡ b → T (a || b) → length (windowOf c n) ≤ 4
+    go true e b f t = leb-true (length (windowOf c n)) 4 e
+    go false e true f t = absurd (h (eqb-true c 5 f))
+    go false e false f t = absurd t

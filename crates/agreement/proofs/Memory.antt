@@ -1,0 +1,186 @@
+-- The handset after a history, newest first, of what was heard: it remembers the last 13, expects the next subframe, and is sound.
+-- Assumes nothing.
+use Prim.Native.Nat.{ℕ, zero, suc, _+_, _-_, _*_, _/_, _%_, _<_, _≤_}
+use mathlib.Core.Bool.{Bool, true, false, cond, _&&_, _||_}
+use mathlib.Core.List.{List, [], _∷_, map}
+use mathlib.Core.Path.{_≡_, refl, sym, ap, _∙_}
+use native.Mathlib.Nat.{zero-add, add-suc, suc-add, le-of-suc-le-suc, not-suc-le-zero, add-zero}
+use native.Mathlib.Omega.{arith}
+use lib.Dec.{eqb, leb, ltb}
+use lib.ListN.{length, getD, List·getD-map}
+use borrow.Author.Tests.{eq-eqb, ne-eqb, ltb-true, le-leb, eqb-true, eqb-false}
+use Rattle.frame.specs.declared.Settings.{Settings}
+use Rattle.frame.specs.Settings.{orElse, outside, settingsRefusal}
+use Rattle.frame.proofs.Accepted.{Accepted, neither, unmet, between}
+use Rattle.resource.specs.declared.Cce.{Cce}
+use Rattle.resource.specs.Formula.{edge}
+use Rattle.reply.specs.declared.Grant.{Grant}
+use Rattle.reply.specs.declared.Heard.{Heard}
+use Rattle.reply.specs.declared.Heard.the-variants.{Nothing, Granted}
+use Rattle.reply.specs.declared.Slot.{Slot}
+use Rattle.reply.specs.Heard.{uplinkRefusal, grantRefusal, heardRefusal, viewOf}
+use Rattle.reply.specs.Memory.{none, bit, slotOf, heardIn, viewIn, viewAgo}
+use Rattle.handset.specs.declared.Handset.{Handset}
+use Rattle.handset.specs.Feed.{pushed}
+use Rattle.handset.specs.Make.{slotsFrom, memory, fresh}
+use Rattle.handset.specs.Sound.{slotSound, previous, allSound, stateSound, stateRefusal}
+
+-- What a valid grant is.
+pub record ValidGrant (set : Settings) (g : Grant) : Type 0 where
+  pub least : 1 ≤ g .blocks
+  pub most : g .blocks ≤ set .blocks
+  pub cce : g .cce .0 < edge (set .nrb) 4
+
+pub valid-grant : (set : Settings) (n : ℕ) (g : Grant) → heardRefusal set n (Granted g) ≡ 0 → ValidGrant set g
+unfolding heardRefusal grantRefusal
+valid-grant set n g e =
+    let a = neither (uplinkRefusal set n) (grantRefusal set g) e .1 in
+    let b = unmet (outside 1 (set .blocks) (g .blocks)) 9 (cond (ltb (g .cce .0) (edge (set .nrb) 4)) (cond (outside 1 4 (g .dai)) 12 0) 11) a in
+    let c = between 1 (set .blocks) (g .blocks) (b .0) in
+    record { least = c .0; most = c .1; cce = below (ltb (g .cce .0) (edge (set .nrb) 4)) refl (b .1) }
+  where
+    below : (t : Bool) → ltb (g .cce .0) (edge (set .nrb) 4) ≡ t → _≡_ {A = ℕ} (cond t (cond (outside 1 4 (g .dai)) 12 0) 11) 0 → g .cce .0 < edge (set .nrb) 4
+    below true t e = ltb-true (g .cce .0) (edge (set .nrb) 4) t
+    below false t e = absurd (omega arith)
+
+-- The three bits of a slot's results, taken apart again.
+first-back : (a b c : Bool) → eqb ((bit a + 2 * bit b + 4 * bit c) % 2) 1 ≡ a
+first-back true true true = refl
+first-back true true false = refl
+first-back true false true = refl
+first-back true false false = refl
+first-back false true true = refl
+first-back false true false = refl
+first-back false false true = refl
+first-back false false false = refl
+
+second-back : (a b c : Bool) → eqb ((bit a + 2 * bit b + 4 * bit c) / 2 % 2) 1 ≡ b
+second-back true true true = refl
+second-back true true false = refl
+second-back true false true = refl
+second-back true false false = refl
+second-back false true true = refl
+second-back false true false = refl
+second-back false false true = refl
+second-back false false false = refl
+
+two-back : (a b c : Bool) → eqb ((bit a + 2 * bit b + 4 * bit c) / 4 % 2) 1 ≡ c
+two-back true true true = refl
+two-back true true false = refl
+two-back true false true = refl
+two-back true false false = refl
+two-back false true true = refl
+two-back false true false = refl
+two-back false false true = refl
+two-back false false false = refl
+
+blocks-back : (b : ℕ) → 1 ≤ b → b ≤ 2 → cond (eqb b 2) 2 1 ≡ b
+blocks-back b low high = go (eqb b 2) refl
+  where
+    go : (t : Bool) → eqb b 2 ≡ t → cond t 2 1 ≡ b
+    go true t = sym (eqb-true b 2 t)
+    go false t = let other = eqb-false b 2 t in omega arith
+
+-- What a slot made of a valid heard thing holds.
+pub slot-back : (set : Settings) → Accepted set → (n : ℕ) (x : Heard) → heardRefusal set n x ≡ 0 → heardIn (slotOf x) ≡ x
+unfolding heardIn slotOf
+slot-back set ok n Nothing e = refl
+slot-back set ok n (Granted g) e =
+    let v = valid-grant set n g e in
+    let t : Bool = eqb (g .blocks) 2 in
+    let b = blocks-back (g .blocks) (v .least) (omega (arith, v .most, ok .blocksMost)) in
+    rw (two-back (g .first) (g .second) t, first-back (g .first) (g .second) t, second-back (g .first) (g .second) t, b)
+
+pub slot-view : (set : Settings) → Accepted set → (n : ℕ) (x : Heard) → heardRefusal set n x ≡ 0 → viewIn (slotOf x) ≡ viewOf x
+unfolding viewIn
+slot-view set ok n x e = ap viewOf (slot-back set ok n x e)
+
+-- A history, newest first, each heard thing valid in the subframe it was fed in.
+abbrev pub Valid : Settings → List Heard → Type 0
+Valid set [] = Unit {0}
+Valid set (x ∷ l) = (heardRefusal set (length l % 10) x ≡ 0) × Valid set l
+
+-- The handset after a history.
+abbrev pub after : Settings → List Heard → Handset
+after set l = record { settings = set; next = length l % 10; past = memory (map slotOf l) }
+
+pub fresh-after : (set : Settings) → fresh set ≡ after set []
+unfolding fresh
+fresh-after set = refl
+
+pub pushed-after : (set : Settings) (l : List Heard) (x : Heard) → pushed (after set l) x ≡ after set (x ∷ l)
+unfolding pushed
+pushed-after set l x =
+    let e : (length l % 10 + 1) % 10 ≡ suc (length l) % 10 = omega arith in
+    rw e
+
+slots-at : (count i : ℕ) (l : List Slot) (j : ℕ) → j < count → getD (slotsFrom count i l) j none ≡ getD l (i + j) none
+slots-at zero i l j h = absurd (not-suc-le-zero h)
+slots-at (suc count) i l zero h = ap (λ (x : ℕ). getD l x none) (sym (add-zero i))
+slots-at (suc count) i l (suc j) h =
+    slots-at count (suc i) l j (le-of-suc-le-suc h) ∙ ap (λ (x : ℕ). getD l x none) (suc-add i j ∙ sym (add-suc i j))
+
+-- A heard thing of the history, or nothing before it, was valid.
+valid-at : (set : Settings) (l : List Heard) → Valid set l → (i : ℕ) → (n : ℕ) × (heardRefusal set n (getD l i Nothing) ≡ 0)
+unfolding heardRefusal
+valid-at set [] v i = (0, refl)
+valid-at set (x ∷ l) v zero = (length l % 10, v .0)
+valid-at set (x ∷ l) v (suc i) = valid-at set l (v .1) i
+
+slot-of : (l : List Heard) (i : ℕ) → getD (map slotOf l) i none ≡ slotOf (getD l i Nothing)
+unfolding slotOf
+slot-of [] i = refl
+slot-of (x ∷ l) zero = refl
+slot-of (x ∷ l) (suc i) = slot-of l i
+
+-- k ago, up to 13, the handset remembers what the history has there.
+pub view-after : (set : Settings) → Accepted set → (l : List Heard) → Valid set l → (k : ℕ) → 1 ≤ k → k ≤ 13
+    → viewAgo (memory (map slotOf l)) k ≡ viewOf (getD l (k - 1) Nothing)
+unfolding viewAgo
+view-after set ok l v k least most =
+    let w = valid-at set l v (k - 1) in
+    let e : getD (memory (map slotOf l)) (k - 1) none ≡ getD (map slotOf l) (k - 1) none =
+    slots-at 13 0 (map slotOf l) (k - 1) (omega arith) ∙ ap (λ (x : ℕ). getD (map slotOf l) x none) (zero-add (k - 1)) in
+    ap viewIn (e ∙ slot-of l (k - 1)) ∙ slot-view set ok (w .0) (getD l (k - 1) Nothing) (w .1)
+
+pub low-after : (set : Settings) (l : List Heard) → Valid set l → (i : ℕ) (g : Grant) → getD l i Nothing ≡ Granted g → g .cce .0 < edge (set .nrb) 4
+low-after set l v i g e =
+    let w = valid-at set l v i in
+    valid-grant set (w .0) g (rw e at (w .1)) .cce
+
+-- Refusal 8 is never met.
+slots-tail : (count i : ℕ) (t : Slot) (ts : List Slot) → slotsFrom count (suc i) (t ∷ ts) ≡ slotsFrom count i ts
+slots-tail zero i t ts = refl
+slots-tail (suc count) i t ts = ap (λ (l : List Slot). getD ts i none ∷ l) (slots-tail count (suc i) t ts)
+
+none-sound : (set : Settings) (n : ℕ) → slotSound set n none ≡ true
+unfolding slotSound heardIn heardRefusal
+none-sound set n = refl
+
+none-all : (set : Settings) (count i n : ℕ) → allSound set n (slotsFrom count i []) ≡ true
+unfolding allSound
+none-all set zero i n = refl
+none-all set (suc count) i n = rw (none-sound set (previous n)) (none-all set count (suc i) (previous n))
+
+kind-small : (x : Heard) → leb (slotOf x .kind) 1 ≡ true
+unfolding slotOf
+kind-small Nothing = refl
+kind-small (Granted g) = refl
+
+slot-sound : (set : Settings) → Accepted set → (n : ℕ) (x : Heard) → heardRefusal set n x ≡ 0 → slotSound set n (slotOf x) ≡ true
+unfolding slotSound
+slot-sound set ok n x e = rw (kind-small x, slot-back set ok n x e, e)
+
+sound-from : (set : Settings) → Accepted set → (l : List Heard) → Valid set l → (count n : ℕ) → n ≡ length l % 10 → allSound set n (slotsFrom count 0 (map slotOf l)) ≡ true
+unfolding allSound
+sound-from set ok [] v count n e = none-all set count 0 n
+sound-from set ok (x ∷ l) v zero n e = refl
+sound-from set ok (x ∷ l) v (suc count) n e =
+    let p : previous n ≡ length l % 10 = omega arith in
+    rw (slots-tail count 0 (slotOf x) (map slotOf l), p, slot-sound set ok (length l % 10) x (v .0))
+    (sound-from set ok l (v .1) count (length l % 10) refl)
+
+pub sound-after : (set : Settings) → settingsRefusal set ≡ 0 → Accepted set → (l : List Heard) → Valid set l → stateRefusal (after set l) ≡ 0
+unfolding stateRefusal stateSound
+sound-after set good ok l v =
+    rw (good, le-leb (length l % 10) 9 (omega arith), sound-from set ok l v 13 (length l % 10) refl)

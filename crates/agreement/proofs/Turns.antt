@@ -1,0 +1,189 @@
+-- One feed of a run: the handset after a history is fed, and its answer is what demand 3 says.
+-- Assumes nothing.
+use Prim.Native.Nat.{ℕ, zero, suc, _+_, _-_, _%_, _<_, _≤_}
+use mathlib.Core.Bool.{Bool, true, false, cond, _||_, false≢true, or-true}
+use mathlib.Core.List.{List, [], _∷_, map}
+use mathlib.Core.Logic.{_⊎_, inl, inr, _↔_}
+use mathlib.Core.Path.{_≡_, refl, sym, ap, _∙_}
+use native.Mathlib.Decide.{decLe, decLt}
+use native.Mathlib.Omega.{arith}
+use lib.Dec.{eqb, leb, leb·suc-zero}
+use lib.ListN.{length, getD, List·getD-eq-default}
+use borrow.Author.Tests.{eq-eqb, ne-eqb, le-leb, lt-leb}
+use Rattle.frame.specs.declared.Settings.{Settings}
+use Rattle.frame.specs.Layout.{Letter, letterOf, carries, downlink}
+use Rattle.frame.specs.Order.{timesOf}
+use Rattle.frame.specs.Settings.{orElse, bundles, settingsRefusal, noWindowRefusal, windowRefusal}
+use Rattle.frame.specs.Table.{windowOf}
+use Rattle.frame.proofs.Accepted.{Accepted, accepted}
+use Rattle.frame.proofs.Windows.{window-uplink, small-windows}
+use Rattle.resource.specs.Calls.{resourceOf, inverseOf}
+use Rattle.resource.specs.Formula.{edge}
+use Rattle.reply.specs.declared.Answer.{Answer}
+use Rattle.reply.specs.declared.Answer.the-variants as answer
+use Rattle.reply.specs.declared.Grant.{Grant}
+use Rattle.reply.specs.declared.Heard.{Heard}
+use Rattle.reply.specs.declared.Heard.the-variants.{Nothing, Granted}
+use Rattle.reply.specs.declared.View.{View}
+use Rattle.reply.specs.Fold.{seenOf}
+use Rattle.reply.specs.Heard.{heardRefusal, viewOf}
+use Rattle.reply.specs.Memory.{slotOf, viewAgo}
+use Rattle.reply.specs.Replies.{bundledAnswer, multiplexedAnswer, windowAnswer}
+use Rattle.handset.specs.declared.Fed.{Fed}
+use Rattle.handset.specs.declared.Handset.{Handset}
+use Rattle.handset.specs.Feed.{answerOf, dueOf, pushed, feedRefusal, fedAs, feedOf}
+use Rattle.handset.specs.Make.{memory, makeOf}
+use Rattle.handset.specs.Sound.{stateRefusal}
+use Rattle.station.specs.Readings.{readOf}
+use Rattle.agreement.specs.Claim.{Engine, Answered, TurnClaim}
+use Rattle.agreement.specs.Run.{Send, nothing, Turn, Item, sentAgo, heardAgo, Schedule, Brings}
+use Rattle.agreement.proofs.BundledWindow.{bundled-window}
+use Rattle.agreement.proofs.Memory.{Valid, after, pushed-after, view-after, low-after, sound-after}
+use Rattle.agreement.proofs.MultiplexedWindow.{multiplexed-window}
+use Rattle.agreement.proofs.NeverRefused.{never-refused}
+
+-- The engine of this repository: the definitions that the promises of its code are equations with.
+abbrev pub ours : Engine
+ours = record { make = makeOf; feed = feedOf; resource = resourceOf; inverse = inverseOf; read = readOf }
+
+-- The run's list of heard things has the history, newest first, at its subframes.
+abbrev pub Past : List Heard → List Heard → Type 0
+Past heard [] = Unit {0}
+Past heard (x ∷ l) = (getD heard (length l) Nothing ≡ x) × Past heard l
+
+-- k before the next subframe stands what the history has there.
+pub ago-past : (heard l : List Heard) → Past heard l → (k : ℕ) → 1 ≤ k → heardAgo heard (length l) k ≡ getD l (k - 1) Nothing
+ago-past heard [] p k h = rw (lt-leb k 0 h)
+ago-past heard (x ∷ l) p k h = go k h (ago-past heard l (p .1))
+  where
+    go : (k : ℕ) → 1 ≤ k → ((j : ℕ) → 1 ≤ j → heardAgo heard (length l) j ≡ getD l (j - 1) Nothing)
+        → heardAgo heard (suc (length l)) k ≡ getD (x ∷ l) (k - 1) Nothing
+    go zero h rest = absurd (omega arith)
+    go (suc zero) h rest =
+        let e : suc (length l) - 1 ≡ length l = omega arith in
+        rw (le-leb 1 (suc (length l)) (omega arith), e) (p .0)
+    go (suc (suc j)) h rest =
+        let e : suc (length l) - suc (suc j) ≡ length l - suc j = omega arith in
+        let f : suc (suc j) - 1 ≡ suc j = omega arith in
+        let g : suc j - 1 ≡ j = omega arith in
+        shift (decLe (suc j) (length l)) e ∙ rest (suc j) (omega arith) ∙ rw (f, g)
+      where
+        shift : Dec (suc j ≤ length l) → suc (length l) - suc (suc j) ≡ length l - suc j
+            → heardAgo heard (suc (length l)) (suc (suc j)) ≡ heardAgo heard (length l) (suc j)
+        shift (yes h) e = rw (le-leb (suc (suc j)) (suc (length l)) (omega arith), le-leb (suc j) (length l) h, e)
+        shift (no h) e = rw (lt-leb (suc (suc j)) (suc (length l)) (omega arith), lt-leb (suc j) (length l) (omega arith))
+
+module _ (set : Settings) (good : settingsRefusal set ≡ 0) (sent : ℕ → Send) (schedule : Schedule set sent) (heard : List Heard)
+    (brings : (s : ℕ) → s < length heard → Brings (sent s) (getD heard s Nothing))
+    (l : List Heard) (valid : Valid set l) (past : Past heard l) where
+  ok : Accepted set
+  ok = accepted set good
+
+  abbrev n : ℕ
+  n = length l % 10
+
+  abbrev F : ℕ → View
+  F = viewAgo (memory (map slotOf l))
+
+  seen : (k : ℕ) → 1 ≤ k → k ≤ 13 → F k ≡ viewOf (heardAgo heard (length l) k)
+  seen k least most = view-after set ok l valid k least most ∙ ap viewOf (sym (ago-past heard l past k least))
+
+  low : (k : ℕ) → 1 ≤ k → k ≤ 13 → (g : Grant) → heardAgo heard (length l) k ≡ Granted g → g .cce .0 < edge (set .nrb) 4
+  low k least most g e = low-after set l valid (k - 1) g (sym (ago-past heard l past k least) ∙ e)
+
+  -- k before the next subframe the run brought nothing or what was sent
+  ago-brings : (k : ℕ) → 1 ≤ k → k ≤ 13 → Brings (sentAgo sent (length l) k) (heardAgo heard (length l) k)
+  ago-brings k least most = go (decLe k (length l))
+    where
+      inside : Dec (length l - k < length heard) → Brings (sent (length l - k)) (getD heard (length l - k) Nothing)
+      inside (yes h) = brings (length l - k) h
+      inside (no h) = inl (List·getD-eq-default heard Nothing {n = length l - k} (omega arith))
+
+      go : Dec (k ≤ length l) → Brings (sentAgo sent (length l) k) (heardAgo heard (length l) k)
+      go (yes h) = rw (le-leb k (length l) h) (inside (decLt (length l - k) (length heard)))
+      go (no h) = rw (lt-leb k (length l) (omega arith)) (inl refl)
+
+  -- a subframe with a window is uplink, and the calls take it
+  uplink : 0 < length (windowOf (set .config) n) → downlink (set .config) n ≡ false
+  unfolding downlink
+  uplink some = ap carries (window-uplink (set .config) n some)
+
+  taken-up : 0 < length (windowOf (set .config) n) → windowRefusal set n ≡ 0
+  unfolding windowRefusal noWindowRefusal
+  taken-up some = rw (good, ne-eqb (length (windowOf (set .config) n)) 0 (λ z. omega arith))
+
+  bundled-mode : (set .mode ≡ 0) ⊎ (length (windowOf (set .config) n) ≡ 1) → bundles set (length (windowOf (set .config) n)) ≡ true
+  unfolding bundles
+  bundled-mode (inl e) = rw (eq-eqb (set .mode) 0 e)
+  bundled-mode (inr e) = rw (eq-eqb (length (windowOf (set .config) n)) 1 e) (or-true (eqb (set .mode) 0))
+
+  multiplexed-mode : set .mode ≡ 1 → (length (windowOf (set .config) n) ≡ 1 → ⊥) → bundles set (length (windowOf (set .config) n)) ≡ false
+  unfolding bundles
+  multiplexed-mode e h = rw (ne-eqb (set .mode) 0 (λ z. omega arith), ne-eqb (length (windowOf (set .config) n)) 1 h)
+
+  -- the answer that is owed in each case
+  bundled-due : 0 < length (windowOf (set .config) n) → bundles set (length (windowOf (set .config) n)) ≡ true
+      → bundledAnswer set n (seenOf F (windowOf (set .config) n)) ≡ dueOf (after set l)
+  unfolding dueOf answerOf windowAnswer
+  bundled-due some mode = rw (uplink some, ne-eqb (length (windowOf (set .config) n)) 0 (λ z. omega arith), mode)
+
+  multiplexed-due : 0 < length (windowOf (set .config) n) → bundles set (length (windowOf (set .config) n)) ≡ false
+      → multiplexedAnswer set n F (windowOf (set .config) n) ≡ dueOf (after set l)
+  unfolding dueOf answerOf windowAnswer
+  multiplexed-due some mode = rw (uplink some, ne-eqb (length (windowOf (set .config) n)) 0 (λ z. omega arith), mode)
+
+  taken-due : downlink (set .config) n ≡ true → dueOf (after set l) ≡ answer.Taken
+  unfolding dueOf answerOf
+  taken-due e = rw e
+
+  no-window-due : downlink (set .config) n ≡ false → windowOf (set .config) n ≡ [] → dueOf (after set l) ≡ answer.NoWindow
+  unfolding dueOf answerOf windowAnswer
+  no-window-due e f = rw (e, f)
+
+  answered : Answered ours set sent heard (length l) (dueOf (after set l))
+  answered =
+      record {
+        taken = taken-due;
+        noWindow = no-window-due;
+        bundled = λ some mode.
+            rw (bundled-due some (bundled-mode mode)) at
+            (bundled-window set n (taken-up some) ok (bundled-mode mode) (sentAgo sent (length l)) (heardAgo heard (length l)) F
+            (schedule .rule (length l)) ago-brings low seen);
+        multiplexed = λ some mode many.
+            rw (multiplexed-due some (multiplexed-mode mode many)) at
+            (multiplexed-window set n (taken-up some) (multiplexed-mode mode many) (omega arith)
+            (small-windows (set .config) n (λ five. ok .noFive mode five))
+            (sentAgo sent (length l)) (heardAgo heard (length l)) F low seen);
+      }
+
+  -- no answer of an accepted feed is a refusal
+  not-refused : (k : ℕ) → dueOf (after set l) ≡ answer.Refused k → ⊥
+  unfolding dueOf
+  not-refused k e = never-refused set n F k e
+
+  -- what a feed of the handset comes to
+  fed-after : (x : Heard) → feedOf (after set l) x ≡ fedAs (heardRefusal set n x) (after set l) x
+  unfolding feedOf feedRefusal
+  fed-after x = rw (sound-after set good ok l valid)
+
+  pub accepted-after : (x : Heard) → heardRefusal set n x ≡ 0 → feedOf (after set l) x ≡ record { answer = dueOf (after set l); handset = after set (x ∷ l) }
+  accepted-after x e = fed-after x ∙ rw (e, pushed-after set l x)
+
+  pub refused-after : (x : Heard) → (heardRefusal set n x ≡ 0 → ⊥)
+      → feedOf (after set l) x ≡ record { answer = answer.Refused (heardRefusal set n x); handset = after set l }
+  refused-after x h = fed-after x ∙ go (heardRefusal set n x) refl
+    where
+      go : (k : ℕ) → heardRefusal set n x ≡ k → fedAs k (after set l) x ≡ record { answer = answer.Refused k; handset = after set l }
+      go zero e = absurd (h e)
+      go (suc k) e = refl
+
+  pub turn-claim : (x : Heard) → TurnClaim ours set sent heard (length l) (record { handset = after set l; brought = x; fed = feedOf (after set l) x })
+  turn-claim x =
+      record {
+        refusedExactly = (
+          λ p e. not-refused (p .0) (sym (ap (λ (f : Fed). f .answer) (accepted-after x e)) ∙ p .1),
+          λ h. (heardRefusal set n x, ap (λ (f : Fed). f .answer) (refused-after x h)),
+        );
+        refused = refused-after x;
+        accepted = λ e. rw (← ap (λ (f : Fed). f .answer) (accepted-after x e)) at answered;
+      }
