@@ -2,8 +2,10 @@ pub mod BundledWindow
 pub mod Demand3
 pub mod Entries
 pub mod Exactly
+pub mod Finite
 pub mod Folded
 pub mod Memory
 pub mod MultiplexedWindow
 pub mod NeverRefused
 pub mod Turns
+pub mod Worked
