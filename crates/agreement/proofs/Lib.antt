@@ -4,6 +4,7 @@ pub mod Entries
 pub mod Exactly
 pub mod Finite
 pub mod Folded
+pub mod Hollow
 pub mod Memory
 pub mod MultiplexedWindow
 pub mod NeverRefused
