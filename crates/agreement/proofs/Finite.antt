@@ -77,8 +77,8 @@ module _ (set : Settings) (sends : List Send) (t : T (scheduleTest set sends)) w
           nothing-ruled (sentAgo (sending sends) s) (timesOf (windowOf (set .config) (s % 10))) 0
           (all-of (λ (k : ℕ). sentAgo (sending sends) s k ≡ nothing) (timesOf (windowOf (set .config) (s % 10)))
           (λ k e.
-            let w = of-window (set .config) (s % 10) k (in-time (set .config) (s % 10) k e) in
-            rw (le-leb k s (omega (arith, w .most))) (ended (s - k) (omega (arith, w .most)))))
+          let w = of-window (set .config) (s % 10) k (in-time (set .config) (s % 10) k e) in
+          rw (le-leb k s (omega (arith, w .most))) (ended (s - k) (omega (arith, w .most)))))
 
   pub scheduled : Schedule set (sending sends)
   scheduled = record { valid = valid; rule = rule }

@@ -156,14 +156,14 @@ twoWindows =
       set = cell 0 0;
       sends = grant 1 0 1 ∷ grant 1 0 1 ∷ [];
       items = hears 0 1 true ∷ hears 0 1 true ∷ quiet ∷ quiet ∷ quiet ∷ quiet ∷ quiet ∷ quiet ∷ [];
-      answers = []
+      answers = [];
     }
 
 pub not-first-only : Demand3 (fedBy firstOnly) → ⊥
 unfolding layouts letterOf downlink timesOf orderOf bundles cellRefusal modeRefusal blocksRefusal settingsRefusal noWindowRefusal windowRefusal table windowOf pairRefusal resourceOf edge regionOf resourceNumber stepOf seenFrom seenOf uplinkRefusal grantRefusal heardRefusal viewOf slotOf heardIn viewIn viewAgo replyOn expected missShown secondBit bundledAnswer windowAnswer answerOf dueOf pushed feedRefusal feedOf fresh makeOf slotSound allSound stateSound stateRefusal
 not-first-only d =
     let t = d .run (cell 0 0) refl (sending (twoWindows .sends)) (scheduled (cell 0 0) (twoWindows .sends) tt) (twoWindows .items)
-      (brought (cell 0 0) (twoWindows .sends) (twoWindows .items) tt) 7 (omega arith) in
+    (brought (cell 0 0) (twoWindows .sends) (twoWindows .items) tt) 7 (omega arith) in
     let a = t .accepted refl .bundled (omega arith) (inl refl) in
     let r = a .0 .1 (refl, inl refl) in
     never-sent answer.Silent (r .0) (r .1)

@@ -59,7 +59,7 @@ allHeard =
       set = cell 1 0;
       sends = grant 1 3 1 ∷ grant 1 10 2 ∷ [];
       items = hears 3 1 true ∷ hears 10 2 true ∷ quiet ∷ quiet ∷ quiet ∷ quiet ∷ quiet ∷ quiet ∷ [];
-      answers = answer.Taken ∷ answer.Taken ∷ answer.Silent ∷ answer.Silent ∷ answer.Taken ∷ answer.Taken ∷ answer.Taken ∷ reply 1 31 1 0 ∷ []
+      answers = answer.Taken ∷ answer.Taken ∷ answer.Silent ∷ answer.Silent ∷ answer.Taken ∷ answer.Taken ∷ answer.Taken ∷ reply 1 31 1 0 ∷ [];
     }
 
 -- The same with the first grant lost: a miss is shown.
@@ -69,7 +69,7 @@ missed =
       set = cell 1 0;
       sends = grant 1 3 1 ∷ grant 1 10 2 ∷ [];
       items = quiet ∷ hears 10 2 true ∷ quiet ∷ quiet ∷ quiet ∷ quiet ∷ quiet ∷ quiet ∷ [];
-      answers = answer.Taken ∷ answer.Taken ∷ answer.Silent ∷ answer.Silent ∷ answer.Taken ∷ answer.Taken ∷ answer.Taken ∷ answer.Silent ∷ []
+      answers = answer.Taken ∷ answer.Taken ∷ answer.Silent ∷ answer.Silent ∷ answer.Taken ∷ answer.Taken ∷ answer.Taken ∷ answer.Silent ∷ [];
     }
 
 -- The same with a feed in between whose DAI is 5: refused 12, and its subframe is fed again.
@@ -79,7 +79,7 @@ refusedBetween =
       set = cell 1 0;
       sends = grant 1 3 1 ∷ grant 1 10 2 ∷ [];
       items = hears 3 1 true ∷ hears 10 5 true ∷ hears 10 2 false ∷ quiet ∷ quiet ∷ quiet ∷ quiet ∷ quiet ∷ quiet ∷ [];
-      answers = answer.Taken ∷ answer.Refused 12 ∷ answer.Taken ∷ answer.Silent ∷ answer.Silent ∷ answer.Taken ∷ answer.Taken ∷ answer.Taken ∷ reply 1 31 0 0 ∷ []
+      answers = answer.Taken ∷ answer.Refused 12 ∷ answer.Taken ∷ answer.Silent ∷ answer.Silent ∷ answer.Taken ∷ answer.Taken ∷ answer.Taken ∷ reply 1 31 0 0 ∷ [];
     }
 
 -- Configuration 5: of the window of subframe 12, which starts at -1, the grants in 0, 1, 3 and 4 are lost and the fifth, in 5, is heard.
@@ -90,8 +90,8 @@ fourLost =
       sends = grant 1 0 1 ∷ grant 1 0 2 ∷ nothing ∷ grant 1 0 3 ∷ grant 1 0 4 ∷ grant 1 0 1 ∷ [];
       items = quiet ∷ quiet ∷ quiet ∷ quiet ∷ quiet ∷ hears 0 1 true ∷ quiet ∷ quiet ∷ quiet ∷ quiet ∷ quiet ∷ quiet ∷ quiet ∷ [];
       answers =
-        answer.Taken ∷ answer.Taken ∷ answer.Silent ∷ answer.Taken ∷ answer.Taken ∷ answer.Taken ∷ answer.Taken ∷ answer.Taken ∷ answer.Taken ∷ answer.Taken ∷ answer.Taken
-        ∷ answer.Taken ∷ reply 1 54 1 0 ∷ []
+          answer.Taken ∷ answer.Taken ∷ answer.Silent ∷ answer.Taken ∷ answer.Taken ∷ answer.Taken ∷ answer.Taken ∷ answer.Taken ∷ answer.Taken ∷ answer.Taken ∷ answer.Taken
+          ∷ answer.Taken ∷ reply 1 54 1 0 ∷ [];
     }
 
 -- Configuration 2, mode 1: the window of subframe 12 is 4, 5, 8 and 6; A,A,D,D shares its symbol with A,A,A,N and others.
@@ -102,8 +102,8 @@ shared =
       sends = nothing ∷ nothing ∷ nothing ∷ nothing ∷ grant 1 0 1 ∷ grant 1 5 2 ∷ [];
       items = quiet ∷ quiet ∷ quiet ∷ quiet ∷ hears 0 1 true ∷ hears 5 2 true ∷ quiet ∷ quiet ∷ quiet ∷ quiet ∷ quiet ∷ quiet ∷ quiet ∷ [];
       answers =
-        answer.Taken ∷ answer.Taken ∷ answer.Silent ∷ answer.Taken ∷ answer.Taken ∷ answer.Taken ∷ answer.Taken ∷ answer.Silent ∷ answer.Taken ∷ answer.Taken ∷ answer.Taken
-        ∷ answer.Taken ∷ reply 2 26 1 0 ∷ []
+          answer.Taken ∷ answer.Taken ∷ answer.Silent ∷ answer.Taken ∷ answer.Taken ∷ answer.Taken ∷ answer.Taken ∷ answer.Silent ∷ answer.Taken ∷ answer.Taken ∷ answer.Taken
+          ∷ answer.Taken ∷ reply 2 26 1 0 ∷ [];
     }
 
 -- Configuration 2, mode 0: the window of subframe 7 is -1, 0, 3 and 1, which reaches before the start; the grant in 0 is heard.
@@ -113,7 +113,7 @@ beforeStart =
       set = cell 2 0;
       sends = grant 1 0 1 ∷ [];
       items = hears 0 1 true ∷ quiet ∷ quiet ∷ quiet ∷ quiet ∷ quiet ∷ quiet ∷ quiet ∷ [];
-      answers = answer.Taken ∷ answer.Taken ∷ answer.Silent ∷ answer.Taken ∷ answer.Taken ∷ answer.Taken ∷ answer.Taken ∷ reply 1 21 1 0 ∷ []
+      answers = answer.Taken ∷ answer.Taken ∷ answer.Silent ∷ answer.Taken ∷ answer.Taken ∷ answer.Taken ∷ answer.Taken ∷ reply 1 21 1 0 ∷ [];
     }
 
 abbrev pub AllWorked : List Run → Type 0
@@ -128,11 +128,22 @@ worked r good s b e =
 -- The six runs.
 pub runs : AllWorked (allHeard ∷ missed ∷ refusedBetween ∷ fourLost ∷ shared ∷ beforeStart ∷ [])
 unfolding layouts letterOf downlink timesOf orderOf bundles cellRefusal modeRefusal blocksRefusal settingsRefusal noWindowRefusal windowRefusal table windowOf pairRefusal resourceOf edge regionOf resourceNumber symbolOf tableOf table2 table3 table4 stepOf seenFrom seenOf uplinkRefusal grantRefusal heardRefusal viewOf slotOf heardIn viewIn viewAgo replyOn expected missShown secondBit bundledAnswer stateOf cceOf windowState symbolAnswer multiplexedAnswer windowAnswer answerOf dueOf pushed feedRefusal feedOf fresh makeOf slotSound allSound stateSound stateRefusal
-runs =
-    (worked allHeard refl tt tt refl,
-    (worked missed refl tt tt refl,
-    (worked refusedBetween refl tt tt refl,
-    (worked fourLost refl tt tt refl,
-    (worked shared refl tt tt refl,
-    (worked beforeStart refl tt tt refl,
-    tt))))))
+runs = (
+  worked allHeard refl tt tt refl,
+  (
+    worked missed refl tt tt refl,
+    (
+      worked refusedBetween refl tt tt refl,
+      (
+        worked fourLost refl tt tt refl,
+        (
+          worked shared refl tt tt refl,
+          (
+            worked beforeStart refl tt tt refl,
+            tt,
+          ),
+        ),
+      ),
+    ),
+  ),
+)

@@ -1,0 +1,33 @@
+-- The worked cases of document 01, by computation.
+-- Assumes nothing.
+use mathlib.Core.Path.{refl}
+use Rattle.frame.specs.Order.{timesOf, orderOf}
+use Rattle.frame.specs.Settings.{bundles, cellRefusal, modeRefusal, blocksRefusal, settingsRefusal, noWindowRefusal, windowRefusal}
+use Rattle.frame.specs.Table.{table, windowOf}
+use Rattle.resource.specs.Calls.{pairRefusal, rangeRefusal, resourceOf, inverseOf}
+use Rattle.resource.specs.Formula.{edge, regionOf, resourceNumber}
+use Rattle.reply.specs.Fold.{stepOf, seenFrom, seenOf}
+use Rattle.reply.specs.Replies.{expected, missShown, bundledAnswer, windowAnswer}
+use Rattle.cases.specs.Tabled.{Tabled}
+
+pub tabled : Tabled
+unfolding timesOf orderOf bundles cellRefusal modeRefusal blocksRefusal settingsRefusal noWindowRefusal windowRefusal table windowOf pairRefusal rangeRefusal resourceOf inverseOf edge regionOf resourceNumber stepOf seenFrom seenOf expected missShown bundledAnswer windowAnswer
+tabled =
+    record {
+      bandwidth50 = refl;
+      size = refl;
+      pair00 = refl;
+      pair010 = refl;
+      pair10 = refl;
+      pair110 = refl;
+      pair011 = refl;
+      pair160 = refl;
+      refused61 = (refl, refl);
+      refused9 = refl;
+      refused132 = refl;
+      bandwidth6 = refl;
+      bandwidth110 = refl;
+      position3 = refl;
+      subframe3 = refl;
+      silent = refl;
+    }

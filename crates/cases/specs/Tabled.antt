@@ -1,0 +1,76 @@
+-- The cases that document 01 wants proved ("Cases to prove"), as one fact about the definitions; its lines in their order.
+-- Assumes nothing.
+use Prim.Native.Nat.{ℕ, zero, suc, _+_, _-_, _%_}
+use mathlib.Core.Bool.{true, cond}
+use mathlib.Core.List.{List, [], _∷_, map}
+use mathlib.Core.Path.{_≡_}
+use lib.Dec.{eqb}
+use Rattle.frame.specs.declared.Settings.{Settings}
+use Rattle.frame.specs.Table.{windowOf}
+use Rattle.resource.specs.declared.Inverted.{Inverted}
+use Rattle.resource.specs.declared.Inverted.the-variants as inverted
+use Rattle.resource.specs.declared.Mapped.{Mapped}
+use Rattle.resource.specs.declared.Mapped.the-variants as mapped
+use Rattle.resource.specs.Calls.{sizeOf, resourceOf, inverseOf}
+use Rattle.resource.specs.Formula.{edge}
+use Rattle.reply.specs.declared.Answer.{Answer}
+use Rattle.reply.specs.declared.Answer.the-variants as answer
+use Rattle.reply.specs.declared.View.{View}
+use Rattle.reply.specs.declared.View.the-variants.{Silence, Signalled}
+use Rattle.reply.specs.Replies.{windowAnswer}
+
+-- N_0, N_1, .., N_4
+abbrev pub edges : ℕ → List ℕ
+edges nrb = map (edge nrb) (0 ∷ 1 ∷ 2 ∷ 3 ∷ 4 ∷ [])
+
+-- a cell with N_RB 50 and N1 10, in mode 0, of one block
+abbrev pub cell : ℕ → Settings
+cell config = record { config = config; nrb = 50; n1 = 10; mode = 0; blocks = 1 }
+
+-- the subframe of the frame that lies k before n
+abbrev pub before : ℕ → ℕ → ℕ
+before n k = (n + 20 - k) % 10
+
+-- the position of a subframe in the window of n, from the table: the first m whose k_m leads to it
+abbrev pub positionIn : ℕ → ℕ → List ℕ → ℕ
+positionIn x n [] = zero
+positionIn x n (k ∷ ks) = cond (eqb (before n k) x) zero (suc (positionIn x n ks))
+
+abbrev pub at : ℕ → Mapped
+at r = mapped.At (record { 0 = r })
+
+-- what is heard: a DAI in each subframe of the frame, 0 for nothing; every grant decoded, with first CCE 0
+abbrev pub heard : (ℕ → ℕ) → ℕ → ℕ → View
+heard dais n k = seen (dais (before n k))
+  where
+    seen : ℕ → View
+    seen zero = Silence
+    seen (suc d) = Signalled (record { cce = record { 0 = 0 }; dai = suc d; first = true; second = true })
+
+abbrev pub oneInNineThreeInThree : ℕ → ℕ
+oneInNineThreeInThree x = cond (eqb x 9) 1 (cond (eqb x 3) 3 0)
+
+pub record Tabled : Type 0 where
+  -- "N_RB 50 gives N = 0, 11, 27, 44, 61."
+  pub bandwidth50 : edges 50 ≡ 0 ∷ 11 ∷ 27 ∷ 44 ∷ 61 ∷ []
+  -- "With configuration 1, n = 2 (M = 2), N1 10: (m, c) (0,0) is 10; (0,10) is 20; (1,0) is 21; (1,10) is 31; (0,11) is 32;
+  -- (1,60) is 131;"
+  pub size : sizeOf (cell 1) 2 ≡ 2
+  pub pair00 : resourceOf (cell 1) 2 0 0 ≡ at 10
+  pub pair010 : resourceOf (cell 1) 2 0 10 ≡ at 20
+  pub pair10 : resourceOf (cell 1) 2 1 0 ≡ at 21
+  pub pair110 : resourceOf (cell 1) 2 1 10 ≡ at 31
+  pub pair011 : resourceOf (cell 1) 2 0 11 ≡ at 32
+  pub pair160 : resourceOf (cell 1) 2 1 60 ≡ at 131
+  -- "c 61 is refused 11; resources 9 and 132 are refused 13."
+  pub refused61 : (resourceOf (cell 1) 2 0 61 ≡ mapped.Refused 11) × (resourceOf (cell 1) 2 1 61 ≡ mapped.Refused 11)
+  pub refused9 : inverseOf (cell 1) 2 9 ≡ inverted.Refused 13
+  pub refused132 : inverseOf (cell 1) 2 132 ≡ inverted.Refused 13
+  -- "N_RB 6 gives 0, 1, 3, 5, 7; N_RB 110 gives 0, 24, 61, 97, 134."
+  pub bandwidth6 : edges 6 ≡ 0 ∷ 1 ∷ 3 ∷ 5 ∷ 7 ∷ []
+  pub bandwidth110 : edges 110 ≡ 0 ∷ 24 ∷ 61 ∷ 97 ∷ 134 ∷ []
+  -- "Configuration 2, n = 7, N_RB 50, N1 10: subframe 3 (m = 2) with c 5 is 37."
+  pub position3 : positionIn 3 7 (windowOf 2 7) ≡ 2
+  pub subframe3 : resourceOf (cell 2) 7 (positionIn 3 7 (windowOf 2 7)) 5 ≡ at 37
+  -- "There, in mode 0, DAI 1 heard in 9 and DAI 3 in 3: silent."
+  pub silent : windowAnswer (cell 2) 7 (heard oneInNineThreeInThree 7) ≡ answer.Silent
