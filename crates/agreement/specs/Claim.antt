@@ -5,16 +5,14 @@
 -- Assumes nothing.
 use Prim.Native.Nat.{ℕ, _+_, _%_, _<_}
 use mathlib.Core.Bool.{true, false}
-use mathlib.Core.List.{List, [], map}
+use mathlib.Core.List.{List, []}
 use mathlib.Core.Logic.{_⊎_, _↔_}
 use mathlib.Core.Path.{_≡_}
 use lib.ListN.{length, getD}
 use Rattle.frame.specs.declared.Settings.{Settings}
 use Rattle.frame.specs.Layout.{downlink}
 use Rattle.frame.specs.Once.{InExactlyOne}
-use Rattle.frame.specs.Order.{timesOf}
 use Rattle.frame.specs.Settings.{settingsRefusal, windowRefusal}
-use Rattle.frame.specs.Table.{windowOf}
 use Rattle.resource.specs.declared.Inverted.{Inverted}
 use Rattle.resource.specs.declared.Mapped.{Mapped}
 use Rattle.resource.specs.declared.Mapped.the-variants as mapped
@@ -31,8 +29,8 @@ use Rattle.handset.specs.declared.Handset.{Handset}
 use Rattle.handset.specs.declared.Made.{Made}
 use Rattle.station.specs.declared.Reading.{Reading}
 use Rattle.station.specs.Readings.{GivesBack}
-use Rattle.agreement.specs.Run.{Item, Send, Turn, turns, heardFrom, subframeAt, sentAgo, heardAgo, Schedule, BringsSent}
-use Rattle.agreement.specs.Window.{Entry, at, Bundled, Multiplexed}
+use Rattle.agreement.specs.Run.{Item, Send, Turn, turns, heardFrom, subframeAt, windowAt, sentAgo, heardAgo, Schedule, BringsSent}
+use Rattle.agreement.specs.Window.{inTime, Bundled, Multiplexed}
 
 pub record Engine : Type 0 where
   pub make : Settings → Made
@@ -46,15 +44,15 @@ pub record Answered (e : Engine) (set : Settings) (sent : ℕ → Send) (heard :
   -- "A downlink subframe is answered "taken","
   pub taken : downlink (set .config) (s % 10) ≡ true → a ≡ answer.Taken
   -- "an uplink one without a window "no window", and one with a window "silent" where no reply is sent"
-  pub noWindow : downlink (set .config) (s % 10) ≡ false → windowOf (set .config) (s % 10) ≡ [] → a ≡ answer.NoWindow
+  pub noWindow : downlink (set .config) (s % 10) ≡ false → windowAt set s ≡ [] → a ≡ answer.NoWindow
   -- "Take any window whose uplink subframe was fed too. If 01 bundles it": mode 0, or mode 1 where M = 1
-  pub bundled : 0 < length (windowOf (set .config) (s % 10)) → (set .mode ≡ 0) ⊎ (length (windowOf (set .config) (s % 10)) ≡ 1)
-      → Bundled set (e .read set (s % 10)) (windowOf (set .config) (s % 10))
-      (map (λ (k : ℕ). at k (sentAgo sent s k) (heardAgo heard s k)) (timesOf (windowOf (set .config) (s % 10)))) a
+  pub bundled : 0 < length (windowAt set s) → (set .mode ≡ 0) ⊎ (length (windowAt set s) ≡ 1)
+      → Bundled set (e .read set (s % 10)) (windowAt set s)
+      (inTime (sentAgo sent s) (heardAgo heard s) (windowAt set s)) a
   -- "If 01 multiplexes it": mode 1, and M is not 1
-  pub multiplexed : 0 < length (windowOf (set .config) (s % 10)) → set .mode ≡ 1 → (length (windowOf (set .config) (s % 10)) ≡ 1 → ⊥)
-      → Multiplexed (e .resource set (s % 10)) (e .read set (s % 10)) (windowOf (set .config) (s % 10)) (heardAgo heard s)
-      (map (λ (k : ℕ). at k (sentAgo sent s k) (heardAgo heard s k)) (timesOf (windowOf (set .config) (s % 10)))) a
+  pub multiplexed : 0 < length (windowAt set s) → set .mode ≡ 1 → (length (windowAt set s) ≡ 1 → ⊥)
+      → Multiplexed (e .resource set (s % 10)) (e .read set (s % 10)) (windowAt set s) (heardAgo heard s)
+      (inTime (sentAgo sent s) (heardAgo heard s) (windowAt set s)) a
 
 -- A feed of the run, at the run's next subframe s.
 pub record TurnClaim (e : Engine) (set : Settings) (sent : ℕ → Send) (heard : List Heard) (s : ℕ) (t : Turn) : Type 0 where

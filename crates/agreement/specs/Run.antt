@@ -64,6 +64,10 @@ sentAgo sent s k = cond (leb k s) (sent (s - k)) nothing
 abbrev pub heardAgo : List Heard → ℕ → ℕ → Heard
 heardAgo heard s k = cond (leb k s) (getD heard (s - k) Nothing) Nothing
 
+-- "Each s whose s mod 10 has a window in the table, past the end of the list too, has the window s − k_0, s − k_1, .."
+abbrev pub windowAt : Settings → ℕ → List ℕ
+windowAt set s = windowOf (set .config) (s % 10)
+
 -- "its grants carry DAIs by the station's rule, lost ones counted": the j-th grant of a window in time order carries
 -- ((j − 1) mod 4) + 1; here j grants came before.
 abbrev pub RuleFrom : ℕ → List Send → Type 0
@@ -75,8 +79,7 @@ RuleFrom j (grant b c d ∷ sends) = (d ≡ j % 4 + 1) × RuleFrom (suc j) sends
 pub record Schedule (set : Settings) (sent : ℕ → Send) : Type 0 where
   -- "A grant, heard or lost, is valid if neither 9 to 12 .. would refuse it"; 9 leaves uplink subframes nothing.
   pub valid : (s : ℕ) → heardRefusal set (s % 10) (asHeard (sent s)) ≡ 0
-  -- "Each s whose s mod 10 has a window in the table .. has the window s − k_0, s − k_1, .."
-  pub rule : (s : ℕ) → RuleFrom 0 (map (sentAgo sent s) (timesOf (windowOf (set .config) (s % 10))))
+  pub rule : (s : ℕ) → RuleFrom 0 (map (sentAgo sent s) (timesOf (windowAt set s)))
 
 -- "A sent grant is heard if its feed brings it, with blocks carried, first CCE and DAI as sent, and lost if its feed brings
 -- nothing. A feed not refused brings only what was sent."

@@ -8,6 +8,7 @@ use mathlib.Core.Path.{_≡_}
 use lib.Dec.{eqb}
 use lib.ListN.{length, getD}
 use Rattle.frame.specs.declared.Settings.{Settings}
+use Rattle.frame.specs.Order.{timesOf}
 use Rattle.resource.specs.declared.Mapped.{Mapped}
 use Rattle.resource.specs.declared.Mapped.the-variants as mapped
 use Rattle.reply.specs.declared.Answer.{Answer}
@@ -27,6 +28,10 @@ use Rattle.agreement.specs.Run.{Send, nothing, grant}
 -- A subframe of a window: its k, what was sent there and what was heard.
 pub data Entry : Type 0 where
   at : (k : ℕ) → (sent : Send) → (heard : Heard) → Entry
+
+-- The subframes of a window with K = ks, in time order: k falling.
+abbrev pub inTime : (ℕ → Send) → (ℕ → Heard) → List ℕ → List Entry
+inTime sent heard ks = map (λ (k : ℕ). at k (sent k) (heard k)) (timesOf ks)
 
 abbrev pub isHeard : Heard → Bool
 isHeard Nothing = false

@@ -16,7 +16,7 @@ use Rattle.resource.specs.Calls.{mappedAs, invertedAs, resourceIn, inver
 use Rattle.resource.specs.Cell.{Cell}
 use Rattle.resource.proofs.OneToOne.{resource-call, inverse-call}
 
-mapped-first : (k w next r : ℕ) → k ≡ w → (k ≡ 0 → ⊥) → mapped.Refused k ≡ mappedAs (orElse w next) r
+pub mapped-first : (k w next r : ℕ) → k ≡ w → (k ≡ 0 → ⊥) → mapped.Refused k ≡ mappedAs (orElse w next) r
 mapped-first k zero next r e h = absurd (h e)
 mapped-first k (suc w) next r e h = rw e
 

@@ -11,6 +11,11 @@ pub edge-none : (nrb : ℕ) → edge nrb 0 ≡ 0
 unfolding edge
 edge-none nrb = omega arith
 
+-- N_4 of the narrowest cell is 7.
+pub edge-least : (nrb : ℕ) → 6 ≤ nrb → 7 ≤ edge nrb 4
+unfolding edge
+edge-least nrb h = omega arith
+
 -- N_4 of the widest cell is 134.
 pub edge-most : (nrb : ℕ) → nrb ≤ 110 → edge nrb 4 ≤ 134
 unfolding edge

@@ -1,6 +1,8 @@
 pub mod Called
+pub mod Counts
 pub mod Edges
 pub mod Layers
 pub mod OneToOne
 pub mod Refused
 pub mod Room
+pub mod Sized

@@ -182,3 +182,11 @@ call-back s n m c r e =
     let good : windowRefusal s n ≡ 0 = call-accepted s n m c (record { 0 = r }) e in
     let f = mapped-in (s .nrb) (s .n1) (sizeOf s n) m c r (sym (resource-call s n good m c) ∙ e) in
     inverse-call s n good r ∙ rw (f .2) at (paired (s .nrb) (s .n1) (sizeOf s n) m c (f .0) (f .1) .back)
+
+-- A resource that the call gives lies in the window's range.
+pub resource-range : (s : Settings) (n : ℕ) → windowRefusal s n ≡ 0 → (m c r : ℕ) → resourceOf s n m c ≡ mapped.At (record { 0 = r })
+    → (s .n1 ≤ r) × (r < s .n1 + sizeOf s n * edge (s .nrb) 4)
+resource-range s n e m c r h =
+    let f = mapped-in (s .nrb) (s .n1) (sizeOf s n) m c r (sym (resource-call s n e m c) ∙ h) in
+    let g = rw (f .2) at (forth (s .nrb) (s .n1) (sizeOf s n) m c (f .0) (f .1)) in
+    (g .low, g .high)

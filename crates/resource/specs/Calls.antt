@@ -5,7 +5,7 @@ use mathlib.Core.Bool.{cond, _&&_}
 use lib.Dec.{ltb, leb}
 use lib.ListN.{length}
 use Rattle.frame.specs.declared.Settings.{Settings}
-use Rattle.frame.specs.Settings.{orElse, windowRefusal}
+use Rattle.frame.specs.Settings.{orElse, outside, settingsRefusal, windowRefusal}
 use Rattle.frame.specs.Table.{windowOf}
 use Rattle.resource.specs.declared.Mapped.{Mapped}
 use Rattle.resource.specs.declared.Mapped.the-variants as mapped
@@ -31,6 +31,10 @@ pairRefusal nrb size m c = cond (ltb m size && ltb c (edge nrb 4)) 0 11
 unfoldable pub rangeRefusal : ℕ → ℕ → ℕ → ℕ → ℕ
 rangeRefusal nrb n1 size r = cond (leb n1 r && ltb r (n1 + size * edge nrb 4)) 0 13
 
+-- N_4, which a first CCE lies below; 0 where N_RB is refused.
+unfoldable pub ccesOf : ℕ → ℕ
+ccesOf nrb = cond (outside 6 110 nrb) 0 (edge nrb 4)
+
 -- In a window of M positions: 11, else the formula's resource.
 unfoldable pub resourceIn : ℕ → ℕ → ℕ → ℕ → ℕ → Mapped
 resourceIn nrb n1 size m c = mappedAs (pairRefusal nrb size m c) (resourceNumber nrb n1 size m c)
@@ -48,6 +52,12 @@ unfoldable pub resourceOf : Settings → ℕ → ℕ → ℕ → Mapped
 resourceOf s n m c =
     mappedAs (orElse (windowRefusal s n) (pairRefusal (s .nrb) (sizeOf s n) m c))
     (resourceNumber (s .nrb) (s .n1) (sizeOf s n) m c)
+
+-- The resource call where M is told: 1 to 6, 7 where no window has that M, then 11, else the formula's resource.
+unfoldable pub resourceSized : Settings → ℕ → ℕ → ℕ → Mapped
+resourceSized s size m c =
+    mappedAs (orElse (settingsRefusal s) (orElse (cond (outside 1 9 size) 7 0) (pairRefusal (s .nrb) size m c)))
+    (resourceNumber (s .nrb) (s .n1) size m c)
 
 -- The inverse call: 1 to 7, then 13, else the pair.
 unfoldable pub inverseOf : Settings → ℕ → ℕ → Inverted

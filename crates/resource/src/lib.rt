@@ -3,7 +3,7 @@ use frame::Settings;
 ghost use mathlib.Core.Path.{_≡_};
 ghost use Prim.Native.Nat.{_<_, _≤_};
 ghost use Rattle.resource.specs.Formula.{edge, regionOf};
-ghost use Rattle.resource.specs.Calls.{resourceIn, inverseIn, resourceOf, inverseOf};
+ghost use Rattle.resource.specs.Calls.{ccesOf, resourceIn, inverseIn, resourceOf, resourceSized, inverseOf};
 ghost use Rattle.resource.specs.Cell.{Cell};
 
 // The number of a grant's first CCE. CCEs and PUCCH resources are counted apart: only `resource_of` and `inverse_of` lead from
@@ -67,6 +67,23 @@ pub fn resource_of(s: Settings, n: u16, m: u16, c: Cce) -> Mapped
     resource_in(s, w.size, m, c)
 }
 
+// The same where the window's size M is told, for a caller that asks for many grants of one window; 7 where no window has that size.
+pub fn resource_sized(s: Settings, size: u16, m: u16, c: Cce) -> Mapped
+    ensures { λ r. ⌜ r ≡ resourceSized s size m (c .0) ⌝ }
+{
+    let refusal = frame::settings_refusal(s);
+    if refusal != 0 {
+        return Mapped::Refused(refusal);
+    }
+    if size < 1 {
+        return Mapped::Refused(7);
+    }
+    if 9 < size {
+        return Mapped::Refused(7);
+    }
+    resource_in(s, size, m, c)
+}
+
 // The position and first CCE whose resource this is, in the window of uplink subframe n.
 pub fn inverse_of(s: Settings, n: u16, r: Resource) -> Inverted
     ensures { λ p. ⌜ p ≡ inverseOf s n (r .0) ⌝ }
@@ -77,6 +94,19 @@ pub fn inverse_of(s: Settings, n: u16, r: Resource) -> Inverted
     }
     let w = frame::window_of(s.config, n);
     inverse_in(s, w.size, r)
+}
+
+// N_4, which a first CCE lies below; 0 where N_RB is refused.
+pub fn cces_of(nrb: u16) -> u16
+    ensures { λ r. ⌜ r ≡ ccesOf nrb ⌝ }
+{
+    if nrb < 6 {
+        return 0;
+    }
+    if 110 < nrb {
+        return 0;
+    }
+    edge_of(nrb, 4)
 }
 
 // N_p = max(0, floor(N_RB × (12 × p − 4) / 36)), p 0 to 4.

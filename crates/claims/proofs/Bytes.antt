@@ -1,0 +1,53 @@
+-- The byte of a claim: its resource less N1, or 0 where the call refuses it.
+-- Assumes nothing.
+use Prim.Native.Nat.{ℕ, _+_, _-_, _/_, _%_, _≤_}
+use mathlib.Core.Bool.{false≢true}
+use mathlib.Core.Path.{_≡_, refl, sym, ap, _∙_}
+use native.Mathlib.Omega.{arith}
+use borrow.Author.Tests.{eq-eqb}
+use Rattle.resource.specs.declared.Mapped.{Mapped}
+use Rattle.resource.specs.declared.Mapped.the-variants as mapped
+use Rattle.resource.specs.declared.Resource.{Resource}
+use Rattle.resource.specs.Calls.{resourceSized}
+use Rattle.resource.proofs.Counts.{resources-least}
+use Rattle.resource.proofs.OneToOne.{resource-range}
+use Rattle.resource.proofs.Sized.{resource-sized}
+use Rattle.claims.specs.declared.Cell.{Cell}
+use Rattle.claims.specs.Claims.{positionIn, cceIn, claimed, resourcesOf, isResource}
+use Rattle.claims.specs.Marking.{Has, Accepted, Byte}
+use Rattle.claims.proofs.Share.{has-resource}
+
+-- what was asked for the claim, and answered
+module _ (cell : Cell) (known : Accepted cell) (claim c : ℕ) (a : Mapped) (cce : c ≡ claim % 256)
+    (asked : a ≡ resourceSized (cell .s) (cell .size) (claim / 256) c) where
+  answer : claimed (cell .s) (cell .n) claim ≡ a
+  answer =
+      sym (resource-sized (cell .s) (cell .n) (known .accepted) (positionIn claim) (cceIn claim))
+      ∙ rw (← known .positions, ← cce) (sym asked)
+
+  module _ (x : Resource) (r : ℕ) (at : a ≡ mapped.At x) (number : r ≡ x .0) where
+    has : Has (cell .s) (cell .n) claim r
+    has = rw number (answer ∙ at)
+
+    pub from-n1 : cell .s .n1 ≤ r
+    from-n1 = resource-range (cell .s) (cell .n) (known .accepted) (positionIn claim) (cceIn claim) r has .0
+
+    pub byte-given : Byte (cell .s) (cell .n) claim (r - cell .s .n1)
+    unfolding resourcesOf
+    byte-given =
+        let back : r ≡ r - cell .s .n1 + cell .s .n1 = omega (arith, from-n1) in
+        record {
+          below = omega (arith, from-n1, resource-range (cell .s) (cell .n) (known .accepted) (positionIn claim) (cceIn claim) r has .1);
+          resource = λ good. rw back at has;
+        }
+
+  pub byte-refused : (k : ℕ) → a ≡ mapped.Refused k → Byte (cell .s) (cell .n) claim 0
+  unfolding resourcesOf
+  byte-refused k refused =
+      record {
+        below = resources-least (cell .s) (cell .n) (known .accepted);
+        resource = λ good.
+            let f = has-resource (cell .s) (cell .n) (known .accepted) claim good in
+            let z = ap (λ (a : Mapped). isResource a (f .0)) (sym (answer ∙ refused) ∙ f .1) in
+            absurd (false≢true (z ∙ eq-eqb (f .0) (f .0) refl));
+      }

@@ -1,0 +1,105 @@
+-- Claims of a cell: document 01, "Claims of a cell" and refusals 15 and 16.
+-- Assumes nothing.
+use Prim.Native.Nat.{ℕ, zero, suc, _+_, _*_, _/_, _%_}
+use mathlib.Core.Bool.{Bool, false, cond, not, _&&_, _||_}
+use mathlib.Core.List.{List, [], _∷_, _++_}
+use lib.Dec.{ltb, eqb}
+use lib.ListN.{length, getD, drop}
+use Rattle.frame.specs.declared.Settings.{Settings}
+use Rattle.frame.specs.Settings.{orElse, windowRefusal}
+use Rattle.resource.specs.declared.Mapped.{Mapped}
+use Rattle.resource.specs.declared.Mapped.the-variants as mapped
+use Rattle.resource.specs.Calls.{sizeOf, resourceOf}
+use Rattle.resource.specs.Formula.{edge}
+use Rattle.claims.specs.declared.Verdict.{Verdict}
+use Rattle.claims.specs.declared.Verdict.the-variants.{Clean, Clash, Bad, Refused}
+
+-- A claim is m × 256 + first CCE.
+abbrev pub positionIn : ℕ → ℕ
+positionIn claim = claim / 256
+
+abbrev pub cceIn : ℕ → ℕ
+cceIn claim = claim % 256
+
+-- The resource call's answer for a claim.
+abbrev pub claimed : Settings → ℕ → ℕ → Mapped
+claimed s n claim = resourceOf s n (positionIn claim) (cceIn claim)
+
+-- M × N_4, the number of resources of the window: the scratch that is asked for.
+unfoldable pub resourcesOf : Settings → ℕ → ℕ
+resourcesOf s n = sizeOf s n * edge (s .nrb) 4
+
+-- 16: m not below M or CCE not below N_4.
+unfoldable pub isBad : Settings → ℕ → ℕ → Bool
+isBad s n claim = not (ltb (positionIn claim) (sizeOf s n) && ltb (cceIn claim) (edge (s .nrb) 4))
+
+-- The first index, of `count` from i on, at which the test passes; the one after them where it passes at none.
+abbrev pub firstIndex : (ℕ → Bool) → ℕ → ℕ → ℕ
+firstIndex test zero i = i
+firstIndex test (suc count) i = cond (test i) i (firstIndex test count (suc i))
+
+-- The first bad claim; the length of the list where none is bad.
+unfoldable pub firstBad : Settings → ℕ → List ℕ → ℕ
+firstBad s n claims = firstIndex (λ (i : ℕ). isBad s n (getD claims i 0)) (length claims) 0
+
+-- The claim stands in the list before index i.
+abbrev pub earlier : List ℕ → ℕ → ℕ → Bool
+earlier claims zero claim = false
+earlier claims (suc i) claim = eqb (getD claims i 0) claim || earlier claims i claim
+
+-- The first claim equal to an earlier one; the length of the list where there is none.
+unfoldable pub firstClash : List ℕ → ℕ
+firstClash claims = firstIndex (λ (i : ℕ). earlier claims i (getD claims i 0)) (length claims) 0
+
+-- 15: scratch shorter than M × N_4. A call refuses 1 to 7, then 15.
+unfoldable pub scratchRefusal : Settings → ℕ → ℕ → ℕ
+scratchRefusal s n room = orElse (windowRefusal s n) (cond (ltb room (resourcesOf s n)) 15 0)
+
+-- 01's answer of a list that is not refused for settings, subframe or scratch: 16 for a bad claim anywhere, with the first one's
+-- index; else the index of the first claim equal to an earlier one; else clean.
+unfoldable pub verdictOn : Settings → ℕ → List ℕ → Verdict
+verdictOn s n claims =
+    cond (ltb (firstBad s n claims) (length claims)) (Bad (firstBad s n claims))
+    (cond (ltb (firstClash claims) (length claims)) (Clash (firstClash claims))
+    Clean)
+
+abbrev pub refusedOr : ℕ → Verdict → Verdict
+refusedOr zero verdict = verdict
+refusedOr (suc k) verdict = Refused (suc k)
+
+-- The answer to a list of claims with a scratch of `room` bytes.
+unfoldable pub verdictOf : Settings → ℕ → List ℕ → ℕ → Verdict
+verdictOf s n claims room = refusedOr (scratchRefusal s n room) (verdictOn s n claims)
+
+-- The answer is the resource with number r.
+abbrev pub isResource : Mapped → ℕ → Bool
+isResource (mapped.At x) r = eqb (x .0) r
+isResource (mapped.Refused k) r = false
+
+-- t + N1 is the resource of a claim before index e.
+abbrev pub marked : Settings → ℕ → List ℕ → ℕ → ℕ → Bool
+marked s n claims zero t = false
+marked s n claims (suc e) t = isResource (claimed s n (getD claims e 0)) (t + s .n1) || marked s n claims e t
+
+-- The bytes t, t + 1, .., `count` of them: 1 where marked, else 0.
+abbrev pub marks : Settings → ℕ → List ℕ → ℕ → ℕ → ℕ → List ℕ
+marks s n claims e zero t = []
+marks s n claims e (suc count) t = cond (marked s n claims e t) 1 0 ∷ marks s n claims e count (suc t)
+
+-- The scratch with the marks of the claims before index e; bytes from M × N_4 on keep their values.
+unfoldable pub markedUpTo : Settings → ℕ → List ℕ → List ℕ → ℕ → List ℕ
+markedUpTo s n claims old e = marks s n claims e (resourcesOf s n) 0 ++ drop (resourcesOf s n) old
+
+-- The scratch with the marks of the claims before the clash, of all where there is none.
+unfoldable pub markedScratch : Settings → ℕ → List ℕ → List ℕ → List ℕ
+markedScratch s n claims old = markedUpTo s n claims old (firstClash claims)
+
+-- The scratch after the call: as it was on a refusal, 16 included.
+abbrev pub scratchAfter : Verdict → List ℕ → List ℕ → List ℕ
+scratchAfter Clean new old = new
+scratchAfter (Clash i) new old = new
+scratchAfter (Bad i) new old = old
+scratchAfter (Refused k) new old = old
+
+unfoldable pub scratchOf : Settings → ℕ → List ℕ → List ℕ → List ℕ
+scratchOf s n claims old = scratchAfter (verdictOf s n claims (length old)) (markedScratch s n claims old) old

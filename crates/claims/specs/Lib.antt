@@ -1,0 +1,4 @@
+pub mod Claims
+pub mod Clean
+pub mod First
+pub mod Marking

@@ -1,0 +1,130 @@
+// Claims of a cell (document 01): which claim is the first that equals an earlier one.
+use frame::Settings;
+use resource::Cce;
+use resource::Mapped;
+ghost use mathlib.Core.Path.{_≡_};
+ghost use lib.ListN.{length, replicate};
+ghost use Rattle.claims.specs.Claims.{isBad, firstBad, firstClash, markedUpTo, verdictOf, scratchOf};
+ghost use Rattle.claims.specs.Marking.{Accepted, Ready, Byte};
+
+// The answer: clean; the first claim equal to an earlier one; refusal 16 with the first bad claim; any other refusal.
+pub enum Verdict {
+    Clean,
+    Clash(usize),
+    Bad(usize),
+    Refused(u16),
+}
+
+// A cell in uplink subframe n: its settings, M and N_4.
+struct Cell {
+    s: Settings,
+    n: u16,
+    size: u16,
+    top: u16,
+}
+
+// The answer to the claims of uplink subframe n. Unless it is a refusal, the scratch then holds the marks of the claims before
+// the clash, of all claims where there is none.
+pub fn claims_of(s: Settings, n: u16, claims: &[u16], scratch: &mut [u8]) -> Verdict
+    ensures { λ r. ⌜ r ≡ verdictOf s n (now (claims .entry)) (length (now (scratch .entry))) ⌝ }
+    ensures { λ _. ⌜ now (scratch .exit) ≡ scratchOf s n (now (claims .entry)) (now (scratch .entry)) ⌝ }
+{
+    let refusal = frame::window_refusal(s, n);
+    if refusal != 0 {
+        return Verdict::Refused(refusal);
+    }
+    let w = frame::window_of(s.config, n);
+    let top = resource::cces_of(s.nrb);
+    let room = (w.size * top) as usize;
+    if scratch.len() < room {
+        return Verdict::Refused(15);
+    }
+    let cell = Cell {
+        s,
+        n,
+        size: w.size,
+        top,
+    };
+    let bad = first_bad(cell, claims);
+    if bad < claims.len() {
+        return Verdict::Bad(bad);
+    }
+    clear(&mut scratch[..room]);
+    let clash = mark(cell, claims, scratch);
+    if clash < claims.len() {
+        return Verdict::Clash(clash);
+    }
+    Verdict::Clean
+}
+
+// 16: m not below M or CCE not below N_4.
+fn is_bad(cell: Cell, claim: u16) -> bool
+    requires { ⌜ Accepted cell ⌝ }
+    ensures { λ r. ⌜ r ≡ isBad (cell .s) (cell .n) claim ⌝ }
+{
+    if claim / 256 < cell.size {
+        if claim % 256 < cell.top {
+            return false;
+        }
+    }
+    true
+}
+
+// The first bad claim; the length of the list where none is bad.
+fn first_bad(cell: Cell, claims: &[u16]) -> usize
+    requires { ⌜ Accepted cell ⌝ }
+    ensures { λ r. ⌜ r ≡ firstBad (cell .s) (cell .n) (now (claims .entry)) ⌝ }
+{
+    let mut i = 0;
+    while i < claims.len() {
+        if is_bad(cell, claims[i]) {
+            return i;
+        }
+        i += 1;
+    }
+    i
+}
+
+// Clears every byte.
+fn clear(bytes: &mut [u8])
+    ensures { λ _. ⌜ now (bytes .exit) ≡ replicate (length (now (bytes .entry))) 0 ⌝ }
+{
+    let mut i = 0;
+    while i < bytes.len() {
+        bytes[i] = 0;
+        i += 1;
+    }
+}
+
+// The byte of a claim, its resource less N1; 0 for a claim without a resource, so that no claim has a byte past the room.
+fn byte_of(cell: Cell, claim: u16) -> usize
+    requires { ⌜ Accepted cell ⌝ }
+    ensures { λ t. ⌜ Byte (cell .s) (cell .n) claim t ⌝ }
+{
+    let s = cell.s;
+    let answer = resource::resource_sized(s, cell.size, claim / 256, Cce::new(claim % 256));
+    match answer {
+        Mapped::At(r) => (r.number() - s.n1) as usize,
+        Mapped::Refused(_) => 0,
+    }
+}
+
+// Marks the claims in a cleared scratch up to the first clash, and answers its index; the length of the list where there is none.
+// Each claim is read once.
+fn mark(cell: Cell, claims: &[u16], scratch: &mut [u8]) -> usize
+    requires { ⌜ Ready cell (now claims) (now scratch) ⌝ }
+    ensures { λ r. ⌜ r ≡ firstClash (now (claims .entry)) ⌝ }
+    ensures { λ r. ⌜ now (scratch .exit) ≡ markedUpTo (cell .s) (cell .n) (now (claims .entry)) (now (scratch .entry)) r ⌝ }
+{
+    let mut i = 0;
+    while i < claims.len() {
+        let claim = claims[i];
+        let t = byte_of(cell, claim);
+        if scratch[t] != 0 {
+            return i;
+        }
+        scratch[t] = 1;
+        i += 1;
+    }
+    i
+}
