@@ -1,5 +1,8 @@
 -- Document 01's refusal number and values for each case of an answer, as a C caller gets them.
 -- Assumes nothing.
+use Prim.Native.Nat.{ℕ}
+use mathlib.Core.Bool.{not}
+use lib.Dec.{eqb}
 use Rattle.resource.specs.declared.Mapped.{Mapped}
 use Rattle.resource.specs.declared.Mapped.the-variants as mapped
 use Rattle.resource.specs.declared.Inverted.{Inverted}
@@ -8,7 +11,14 @@ use Rattle.station.specs.declared.Reading.{Reading}
 use Rattle.station.specs.declared.Reading.the-variants as reading
 use Rattle.claims.specs.declared.Verdict.{Verdict}
 use Rattle.claims.specs.declared.Verdict.the-variants as verdict
+use Rattle.reply.specs.declared.Answer.{Answer}
+use Rattle.reply.specs.declared.Answer.the-variants as answer
+use Rattle.reply.specs.declared.Heard.{Heard}
+use Rattle.reply.specs.declared.Heard.the-variants.{Granted}
+use Rattle.handset.specs.declared.Fed.{Fed}
+use Rattle.handset.specs.declared.Handset.{Handset}
 use Rattle.feedback.specs.declared.ClaimsAnswer.{ClaimsAnswer}
+use Rattle.feedback.specs.declared.FedAnswer.{FedAnswer}
 use Rattle.feedback.specs.declared.ReadingAnswer.{ReadingAnswer}
 use Rattle.feedback.specs.declared.ResourceAnswer.{ResourceAnswer}
 use Rattle.feedback.specs.declared.InverseAnswer.{InverseAnswer}
@@ -33,3 +43,22 @@ claimsAnswer verdict.Clean = record { kind = 0; refusal = 0; index = 0 }
 claimsAnswer (verdict.Clash i) = record { kind = 1; refusal = 0; index = i }
 claimsAnswer (verdict.Bad i) = record { kind = 2; refusal = 16; index = i }
 claimsAnswer (verdict.Refused k) = record { kind = 2; refusal = k; index = 0 }
+
+abbrev pub noReply : ℕ → ℕ → Handset → FedAnswer
+noReply refusal kind h = record { refusal = refusal; kind = kind; resource = 0; b0 = 0; b1 = 0; handset = h }
+
+abbrev pub answerNumbers : Answer → Handset → FedAnswer
+answerNumbers answer.Taken h = noReply 0 4 h
+answerNumbers answer.NoWindow h = noReply 0 5 h
+answerNumbers answer.Silent h = noReply 0 3 h
+answerNumbers (answer.Sent r) h =
+    record { refusal = 0; kind = r .kind; resource = r .resource .0; b0 = r .b0; b1 = r .b1; handset = h }
+answerNumbers (answer.Refused k) h = noReply k 0 h
+
+abbrev pub fedAnswer : Fed → FedAnswer
+fedAnswer f = answerNumbers (f .answer) (f .handset)
+
+-- A grant as a C caller feeds it: a block is decoded unless its flag is 0.
+abbrev pub grantOf : ℕ → ℕ → ℕ → ℕ → ℕ → Heard
+grantOf blocks first second cce dai =
+    Granted (record { blocks = blocks; first = not (eqb first 0); second = not (eqb second 0); cce = record { 0 = cce }; dai = dai })

@@ -2,6 +2,12 @@
 // wide. An answer is a struct of numbers: the refusal, 0 for none, and the values, each 0 where the call refuses.
 use claims::Verdict;
 use frame::Settings;
+use handset::Fed;
+use handset::Handset;
+use handset::Made;
+use reply::Answer;
+use reply::Grant;
+use reply::Heard;
 use resource::Cce;
 use resource::Inverted;
 use resource::Mapped;
@@ -12,7 +18,10 @@ ghost use Rattle.resource.specs.Calls.{resourceOf, inverseOf};
 ghost use Rattle.station.specs.Readings.{readOf};
 ghost use Rattle.claims.specs.Claims.{verdictOf, scratchOf};
 ghost use lib.ListN.{length};
-ghost use Rattle.feedback.specs.Answers.{resourceAnswer, inverseAnswer, readingAnswer, claimsAnswer};
+ghost use Rattle.feedback.specs.Answers.{resourceAnswer, inverseAnswer, readingAnswer, claimsAnswer, noReply, answerNumbers, fedAnswer, grantOf};
+ghost use Rattle.handset.specs.Feed.{feedOf};
+ghost use Rattle.handset.specs.Make.{makeOf};
+ghost use Rattle.reply.specs.declared.Heard.the-variants.{Nothing};
 
 #[repr(C)]
 pub struct ResourceAnswer {
@@ -47,6 +56,17 @@ pub struct ClaimsAnswer {
     pub kind: u16,
     pub refusal: u16,
     pub index: u64,
+}
+
+// Kind 1 is a bundled reply, 2 a multiplexed one, 3 silent, 4 taken, 5 no window; 0 where refused. The handset after the feed.
+#[repr(C)]
+pub struct FedAnswer {
+    pub refusal: u16,
+    pub kind: u16,
+    pub resource: u16,
+    pub b0: u16,
+    pub b1: u16,
+    pub handset: Handset,
 }
 
 fn resource_numbers(x: Mapped) -> ResourceAnswer
@@ -142,6 +162,49 @@ fn claims_numbers(x: Verdict) -> ClaimsAnswer
     }
 }
 
+fn no_reply(refusal: u16, kind: u16, handset: Handset) -> FedAnswer
+    ensures { λ r. ⌜ r ≡ noReply refusal kind handset ⌝ }
+{
+    FedAnswer {
+        refusal,
+        kind,
+        resource: 0,
+        b0: 0,
+        b1: 0,
+        handset,
+    }
+}
+
+fn answer_numbers(x: Answer, handset: Handset) -> FedAnswer
+    ensures { λ r. ⌜ r ≡ answerNumbers x handset ⌝ }
+{
+    match x {
+        Answer::Taken => no_reply(0, 4, handset),
+        Answer::NoWindow => no_reply(0, 5, handset),
+        Answer::Silent => no_reply(0, 3, handset),
+        Answer::Refused(k) => no_reply(k, 0, handset),
+        Answer::Sent(r) => {
+            let resource = r.resource;
+            FedAnswer {
+                refusal: 0,
+                kind: r.kind,
+                resource: resource.number(),
+                b0: r.b0,
+                b1: r.b1,
+                handset,
+            }
+        }
+    }
+}
+
+fn fed_numbers(f: Fed) -> FedAnswer
+    ensures { λ r. ⌜ r ≡ fedAnswer f ⌝ }
+{
+    let answer = f.answer;
+    let handset = f.handset;
+    answer_numbers(answer, handset)
+}
+
 #[no_mangle]
 pub extern "C" fn feedback_resource(
     settings: Settings,
@@ -185,4 +248,40 @@ pub extern "C" fn feedback_claims(
     ensures { λ _. ⌜ now (scratch .exit) ≡ scratchOf settings n (now (claims .entry)) (now (scratch .entry)) ⌝ }
 {
     claims_numbers(claims::claims_of(settings, n, claims, scratch))
+}
+
+#[no_mangle]
+pub extern "C" fn feedback_make(settings: Settings) -> Made
+    ensures { λ r. ⌜ r ≡ makeOf settings ⌝ }
+{
+    handset::make(settings)
+}
+
+#[no_mangle]
+pub extern "C" fn feedback_feed_nothing(handset: Handset) -> FedAnswer
+    ensures { λ r. ⌜ r ≡ fedAnswer (feedOf handset Nothing) ⌝ }
+{
+    fed_numbers(handset::feed(handset, Heard::Nothing))
+}
+
+// A decoded flag is a number: decoded unless it is 0.
+#[no_mangle]
+pub extern "C" fn feedback_feed_grant(
+    handset: Handset,
+    blocks: u16,
+    first: u16,
+    second: u16,
+    cce: u16,
+    dai: u16,
+) -> FedAnswer
+    ensures { λ r. ⌜ r ≡ fedAnswer (feedOf handset (grantOf blocks first second cce dai)) ⌝ }
+{
+    let grant = Grant {
+        blocks,
+        first: first != 0,
+        second: second != 0,
+        cce: Cce::new(cce),
+        dai,
+    };
+    fed_numbers(handset::feed(handset, Heard::Granted(grant)))
 }

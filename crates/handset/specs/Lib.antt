@@ -1,3 +1,4 @@
 pub mod Feed
 pub mod Make
 pub mod Sound
+pub mod Stored

@@ -1,5 +1,11 @@
 // The running handset (document 01, "The running handset"): made from settings, then fed subframe after subframe.
+mod feeding;
+mod making;
+mod state;
+
+pub use feeding::feed;
 use frame::Settings;
+pub use making::make;
 use reply::Answer;
 use reply::Slot;
 
@@ -12,6 +18,7 @@ pub struct Handset {
 }
 
 // A handset that was made, or the refusal, 0 for none, with a handset that every feed refuses.
+#[repr(C)]
 pub struct Made {
     pub refusal: u16,
     pub handset: Handset,

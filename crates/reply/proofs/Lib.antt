@@ -1,1 +1,3 @@
 pub mod Folding
+pub mod Multiplexing
+pub mod Valid

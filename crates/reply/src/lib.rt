@@ -1,15 +1,18 @@
 // What a handset hears, and what a reply sees of it (document 01, "What a handset hears").
+mod answers;
+mod checks;
 mod fold;
 
+pub use answers::answer_in;
+pub use checks::heard_in;
+pub use checks::heard_refusal;
 pub use fold::seen_in;
-use frame::Settings;
 use resource::Cce;
 use resource::Resource;
 ghost use mathlib.Core.Bool.{cond};
 ghost use mathlib.Core.Path.{_≡_};
-ghost use Prim.Native.Nat.{_<_, _≤_};
-ghost use Rattle.reply.specs.Heard.{heardRefusal, grantRefusal, uplinkRefusal};
-ghost use Rattle.reply.specs.Memory.{heardIn, slotOf, viewIn, viewAgo};
+ghost use Prim.Native.Nat.{_≤_};
+ghost use Rattle.reply.specs.Memory.{viewIn, viewAgo};
 ghost use Rattle.reply.specs.Fold.{stepOf};
 
 // A grant: the blocks it carries, which of them decoded, its first CCE and its DAI, as raw numbers.

@@ -2,6 +2,7 @@
 use frame::Settings;
 ghost use mathlib.Core.Path.{_≡_};
 ghost use Prim.Native.Nat.{_<_, _≤_};
+ghost use lib.Dec.{ltb};
 ghost use Rattle.resource.specs.Formula.{edge, regionOf};
 ghost use Rattle.resource.specs.Calls.{ccesOf, resourceIn, inverseIn, resourceOf, resourceSized, inverseOf};
 ghost use Rattle.resource.specs.Cell.{Cell};
@@ -132,6 +133,15 @@ fn region_of(nrb: u16, c: u16) -> u16
         }
         p += 1;
     }
+}
+
+// A first CCE is below N_4, whatever N_RB is.
+pub fn is_cce(nrb: u16, c: Cce) -> bool
+    ensures { λ r. ⌜ r ≡ ltb (c .0) (edge nrb 4) ⌝ }
+{
+    let number = c.0 as u32;
+    let width = nrb as u32;
+    number < width * 44 / 36
 }
 
 // The formula, in a window of `size` positions: resource = (M − m − 1) × N_p + m × N_(p+1) + c + N1.

@@ -1,0 +1,63 @@
+-- What a state is where 8 is not met, and a feed where none of 8 to 12 is.
+-- Assumes nothing.
+use Prim.Native.Nat.{ℕ, _≤_}
+use mathlib.Core.Bool.{Bool, true, false, _&&_}
+use mathlib.Core.Path.{_≡_, refl}
+use native.Mathlib.Omega.{arith}
+use lib.Dec.{eqb, leb}
+use borrow.Author.Tests.{leb-true, eqb-true}
+use Rattle.frame.specs.declared.Settings.{Settings}
+use Rattle.frame.specs.Settings.{settingsRefusal}
+use Rattle.frame.proofs.Accepted.{Accepted, accepted, neither}
+use Rattle.resource.proofs.Edges.{edge-most}
+use Rattle.reply.specs.declared.Heard.{Heard}
+use Rattle.reply.specs.declared.Heard.the-variants.{Nothing, Granted}
+use Rattle.reply.specs.Heard.{heardRefusal}
+use Rattle.reply.proofs.Valid.{Valid, valid, held}
+use Rattle.handset.specs.declared.Handset.{Handset}
+use Rattle.handset.specs.Feed.{feedRefusal}
+use Rattle.handset.specs.Sound.{allSound, stateSound, stateRefusal}
+use Rattle.handset.specs.Stored.{Storable}
+
+both : (a b : Bool) → (a && b) ≡ true → (a ≡ true) × (b ≡ true)
+both true b e = (refl, e)
+both false b e = let z : _≡_ {A = ℕ} 0 1 = cc in absurd (omega arith)
+
+-- Where 8 is not met.
+pub record Sound (h : Handset) : Type 0 where
+  pub settings : Accepted (h .settings)
+  pub next : h .next ≤ 9
+  pub past : allSound (h .settings) (h .next) (h .past) ≡ true
+
+pub sound : (h : Handset) → stateRefusal h ≡ 0 → Sound h
+unfolding stateRefusal stateSound
+sound h e =
+    let first : Bool = eqb (settingsRefusal (h .settings)) 0 in
+    let all : Bool = allSound (h .settings) (h .next) (h .past) in
+    let a = both (first && leb (h .next) 9) all (held (stateSound h) 7 0 e .0) in
+    let b = both first (leb (h .next) 9) (a .0) in
+    record {
+      settings = accepted (h .settings) (eqb-true (settingsRefusal (h .settings)) 0 (b .0));
+      next = leb-true (h .next) 9 (b .1);
+      past = a .1;
+    }
+
+-- What is valid in a cell fits the bytes of a slot.
+storable : (s : Settings) (n : ℕ) (x : Heard) → Accepted s → heardRefusal s n x ≡ 0 → Storable x
+storable s n Nothing a e = tt
+storable s n (Granted g) a e =
+    let v : Valid s n g = valid s n g e in
+    omega (arith, v .cce, v .daiMost, edge-most (s .nrb) (a .nrbMost))
+
+-- Where 8 to 12 are not met.
+pub record Passed (h : Handset) (x : Heard) : Type 0 where
+  pub state : Sound h
+  pub heard : heardRefusal (h .settings) (h .next) x ≡ 0
+  pub stored : Storable x
+
+pub passed : (h : Handset) (x : Heard) → feedRefusal h x ≡ 0 → Passed h x
+unfolding feedRefusal
+passed h x e =
+    let a = neither (stateRefusal h) (heardRefusal (h .settings) (h .next) x) e in
+    let state : Sound h = sound h (a .0) in
+    record { state = state; heard = a .1; stored = storable (h .settings) (h .next) x (state .settings) (a .1) }

@@ -1,0 +1,75 @@
+-- `handset::state::all_sound` meets its contract. The loop's invariant: the slots before i passed. The measure is the slots left.
+-- Assumes nothing.
+use Prim.Native.Nat.{_-_, _<_, _≤_}
+use mathlib.Core.Path.{_≡_, refl}
+use native.Mathlib.Omega.{arith}
+use borrow.Author.Tests.{not-true, not-false}
+use lib.ListN.{length, drop}
+use Rattle.handset.specs.Sound.{allSound}
+use Rattle.handset.proofs.Remembered.{sound-next, sound-not, sound-end}
+use Rattle.handset.proofs.state.all_sound.Statement.{statement}
+use Rattle.handset.proofs.state.all_sound.Tie as tie
+
+abbrev Inv-loop : tie.InvT-loop
+Inv-loop s next past n₀ i₀ n i = (n ≤ 9) × (i ≤ 13) × (allSound s next past ≡ allSound s n (drop i past))
+
+abbrev μ-loop : tie.MeasureT-loop
+μ-loop s next past n₀ i₀ n i = 13 - i
+
+loop-holds : tie.Need-loop-holds Inv-loop μ-loop
+loop-holds c = (omega arith, omega arith, refl)
+
+add-n : tie.Need-add-n Inv-loop μ-loop
+add-n c = omega arith
+
+mul-t : tie.Need-mul-t Inv-loop μ-loop
+mul-t c = omega arith
+
+array-copy-out-t : tie.Need-array-copy-out-t Inv-loop μ-loop
+array-copy-out-t c = omega arith
+
+is-sound-requires : tie.Need-is-sound-requires Inv-loop μ-loop
+is-sound-requires c κs = tt
+
+-- a slot of the thirteen
+inside : (c : tie.In-loop Inv-loop μ-loop) → c .before .loop .i < length (c .before .before .args .t3)
+inside c = omega (arith, c .before .before .good .1 .1 .0 .1 .0 .1)
+
+returns : tie.Need-returns Inv-loop μ-loop
+returns c =
+    let turn = c .before .before .before in
+    sound-not _ _ _ _ _ (turn .before .loop .inv .2) (inside turn) _ (c .before .is-sound .ensures) (not-true _ (c .if1 .taken))
+
+add-i : tie.Need-add-i Inv-loop μ-loop
+add-i c = omega arith
+
+loop-less : tie.Need-loop-less Inv-loop μ-loop
+loop-less c = omega arith
+
+loop-again : tie.Need-loop-again Inv-loop μ-loop
+loop-again c =
+    let turn = c .before .before .before in (
+      omega arith,
+      omega arith,
+      sound-next _ _ _ _ _ (turn .before .loop .inv .2) (inside turn) _ (c .before .is-sound .ensures) (not-false _ (c .if1 .left)),
+    )
+
+returns-2 : tie.Need-returns-2 Inv-loop μ-loop
+returns-2 c = sound-end _ _ _ _ _ (c .before .loop .inv .2) _ (c .before .before .good .1 .1 .0 .1 .0 .1) (c .loop-test .left)
+
+pub all-sound-spec : {M : Type 1} → statement M
+all-sound-spec =
+    tie.close
+    (tie.spec
+    Inv-loop
+    μ-loop
+    loop-holds
+    add-n
+    mul-t
+    array-copy-out-t
+    is-sound-requires
+    returns
+    add-i
+    loop-less
+    loop-again
+    returns-2)

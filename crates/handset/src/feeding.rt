@@ -1,0 +1,127 @@
+// Feeding a handset what the next subframe heard (document 01, "The running handset"; refusals 8 to 12).
+use crate::Fed;
+use crate::Handset;
+use crate::state::state_refusal;
+use reply::Answer;
+use reply::Heard;
+use reply::Slot;
+ghost use mathlib.Core.Path.{_≡_};
+ghost use mathlib.Core.List.{_∷_};
+ghost use Prim.Native.Nat.{_≤_};
+ghost use Rattle.reply.specs.Memory.{bit, slotOf};
+ghost use Rattle.handset.specs.Feed.{dueOf, pushed, feedRefusal, feedOf};
+ghost use Rattle.handset.specs.Make.{slotsFrom};
+ghost use Rattle.handset.specs.Stored.{Storable};
+
+fn bit_of(b: bool) -> u8
+    ensures { λ r. ⌜ (r ≡ bit b) × (r ≤ 1) ⌝ }
+{
+    if b {
+        return 1;
+    }
+    0
+}
+
+// What is remembered of a subframe.
+fn slot_of(x: Heard) -> Slot
+    requires { ⌜ Storable x ⌝ }
+    ensures { λ r. ⌜ r ≡ slotOf x ⌝ }
+{
+    match x {
+        Heard::Nothing => Slot {
+            kind: 0,
+            cce: 0,
+            dai: 0,
+            results: 0,
+        },
+        Heard::Granted(g) => {
+            let cce = g.cce.number() as u8;
+            let dai = g.dai as u8;
+            let first = bit_of(g.first);
+            let second = bit_of(g.second);
+            let two = bit_of(g.blocks == 2);
+            Slot {
+                kind: 1,
+                cce,
+                dai,
+                results: first + 2 * second + 4 * two,
+            }
+        }
+    }
+}
+
+// The newest slot before the others; the oldest is dropped.
+fn shifted(newest: Slot, p: [Slot; 13]) -> [Slot; 13]
+    ensures { λ r. ⌜ r ≡ newest ∷ slotsFrom 12 0 p ⌝ }
+{
+    [
+        newest,
+        p[0],
+        p[1],
+        p[2],
+        p[3],
+        p[4],
+        p[5],
+        p[6],
+        p[7],
+        p[8],
+        p[9],
+        p[10],
+        p[11],
+    ]
+}
+
+// The handset with the subframe remembered; after 9 comes 0.
+fn push(h: Handset, x: Heard) -> Handset
+    requires { ⌜ feedRefusal h x ≡ 0 ⌝ }
+    ensures { λ r. ⌜ r ≡ pushed h x ⌝ }
+{
+    let settings = h.settings;
+    let last = h.past;
+    let past = shifted(slot_of(x), last);
+    Handset {
+        settings,
+        next: (h.next + 1) % 10,
+        past,
+    }
+}
+
+// The answer at the subframe that is expected: "taken" in a downlink one, else what its window says.
+fn due(h: Handset) -> Answer
+    ensures { λ r. ⌜ r ≡ dueOf h ⌝ }
+{
+    let s = h.settings;
+    if frame::is_downlink(s.config, h.next) {
+        return Answer::Taken;
+    }
+    let past = h.past;
+    reply::answer_in(s, h.next, past)
+}
+
+// 8, then 9 to 12 for what is brought in the subframe that is expected; 0 if the feed is not refused.
+fn feed_refusal(h: Handset, x: Heard) -> u16
+    ensures { λ r. ⌜ r ≡ feedRefusal h x ⌝ }
+{
+    let state = state_refusal(h);
+    if state != 0 {
+        return state;
+    }
+    let s = h.settings;
+    reply::heard_refusal(s, h.next, x)
+}
+
+// The answer to what the next subframe heard, and the handset after it; a refusal leaves the handset as it was.
+pub fn feed(h: Handset, x: Heard) -> Fed
+    ensures { λ r. ⌜ r ≡ feedOf h x ⌝ }
+{
+    let refusal = feed_refusal(h, x);
+    if refusal != 0 {
+        return Fed {
+            answer: Answer::Refused(refusal),
+            handset: h,
+        };
+    }
+    let answer = due(h);
+    let handset = push(h, x);
+    Fed { answer, handset }
+}

@@ -1,0 +1,54 @@
+// Refusal 8: what a lent state must be (document 01, "Causes and their numbers").
+use crate::Handset;
+use frame::Settings;
+use reply::Slot;
+ghost use mathlib.Core.Path.{_≡_};
+ghost use Prim.Native.Nat.{_≤_};
+ghost use Rattle.handset.specs.Sound.{slotSound, allSound, stateRefusal};
+
+// A remembered subframe is of a kind that there is, and what it heard is valid in subframe n.
+fn is_sound(s: Settings, n: u16, t: Slot) -> bool
+    ensures { λ r. ⌜ r ≡ slotSound s n t ⌝ }
+{
+    if 1 < t.kind {
+        return false;
+    }
+    let x = reply::heard_in(t);
+    reply::heard_refusal(s, n, x) == 0
+}
+
+// Every remembered subframe is sound in the subframe it was fed in: the newest in the one before `next`, and so on back.
+fn all_sound(s: Settings, next: u16, past: [Slot; 13]) -> bool
+    requires { ⌜ next ≤ 9 ⌝ }
+    ensures { λ r. ⌜ r ≡ allSound s next past ⌝ }
+{
+    let mut n = next;
+    let mut i = 0;
+    while i < 13 {
+        n = (n + 9) % 10;
+        let t = past[i];
+        if !is_sound(s, n, t) {
+            return false;
+        }
+        i += 1;
+    }
+    true
+}
+
+// 8 where the state fails 1 to 6, expects a subframe over 9, or remembers a grant failing 9 to 12; else 0.
+pub fn state_refusal(h: Handset) -> u16
+    ensures { λ r. ⌜ r ≡ stateRefusal h ⌝ }
+{
+    let s = h.settings;
+    if frame::settings_refusal(s) != 0 {
+        return 8;
+    }
+    if 9 < h.next {
+        return 8;
+    }
+    let past = h.past;
+    if all_sound(s, h.next, past) {
+        return 0;
+    }
+    8
+}

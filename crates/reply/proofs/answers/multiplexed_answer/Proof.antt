@@ -1,0 +1,79 @@
+-- `reply::answers::multiplexed_answer` meets its contract. Assumes nothing.
+use Prim.Native.Nat.{_<_}
+use native.Mathlib.Omega.{arith}
+use borrow.Author.Needs.{needs}
+use Rattle.reply.proofs.Folding.{size-small}
+use Rattle.reply.proofs.Multiplexing.{k-range, index-small, symbol-silent, symbol-sent}
+use Rattle.reply.proofs.answers.multiplexed_answer.Statement.{statement}
+use Rattle.reply.proofs.answers.multiplexed_answer.Tie as tie
+
+code-of-requires : tie.Need-code-of-requires
+code-of-requires c κs = search needs
+
+symbol-of-requires : tie.Need-symbol-of-requires
+symbol-of-requires c κs = search needs
+
+enum-told : tie.Need-enum-told
+enum-told c = search needs
+
+enum-known-y : tie.Need-enum-known-y
+enum-known-y c = search needs
+
+cast-view-ago : tie.Need-cast-view-ago
+cast-view-ago c = search needs
+
+mul-view-ago : tie.Need-mul-view-ago
+mul-view-ago c = search needs
+
+-- the index is a position of the window
+small : (c : tie.After-k) → c .before .before .y .given .0 .0 < c .before .before .before .before .before .before .args .w .size
+small c =
+    let arm = c .before .before in
+    let start = arm .before .before .before .before in
+    index-small (start .args .s) _ _ _ (start .pre) _ (arm .before .before .before .code-of .ensures) _ (arm .before .before .symbol-of .ensures) _ _ _
+    (arm .y .given .1)
+
+array-read-view-ago : tie.Need-array-read-view-ago
+array-read-view-ago c = omega (arith, small c, size-small _ _ _ (c .before .before .before .before .before .before .pre))
+
+view-ago-requires : tie.Need-view-ago-requires
+view-ago-requires c κs = k-range _ _ _ (c .before .before .before .before .before .before .pre) _ (small c)
+
+cce-of-requires : tie.Need-cce-of-requires
+cce-of-requires c κs = search needs
+
+resource-of-requires : tie.Need-resource-of-requires
+resource-of-requires c κs = search needs
+
+reply-on-requires : tie.Need-reply-on-requires
+reply-on-requires c κs = search needs
+
+returns : tie.Need-returns
+returns c =
+    let symbol = c .before .before in
+    symbol-silent _ _ _ _ (symbol .before .before .pre) _ (symbol .before .code-of .ensures) _ (symbol .symbol-of .ensures) (c .enum-told .given .1)
+
+returns-2 : tie.Need-returns-2
+returns-2 c =
+    let heard = c .before .before .before in
+    let arm = heard .before .before .before in
+    symbol-sent _ _ _ _ (arm .before .before .before .before .pre) _ (arm .before .before .before .code-of .ensures) _ (arm .before .before .symbol-of .ensures) _ _ _
+    (arm .y .given .1) _ (heard .view-ago .ensures) _ (c .before .before .cce-of .ensures) _ (c .before .resource-of .ensures) _ (c .reply-on .ensures)
+
+pub multiplexed-answer-spec : {M : Type 1} → statement M
+multiplexed-answer-spec =
+    tie.close
+    (tie.spec
+    code-of-requires
+    symbol-of-requires
+    enum-told
+    enum-known-y
+    cast-view-ago
+    mul-view-ago
+    array-read-view-ago
+    view-ago-requires
+    cce-of-requires
+    resource-of-requires
+    reply-on-requires
+    returns
+    returns-2)

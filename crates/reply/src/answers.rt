@@ -1,0 +1,157 @@
+// The reply of a window (document 01, "The bundled reply" and "The multiplexed reply").
+use crate::Answer;
+use crate::Reply;
+use crate::Seen;
+use crate::Slot;
+use crate::View;
+use crate::seen_in;
+use crate::view_ago;
+use frame::Settings;
+use frame::Window;
+use resource::Cce;
+use resource::Mapped;
+use symbols::Symbol;
+ghost use mathlib.Core.Path.{_≡_};
+ghost use Prim.Native.Nat.{_≤_};
+ghost use Rattle.frame.specs.Coded.{codedWindow};
+ghost use Rattle.frame.specs.Table.{windowOf};
+ghost use Rattle.symbols.specs.Coded.{digitOf, codeOf};
+ghost use Rattle.reply.specs.Memory.{bit, viewAgo};
+ghost use Rattle.reply.specs.Replies.{replyOn, missShown, secondBit, bundledAnswer};
+ghost use Rattle.reply.specs.Replies.{stateOf, cceOf, windowState, multiplexedAnswer, windowAnswer};
+
+fn bit_of(b: bool) -> u16
+    ensures { λ r. ⌜ r ≡ bit b ⌝ }
+{
+    if b {
+        return 1;
+    }
+    0
+}
+
+fn reply_on(kind: u16, mapped: Mapped, b0: u16, b1: u16) -> Answer
+    ensures { λ r. ⌜ r ≡ replyOn kind mapped b0 b1 ⌝ }
+{
+    match mapped {
+        Mapped::At(resource) => Answer::Sent(Reply {
+            kind,
+            resource,
+            b0,
+            b1,
+        }),
+        Mapped::Refused(_) => Answer::Silent,
+    }
+}
+
+// A miss is shown by V: it is not the DAI that the last of U grants has where none was missed.
+fn miss_shown(s: Settings, seen: Seen) -> bool
+    requires { ⌜ 1 ≤ seen .u ⌝ }
+    ensures { λ r. ⌜ r ≡ missShown s seen ⌝ }
+{
+    if s.config == 0 {
+        return false;
+    }
+    seen.v != (seen.u - 1) % 4 + 1
+}
+
+fn second_bit(s: Settings, seen: Seen) -> u16
+    ensures { λ r. ⌜ r ≡ secondBit s seen ⌝ }
+{
+    if s.blocks == 2 {
+        return bit_of(seen.second);
+    }
+    0
+}
+
+// The bundled reply, from what the fold over the window found.
+fn bundled_answer(s: Settings, n: u16, seen: Seen) -> Answer
+    ensures { λ r. ⌜ r ≡ bundledAnswer s n seen ⌝ }
+{
+    if seen.u == 0 {
+        return Answer::Silent;
+    }
+    if miss_shown(s, seen) {
+        return Answer::Silent;
+    }
+    let cce = seen.cce;
+    let mapped = resource::resource_of(s, n, seen.position, cce);
+    let b0 = bit_of(seen.first);
+    let b1 = second_bit(s, seen);
+    reply_on(1, mapped, b0, b1)
+}
+
+// The digit of a position's state: 0 for A, 1 for N, 2 for D.
+fn digit_of(x: View) -> u16
+    ensures { λ r. ⌜ r ≡ digitOf (stateOf x) ⌝ }
+{
+    match x {
+        View::Silence => 2,
+        View::Signalled(g) => {
+            if g.first {
+                if g.second {
+                    return 0;
+                }
+            }
+            1
+        }
+    }
+}
+
+fn cce_of(x: View) -> Cce
+    ensures { λ r. ⌜ r .0 ≡ cceOf x ⌝ }
+{
+    match x {
+        View::Silence => Cce::new(0),
+        View::Signalled(g) => g.cce,
+    }
+}
+
+// The number of the window's state: a base-3 digit for each position, position 0 first.
+fn code_of(past: [Slot; 13], config: u16, n: u16, w: Window) -> u16
+    requires { ⌜ w ≡ codedWindow (windowOf config n) ⌝ }
+    ensures { λ r. ⌜ r ≡ codeOf (windowState (viewAgo past) (windowOf config n)) ⌝ }
+{
+    let size = w.size;
+    let k = w.k;
+    let mut code: u16 = 0;
+    let mut m: u16 = 0;
+    while m < size {
+        let x = view_ago(past, k[m as usize]);
+        code = code * 3 + digit_of(x);
+        m += 1;
+    }
+    code
+}
+
+// The multiplexed reply: the symbol of the window's state, on the resource of its index.
+fn multiplexed_answer(s: Settings, n: u16, past: [Slot; 13], w: Window) -> Answer
+    requires { ⌜ w ≡ codedWindow (windowOf (s .config) n) ⌝ }
+    ensures { λ r. ⌜ r ≡ multiplexedAnswer s n (viewAgo past) (windowOf (s .config) n) ⌝ }
+{
+    let code = code_of(past, s.config, n, w);
+    let y = symbols::symbol_of(w.size, code);
+    match y {
+        Symbol::Silent => Answer::Silent,
+        Symbol::Sent(i, b0, b1) => {
+            let k = w.k;
+            let x = view_ago(past, k[i as usize]);
+            let mapped = resource::resource_of(s, n, i, cce_of(x));
+            reply_on(2, mapped, b0, b1)
+        }
+    }
+}
+
+// The answer of uplink subframe n, over what is remembered.
+pub fn answer_in(s: Settings, n: u16, past: [Slot; 13]) -> Answer
+    ensures { λ r. ⌜ r ≡ windowAnswer s n (viewAgo past) ⌝ }
+{
+    let w = frame::window_of(s.config, n);
+    if w.size == 0 {
+        return Answer::NoWindow;
+    }
+    if frame::is_bundled(s, w.size) {
+        let seen = seen_in(past, s.config, n);
+        return bundled_answer(s, n, seen);
+    }
+    multiplexed_answer(s, n, past, w)
+}
