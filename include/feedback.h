@@ -1,72 +1,155 @@
 /*
- * feedback.h: acknowledgement feedback for TDD LTE on PUCCH
+ * feedback.h: HARQ-ACK feedback for TDD LTE on PUCCH, both ends
  *
- * The rules are those of 3GPP TS 36.213 version 9.3.0 (Release 9), sections 7.3
- * and 10.1, for one serving cell with normal dynamic grants. Link with
- * libfeedback.a.
+ * The handset end hears grants and says what to send on PUCCH. The station end
+ * reads what came in on PUCCH and says which grants are acknowledged. The rules
+ * are those of 3GPP TS 36.213 version 9.3.0 (Release 9), sections 7.3 and 10.1,
+ * for one serving cell with normal dynamic grants and PUCCH formats 1a, 1b and
+ * 1b with channel selection. Link with libfeedback.a.
  *
- * Terms
+ *   calls of the station    feedback_resource, feedback_inverse,
+ *                           feedback_reading, feedback_claims
+ *   calls of the handset    feedback_make, feedback_feed_nothing,
+ *                           feedback_feed_grant
  *
- *   subframe   0 to 9 in the frame; n is always the uplink subframe in which
- *              the reply is sent.
- *   window     the M downlink (or special) subframes n - k_0, n - k_1, .. that
- *              are answered in n. K = k_0, k_1, .. is printed in Table 10.1-1:
+ * examples/cell.c runs both ends against each other.
  *
- *              configuration   n: K
- *              0               2: 6    4: 4    7: 6    9: 4
- *              1               2: 7,6    3: 4    7: 7,6    8: 4
- *              2               2: 8,7,4,6    7: 8,7,4,6
- *              3               2: 7,6,11    3: 6,5    4: 5,4
- *              4               2: 12,8,7,11    3: 6,5,4,7
- *              5               2: 13,12,9,8,7,5,4,11,6
- *              6               2: 7    3: 7    4: 5    7: 7    8: 7
  *
- *   position   m, 0 to M - 1, counted in K as printed. K is not sorted: the
- *              last position need not be the latest subframe.
- *   first CCE  the number of the first CCE of the PDCCH that carried a grant,
- *              below N_4.
- *   N_p        max(0, floor(N_RB * (12 * p - 4) / 36)), p 0 to 4. A first CCE c
- *              is in the region p with N_p <= c < N_(p+1).
- *   resource   the number of the PUCCH resource on which a reply is sent,
- *              (M - m - 1) * N_p + m * N_(p+1) + c + N1.
+ * TERMS
  *
- * In each window the pairs of position and first CCE and the resources N1 to
- * N1 + M * N_4 - 1 belong to each other one to one.
+ * subframe    0 to 9 in the frame. Downlink here means a downlink subframe or a
+ *             special one: both carry grants. n is always the uplink subframe in
+ *             which the reply is sent.
+ * grant       a PDCCH that schedules one or two transport blocks in its own
+ *             subframe. Its first CCE and its DAI come with it.
+ * window      the M downlink subframes n - k_0, n - k_1, .. that are answered in
+ *             n. K = k_0, k_1, .. is printed in Table 10.1-1; an uplink subframe
+ *             that is not in it has no window. Each downlink subframe is in
+ *             exactly one window.
  *
- * Numbers
+ *             configuration   0 to 9        n: K
+ *             0               DSUUUDSUUU    2: 6    4: 4    7: 6    9: 4
+ *             1               DSUUDDSUUD    2: 7,6    3: 4    7: 7,6    8: 4
+ *             2               DSUDDDSUDD    2: 8,7,4,6    7: 8,7,4,6
+ *             3               DSUUUDDDDD    2: 7,6,11    3: 6,5    4: 5,4
+ *             4               DSUUDDDDDD    2: 12,8,7,11    3: 6,5,4,7
+ *             5               DSUDDDDDDD    2: 13,12,9,8,7,5,4,11,6
+ *             6               DSUUUDSUUD    2: 7    3: 7    4: 5    7: 7    8: 7
  *
- * Every number is 16 bits wide and unsigned. A call may be given any numbers:
- * it does its work, or it refuses and says why. A wider number is cut to 16 bits
- * by C before the call sees it; hand over none above 65535.
+ * position    m, 0 to M - 1, counted in K as printed. K is not sorted: the last
+ *             position need not be the latest subframe. In 8,7,4,6 the latest is
+ *             m = 2. Time order inside a window is k falling.
+ * first CCE   the number of the first CCE of the PDCCH that carried the grant,
+ *             0 to N_4 - 1.
+ * N_p         max(0, floor(N_RB * (12 * p - 4) / 36)), p 0 to 4. A first CCE c
+ *             is in the region p with N_p <= c < N_(p+1).
+ * resource    the number of the PUCCH resource on which a reply is sent:
+ *             (M - m - 1) * N_p + m * N_(p+1) + c + N1. In each window the pairs
+ *             of position and first CCE and the resources N1 to
+ *             N1 + M * N_4 - 1 belong to each other one to one.
+ * DAI         1 to 4, counts the grants of a window: the j-th grant that the
+ *             station sends in a window, in time order, carries
+ *             ((j - 1) mod 4) + 1. Grants that get lost are counted too.
+ * bundled     one reply for the window, in mode 0, and in mode 1 where M = 1.
+ *             The handset is silent if it heard no grant. In configurations 1 to
+ *             6 it is silent too if the DAI of the last grant heard, V, shows a
+ *             miss: V is not ((U - 1) mod 4) + 1, where U grants were heard.
+ *             Else a block's bit is ACK (1) if every grant heard decoded that
+ *             block, and the resource is that of the last grant heard, last in
+ *             time. One bit (format 1a) in a cell with one block, two (1b) with
+ *             two. There a grant that carries one block answers for both bits.
+ * multiplexed in mode 1 where M is 2 to 4. Each position is A (heard, every
+ *             block carried was decoded), N (heard, not so) or D (not heard).
+ *             Tables 10.1-2 to 10.1-4 give a position i and two bits for the
+ *             states of the M positions; the reply is sent on the resource of
+ *             position i, which was always heard. All D is silent.
  *
- * Refusals
  *
- * Every answer begins with a refusal, 0 for none. All other values of an answer
- * that refuses are 0. Where several causes are met, the lowest number is given.
+ * NUMBERS
  *
- *    1   configuration over 6
- *    2   N_RB not 6 to 110
- *    3   N1 over 2047
- *    4   mode not 0 or 1
- *    5   mode 1, configuration 5
- *    6   blocks not 1 or 2
- *    7   subframe over 9 or without a window
- *   11   first CCE not below N_4, or position not below M
- *   13   resource below N1 or above N1 + M * N_4 - 1
+ * Numbers are unsigned and 16 bits wide unless their type says otherwise. A call
+ * may be given any numbers: it does its work, or it refuses and says why. C cuts
+ * a wider number to 16 bits before the call sees it: hand over none above 65535.
  *
- * The calls get and give everything by value. They keep nothing from one call
- * to the next and may be made from several threads at once.
+ * Answers come back by value. The calls keep nothing from one call to the next,
+ * allocate nothing, and may be made from several threads at once.
  */
 #ifndef FEEDBACK_H
 #define FEEDBACK_H
 
+#include <stddef.h>
 #include <stdint.h>
 
 #ifdef __cplusplus
 extern "C" {
 #endif
 
-/* The settings of a cell. 10 bytes. */
+/*
+ * Why a call refuses: the value of refusal in every answer. Each call names the
+ * refusals it can give. Where several causes are met, the lowest number is given.
+ * Beside a refusal every other number of the answer is 0, but for the index that
+ * comes with 16 and the handset that a feed gives back. A refused call changes
+ * nothing: no buffer is written, no state moves on, nothing is made.
+ */
+enum feedback_refusal {
+    FEEDBACK_NOT_REFUSED = 0,
+    FEEDBACK_REFUSED_CONFIGURATION = 1, /* configuration over 6 */
+    FEEDBACK_REFUSED_BANDWIDTH = 2,     /* N_RB not 6 to 110 */
+    FEEDBACK_REFUSED_N1 = 3,            /* N1 over 2047 */
+    FEEDBACK_REFUSED_MODE = 4,          /* mode not 0 or 1 */
+    FEEDBACK_REFUSED_MULTIPLEXING = 5,  /* mode 1, configuration 5 */
+    FEEDBACK_REFUSED_BLOCKS = 6,        /* blocks not 1 or 2 */
+    FEEDBACK_REFUSED_SUBFRAME = 7,      /* subframe over 9 or without a window */
+    FEEDBACK_REFUSED_STATE = 8,         /* lent state fails 1 to 6, expects a subframe over 9, or
+                                           remembers a grant failing 9 to 12 there; or remembers
+                                           a kind that does not exist */
+    FEEDBACK_REFUSED_UPLINK = 9,        /* grant in an uplink subframe */
+    FEEDBACK_REFUSED_CARRIED = 10,      /* blocks carried 0 or over the setting */
+    FEEDBACK_REFUSED_CCE = 11,          /* first CCE not below N_4 (also position not below M, in
+                                           feedback_resource) */
+    FEEDBACK_REFUSED_DAI = 12,          /* DAI not 1 to 4 */
+    FEEDBACK_REFUSED_RESOURCE = 13,     /* resource below N1 or above N1 + M * N_4 - 1 */
+    FEEDBACK_REFUSED_BITS = 14,         /* bit over 1, second bit set in a one-bit reply, or a
+                                           symbol in no row of Tables 10.1-2 to 10.1-4 */
+    FEEDBACK_REFUSED_SCRATCH = 15,      /* scratch shorter than M * N_4 */
+    FEEDBACK_REFUSED_CLAIM = 16         /* claim with m not below M or CCE not below N_4 */
+};
+
+/* The kind of a feed's answer, and of a reading (there 0, 1 or 2). */
+enum feedback_kind {
+    FEEDBACK_REFUSED = 0,     /* refused; the refusal says why */
+    FEEDBACK_BUNDLED = 1,     /* a bundled reply: ACK bits */
+    FEEDBACK_MULTIPLEXED = 2, /* a multiplexed reply: channel selection */
+    FEEDBACK_SILENT = 3,      /* an uplink subframe with a window: nothing is to be sent */
+    FEEDBACK_TAKEN = 4,       /* a downlink subframe: taken into the memory */
+    FEEDBACK_NO_WINDOW = 5    /* an uplink subframe without a window */
+};
+
+/* The kind of an answer about claims. */
+enum feedback_claims_kind {
+    FEEDBACK_CLAIMS_CLEAN = 0,  /* no two claims are equal */
+    FEEDBACK_CLAIMS_CLASH = 1,  /* two claims are equal */
+    FEEDBACK_CLAIMS_REFUSED = 2 /* refused; the refusal says why */
+};
+
+/* The mode of a cell, as in feedback_settings. */
+enum feedback_mode {
+    FEEDBACK_MODE_BUNDLING = 0,
+    FEEDBACK_MODE_MULTIPLEXING = 1
+};
+
+/* What a remembered subframe brought, as in feedback_slot: the kinds, and the bits of results. */
+enum feedback_slot_kind {
+    FEEDBACK_SLOT_NOTHING = 0,
+    FEEDBACK_SLOT_GRANT = 1
+};
+enum feedback_slot_results {
+    FEEDBACK_FIRST_DECODED = 1,  /* the first block, or the only one, was decoded */
+    FEEDBACK_SECOND_DECODED = 2, /* the second block was decoded */
+    FEEDBACK_TWO_CARRIED = 4     /* the grant carried two blocks, else one */
+};
+
+/* The settings of a cell. 10 bytes. Every call that takes them refuses 1 to 6 for them. */
 struct feedback_settings {
     uint16_t config; /* uplink-downlink configuration, 0 to 6 */
     uint16_t nrb;    /* bandwidth N_RB in resource blocks, 6 to 110 */
@@ -77,15 +160,75 @@ struct feedback_settings {
 
 /* The answer of feedback_resource. 4 bytes. */
 struct feedback_resource_answer {
-    uint16_t refusal;  /* 0, or 1 2 3 4 5 6 7 11 */
+    uint16_t refusal;  /* 0, or 1 to 7 or 11 */
     uint16_t resource; /* the PUCCH resource, N1 to N1 + M * N_4 - 1; 0 if refused */
 };
 
 /* The answer of feedback_inverse. 6 bytes. */
 struct feedback_inverse_answer {
-    uint16_t refusal;  /* 0, or 1 2 3 4 5 6 7 13 */
+    uint16_t refusal;  /* 0, or 1 to 7 or 13 */
     uint16_t position; /* the position m in the window, 0 to M - 1; 0 if refused */
     uint16_t cce;      /* the first CCE, 0 to N_4 - 1; 0 if refused */
+};
+
+/* The answer of feedback_reading. 14 bytes. */
+struct feedback_reading_answer {
+    uint16_t refusal;   /* 0, or 1 to 7, 13 or 14 */
+    uint16_t kind;      /* FEEDBACK_BUNDLED or FEEDBACK_MULTIPLEXED; 0 if refused */
+    uint16_t position;  /* the position m of the grant whose resource this is; 0 if refused */
+    uint16_t cce;       /* the first CCE of that grant; 0 if refused */
+    uint16_t b0;        /* bundled: 1 ACK of the first block, 0 NACK; else 0 */
+    uint16_t b1;        /* bundled: 1 ACK of the second block, 0 NACK; else 0 */
+    uint16_t delivered; /* multiplexed: bit p (value 1 << p) is 1 if position p is delivered;
+                           else 0 */
+};
+
+/* The answer of feedback_claims. 16 bytes. */
+struct feedback_claims_answer {
+    uint16_t kind;    /* FEEDBACK_CLAIMS_CLEAN, FEEDBACK_CLAIMS_CLASH or FEEDBACK_CLAIMS_REFUSED */
+    uint16_t refusal; /* 0, or 1 to 7, 15 or 16 */
+    uint64_t index;   /* clash: the index of the first claim that is equal to an earlier one;
+                         refused 16: the index of the first bad claim; else 0 */
+};
+
+/* One remembered subframe. 4 bytes. */
+struct feedback_slot {
+    uint8_t kind;    /* FEEDBACK_SLOT_NOTHING (the rest has no meaning) or FEEDBACK_SLOT_GRANT */
+    uint8_t cce;     /* the first CCE of the grant */
+    uint8_t dai;     /* the DAI of the grant, 1 to 4 */
+    uint8_t results; /* bits of enum feedback_slot_results; the other bits have no meaning */
+};
+
+/*
+ * The state of a handset. 64 bytes without padding.
+ *
+ * feedback_make makes one, a feed takes one and gives back the next. It is plain
+ * bytes: it may be copied, stored, and given back later, as often as you like,
+ * on a machine of the same byte order. Other bytes may be given as well: a feed
+ * then refuses 8, or answers as for the grants that these bytes say were heard.
+ */
+struct feedback_handset {
+    struct feedback_settings settings;
+    uint16_t next;                 /* the subframe that the next feed brings, 0 to 9 */
+    struct feedback_slot past[13]; /* the last 13 subframes, the newest first */
+};
+
+/* The answer of feedback_make. 66 bytes. */
+struct feedback_made {
+    uint16_t refusal;                /* 0, or 1 to 6 */
+    struct feedback_handset handset; /* the fresh handset; 64 zero bytes if refused, a state
+                                        that every feed refuses with 8 */
+};
+
+/* The answer of a feed. 74 bytes. */
+struct feedback_fed {
+    uint16_t refusal;  /* 0, or 8 (feedback_feed_nothing), 8 to 12 (feedback_feed_grant) */
+    uint16_t kind;     /* one of enum feedback_kind */
+    uint16_t resource; /* bundled, multiplexed: the PUCCH resource to send on; else 0 */
+    uint16_t b0;       /* bundled: 1 ACK of the first block, 0 NACK; multiplexed: b(0); else 0 */
+    uint16_t b1;       /* bundled: the same of the second block, 0 in a one-bit reply;
+                          multiplexed: b(1); else 0 */
+    struct feedback_handset handset; /* for the next feed; if refused, the handset as it was */
 };
 
 /*
@@ -97,10 +240,10 @@ struct feedback_inverse_answer {
  *              the grant, 0 to M - 1
  *   cce        the first CCE of the grant, 0 to N_4 - 1
  *
- * Refuses, in this order: 1 2 3 4 5 6 7 11.
+ * Refuses 1 to 7 and 11.
  */
-struct feedback_resource_answer feedback_resource(struct feedback_settings settings,
-                                                  uint16_t n, uint16_t position, uint16_t cce);
+struct feedback_resource_answer feedback_resource(struct feedback_settings settings, uint16_t n,
+                                                  uint16_t position, uint16_t cce);
 
 /*
  * The grant that a PUCCH resource belongs to: the way back from
@@ -110,10 +253,179 @@ struct feedback_resource_answer feedback_resource(struct feedback_settings setti
  *   n          the uplink subframe of the reply, 0 to 9, one with a window
  *   resource   the PUCCH resource, N1 to N1 + M * N_4 - 1
  *
- * Refuses, in this order: 1 2 3 4 5 6 7 13.
+ * Refuses 1 to 7 and 13.
  */
-struct feedback_inverse_answer feedback_inverse(struct feedback_settings settings,
-                                                uint16_t n, uint16_t resource);
+struct feedback_inverse_answer feedback_inverse(struct feedback_settings settings, uint16_t n,
+                                                uint16_t resource);
+
+/*
+ * What a reply on PUCCH says.
+ *
+ *   settings   the settings of the cell
+ *   n          the uplink subframe of the reply, 0 to 9, one with a window
+ *   resource   the PUCCH resource on which the reply came
+ *   b0, b1     its bits, each 0 or 1; in a one-bit reply (bundled, settings.blocks
+ *              1) b1 is 0
+ *
+ * The answer names a position and a first CCE: the grant whose resource this is.
+ *
+ * Bundled: that is the last grant the handset heard. A bit is ACK exactly when
+ * every grant that the handset HEARD in this window decoded that block (a grant
+ * with one block counts with it for both bits). Grants sent before the last one
+ * heard can be lost unseen, but only four or eight of them together, since the
+ * DAI then comes round to the same value. So, if at most four grants of the
+ * window were sent up to and with the one named here, all of these were heard
+ * and an ACK holds for all of them. If more were sent, it is sure for the named
+ * grant alone. Grants sent after it were lost.
+ *
+ * Multiplexed: delivered has the positions that are A (every block carried was
+ * decoded) in every state of the window that sends this symbol. Where states
+ * share a symbol, a position that is A in only some of them is left out.
+ *
+ * Refuses 1 to 7, 13 and 14.
+ */
+struct feedback_reading_answer feedback_reading(struct feedback_settings settings, uint16_t n,
+                                                uint16_t resource, uint16_t b0, uint16_t b1);
+
+/*
+ * Whether the grants answered in one uplink subframe keep out of each other's
+ * PUCCH resources. A claim is one grant: position m * 256 + first CCE.
+ *
+ *   settings   the settings of the cell
+ *   n          the uplink subframe of the replies, 0 to 9, one with a window
+ *   claims     the list of claims, read only
+ *   count      the number of claims
+ *   scratch    bytes to work in, at least M * N_4 of them (never more than 1206)
+ *   room       the number of bytes lent in scratch
+ *
+ * Clean if no two claims are equal, which is to say that no two grants share a
+ * resource; else a clash, with the index (from 0) of the first claim that is
+ * equal to an earlier one. The empty list is clean.
+ *
+ * Afterwards byte t of scratch, t below M * N_4, is 1 if t + N1 is the resource
+ * of a claim before that index (of any claim, when clean), else 0. Later bytes
+ * keep their values. What scratch held before does not matter.
+ *
+ * Refuses 1 to 7, 15 and 16. If refused, all of scratch is as it was. 16 is given
+ * for a bad claim anywhere in the list, even after a clash, with the index of the
+ * first bad one.
+ *
+ * A count or room of 0 is a list or scratch of length 0, and its pointer may then
+ * be NULL; with any other length NULL is an error that no refusal catches, as is
+ * a length beyond the memory lent. The two must not overlap, and nothing else may
+ * write either during the call.
+ */
+struct feedback_claims_answer feedback_claims(struct feedback_settings settings, uint16_t n,
+                                              const uint16_t *claims, size_t count,
+                                              uint8_t *scratch, size_t room);
+
+/*
+ * A fresh handset. It expects subframe 0; the 13 subframes before it count as
+ * unheard.
+ *
+ *   settings   the settings of the cell
+ *
+ * Refuses 1 to 6; nothing is made then, and the handset beside the refusal is 64
+ * zero bytes.
+ */
+struct feedback_made feedback_make(struct feedback_settings settings);
+
+/*
+ * The next subframe brought no grant: none was sent, or it was lost, or the
+ * subframe is uplink. Call one of the two feeds for every subframe, uplink ones
+ * too, and use the handset of its answer for the next: after subframe 9 comes 0.
+ *
+ *   handset    the state that the feed before answered, or feedback_make
+ *
+ * In a downlink subframe the answer is FEEDBACK_TAKEN. In an uplink subframe it
+ * is what to send in that very subframe: FEEDBACK_BUNDLED or FEEDBACK_MULTIPLEXED
+ * with the resource and the bits, FEEDBACK_SILENT, or FEEDBACK_NO_WINDOW.
+ *
+ * Refuses 8. The handset of the answer is then the one given, byte for byte.
+ */
+struct feedback_fed feedback_feed_nothing(struct feedback_handset handset);
+
+/*
+ * The next subframe brought a grant.
+ *
+ *   handset    the state that the feed before answered, or feedback_make
+ *   blocks     transport blocks carried, 1 to the setting's
+ *   first      the first block, or the only one: decoded unless this is 0
+ *   second     the second block: decoded unless this is 0; without effect on any
+ *              reply if one block was carried
+ *   cce        the first CCE of the grant, 0 to N_4 - 1
+ *   dai        the DAI of the grant, 1 to 4 (in configuration 0 too, where no
+ *              reply depends on it)
+ *
+ * The answer is FEEDBACK_TAKEN: only a downlink subframe can bring a grant.
+ *
+ * Refuses 8 to 12. The handset of the answer is then the one given, byte for
+ * byte: it still expects the same subframe.
+ */
+struct feedback_fed feedback_feed_grant(struct feedback_handset handset, uint16_t blocks,
+                                        uint16_t first, uint16_t second, uint16_t cce,
+                                        uint16_t dai);
+
+/* The layout that the library was built with; a compiler that lays out otherwise stops here. */
+#if defined(__cplusplus) && __cplusplus >= 201103L
+#define FEEDBACK_LAYOUT(condition) static_assert(condition, #condition);
+#elif defined(__STDC_VERSION__) && __STDC_VERSION__ >= 201112L
+#define FEEDBACK_LAYOUT(condition) _Static_assert(condition, #condition);
+#else
+#define FEEDBACK_LAYOUT(condition)
+#endif
+#define FEEDBACK_SIZE(type, size) FEEDBACK_LAYOUT(sizeof(struct type) == size)
+#define FEEDBACK_PLACE(type, field, place) FEEDBACK_LAYOUT(offsetof(struct type, field) == place)
+
+FEEDBACK_SIZE(feedback_settings, 10)
+FEEDBACK_PLACE(feedback_settings, config, 0)
+FEEDBACK_PLACE(feedback_settings, nrb, 2)
+FEEDBACK_PLACE(feedback_settings, n1, 4)
+FEEDBACK_PLACE(feedback_settings, mode, 6)
+FEEDBACK_PLACE(feedback_settings, blocks, 8)
+FEEDBACK_SIZE(feedback_resource_answer, 4)
+FEEDBACK_PLACE(feedback_resource_answer, refusal, 0)
+FEEDBACK_PLACE(feedback_resource_answer, resource, 2)
+FEEDBACK_SIZE(feedback_inverse_answer, 6)
+FEEDBACK_PLACE(feedback_inverse_answer, refusal, 0)
+FEEDBACK_PLACE(feedback_inverse_answer, position, 2)
+FEEDBACK_PLACE(feedback_inverse_answer, cce, 4)
+FEEDBACK_SIZE(feedback_reading_answer, 14)
+FEEDBACK_PLACE(feedback_reading_answer, refusal, 0)
+FEEDBACK_PLACE(feedback_reading_answer, kind, 2)
+FEEDBACK_PLACE(feedback_reading_answer, position, 4)
+FEEDBACK_PLACE(feedback_reading_answer, cce, 6)
+FEEDBACK_PLACE(feedback_reading_answer, b0, 8)
+FEEDBACK_PLACE(feedback_reading_answer, b1, 10)
+FEEDBACK_PLACE(feedback_reading_answer, delivered, 12)
+FEEDBACK_SIZE(feedback_claims_answer, 16)
+FEEDBACK_PLACE(feedback_claims_answer, kind, 0)
+FEEDBACK_PLACE(feedback_claims_answer, refusal, 2)
+FEEDBACK_PLACE(feedback_claims_answer, index, 8)
+FEEDBACK_SIZE(feedback_slot, 4)
+FEEDBACK_PLACE(feedback_slot, kind, 0)
+FEEDBACK_PLACE(feedback_slot, cce, 1)
+FEEDBACK_PLACE(feedback_slot, dai, 2)
+FEEDBACK_PLACE(feedback_slot, results, 3)
+FEEDBACK_SIZE(feedback_handset, 64)
+FEEDBACK_PLACE(feedback_handset, settings, 0)
+FEEDBACK_PLACE(feedback_handset, next, 10)
+FEEDBACK_PLACE(feedback_handset, past, 12)
+FEEDBACK_SIZE(feedback_made, 66)
+FEEDBACK_PLACE(feedback_made, refusal, 0)
+FEEDBACK_PLACE(feedback_made, handset, 2)
+FEEDBACK_SIZE(feedback_fed, 74)
+FEEDBACK_PLACE(feedback_fed, refusal, 0)
+FEEDBACK_PLACE(feedback_fed, kind, 2)
+FEEDBACK_PLACE(feedback_fed, resource, 4)
+FEEDBACK_PLACE(feedback_fed, b0, 6)
+FEEDBACK_PLACE(feedback_fed, b1, 8)
+FEEDBACK_PLACE(feedback_fed, handset, 10)
+FEEDBACK_LAYOUT(sizeof(size_t) == 8)
+
+#undef FEEDBACK_PLACE
+#undef FEEDBACK_SIZE
+#undef FEEDBACK_LAYOUT
 
 #ifdef __cplusplus
 }

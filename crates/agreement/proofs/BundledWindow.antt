@@ -1,35 +1,33 @@
 -- One bundled window, from what was sent and heard in it alone: demand 3's sentences on a window that 01 bundles.
 -- Assumes nothing.
 use Prim.Native.Nat.{ℕ, _+_, _-_, _%_, _<_, _≤_}
-use mathlib.Core.Bool.{Bool, true, false, cond, not, _&&_, _||_, false≢true}
-use mathlib.Core.List.{List, [], _∷_, map}
+use mathlib.Core.Bool.{Bool, true, false, cond, not, _&&_, false≢true}
+use mathlib.Core.List.{List, map}
 use mathlib.Core.Logic.{_⊎_, inl, inr, _↔_, ⊎-elim}
 use mathlib.Core.Path.{_≡_, refl, sym, ap, _∙_}
 use native.Mathlib.Decide.{ℕ-discrete}
 use native.Mathlib.Omega.{arith}
 use lib.Dec.{eqb}
-use lib.ListN.{length, getD}
 use borrow.Author.Tests.{eq-eqb, ne-eqb, le-ltb}
 use Rattle.frame.specs.declared.Settings.{Settings}
 use Rattle.frame.specs.Order.{positionOf, orderOf, timesOf}
-use Rattle.frame.specs.Settings.{bundles, settingsRefusal, windowRefusal}
+use Rattle.frame.specs.Settings.{bundles, windowRefusal}
 use Rattle.frame.specs.Table.{windowOf}
-use Rattle.frame.proofs.Accepted.{Accepted, accepted}
+use Rattle.frame.proofs.Accepted.{Accepted}
 use Rattle.frame.proofs.Times.{in-time-order}
 use Rattle.frame.proofs.Windows.{window-size, zero-windows}
 use Rattle.resource.specs.declared.Mapped.the-variants as mapped
 use Rattle.resource.specs.Calls.{sizeOf, resourceOf}
 use Rattle.resource.specs.Formula.{edge}
 use Rattle.resource.proofs.OneToOne.{calls-one-to-one}
-use Rattle.reply.specs.declared.Answer.{Answer}
 use Rattle.reply.specs.declared.Answer.the-variants as answer
 use Rattle.reply.specs.declared.Grant.{Grant}
 use Rattle.reply.specs.declared.Heard.{Heard}
-use Rattle.reply.specs.declared.Heard.the-variants.{Nothing, Granted}
+use Rattle.reply.specs.declared.Heard.the-variants.{Granted}
 use Rattle.reply.specs.declared.Reply.{Reply}
 use Rattle.reply.specs.declared.Seen.{Seen}
 use Rattle.reply.specs.declared.View.{View}
-use Rattle.reply.specs.Fold.{unseen, stepOf, seenFrom, seenOf}
+use Rattle.reply.specs.Fold.{unseen, stepOf, seenOf}
 use Rattle.reply.specs.Heard.{viewOf}
 use Rattle.reply.specs.Memory.{bit}
 use Rattle.reply.specs.Replies.{replyOn, expected, missShown, secondBit, bundledAnswer}
@@ -38,9 +36,9 @@ use Rattle.station.specs.Readings.{badBits, bundledReading, readAt, readOf}
 use Rattle.station.proofs.Back.{read-there}
 use Rattle.agreement.specs.Run.{Send, RuleFrom, Brings}
 use Rattle.agreement.specs.Window.{Entry, at, anyHeard, lostBefore, heardAt, lastHeard, decodedFirst, decodedSecond, EveryHeard, BundledReply, Bundled}
-use Rattle.agreement.proofs.Entries.{AllOf, all-of, OfWindow, of-window, in-time, entry, seen-entries, ruled, brought, entries-length, LastOf, last-of, some-last}
+use Rattle.agreement.proofs.Entries.{all-of, OfWindow, of-window, in-time, entry, seen-entries, ruled, brought, entries-length, last-of, some-last}
 use Rattle.agreement.proofs.Exactly.{sent-exactly}
-use Rattle.agreement.proofs.Folded.{foldIn, quiet, counted, numbered, last-kept, all-decoded, few, some-counted, none-counted, none-lost, heardCount}
+use Rattle.agreement.proofs.Folded.{foldIn, counted, numbered, last-kept, all-decoded, few, some-counted, none-counted, none-lost, heardCount}
 
 same-last : (k c k′ c′ : ℕ) → heardAt k c ≡ heardAt k′ c′ → (k ≡ k′) × (c ≡ c′)
 same-last k c k′ c′ e = (cc, cc)

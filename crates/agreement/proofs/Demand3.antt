@@ -8,7 +8,7 @@ use native.Mathlib.Nat.{add-zero, zero-add, add-suc, suc-add, le-of-suc-le-suc, 
 use native.Mathlib.Omega.{arith}
 use lib.Dec.{eqb}
 use lib.ListN.{length, getD, take}
-use borrow.Author.Tests.{eqb-true, eqb-false, eq-eqb}
+use borrow.Author.Tests.{eqb-true, eqb-false}
 use Rattle.frame.specs.declared.Settings.{Settings}
 use Rattle.frame.specs.Settings.{settingsRefusal}
 use Rattle.frame.proofs.Windows.{exactly-one}
@@ -18,13 +18,12 @@ use Rattle.reply.specs.declared.Heard.{Heard}
 use Rattle.reply.specs.declared.Heard.the-variants.{Nothing}
 use Rattle.reply.specs.Heard.{heardRefusal}
 use Rattle.handset.specs.declared.Fed.{Fed}
-use Rattle.handset.specs.declared.Handset.{Handset}
 use Rattle.handset.specs.Feed.{feedOf}
-use Rattle.handset.specs.Make.{fresh, makeOf}
+use Rattle.handset.specs.Make.{makeOf}
 use Rattle.station.proofs.Back.{read-back}
 use Rattle.agreement.specs.Claim.{TurnClaim, Demand3}
-use Rattle.agreement.specs.Run.{Send, Item, feed, heardFrom, subframeAt, Turn, turns, Schedule, Brings, BringsSent}
-use Rattle.agreement.proofs.Memory.{Valid, after, fresh-after}
+use Rattle.agreement.specs.Run.{Send, Item, feed, heardFrom, Turn, turns, Schedule, Brings}
+use Rattle.agreement.proofs.Memory.{ValidPast, after, fresh-after}
 use Rattle.agreement.proofs.Turns.{ours, Past, accepted-after, refused-after, turn-claim}
 
 module _ (set : Settings) (good : settingsRefusal set ≡ 0) (sent : ℕ → Send) (schedule : Schedule set sent) (heard : List Heard)
@@ -34,7 +33,7 @@ module _ (set : Settings) (good : settingsRefusal set ≡ 0) (sent : ℕ → Sen
   Rest s items = (j : ℕ) → getD heard (s + j) Nothing ≡ getD (heardFrom set s items) j Nothing
 
   -- Every feed of a list is as claimed, from the handset after any history.
-  every-turn : (items : List Item) (l : List Heard) → Valid set l → Past heard l → Rest (length l) items
+  every-turn : (items : List Item) (l : List Heard) → ValidPast set l → Past heard l → Rest (length l) items
       → (i : ℕ) → i < length items → (d : Turn)
       → TurnClaim ours set sent heard (length l + length (heardFrom set (length l) (take i items))) (getD (turns feedOf (after set l) items) i d)
   every-turn [] l valid past rest i h d = absurd (not-suc-le-zero h)
@@ -45,7 +44,7 @@ module _ (set : Settings) (good : settingsRefusal set ≡ 0) (sent : ℕ → Sen
     where
       go : (b : Bool) → eqb (heardRefusal set (length l % 10) x) 0 ≡ b
           → ((j : ℕ) → getD heard (length l + j) Nothing ≡ getD (cond b (x ∷ heardFrom set (suc (length l)) items) (heardFrom set (length l) items)) j Nothing)
-          → ((l′ : List Heard) → Valid set l′ → Past heard l′ → Rest (length l′) items
+          → ((l′ : List Heard) → ValidPast set l′ → Past heard l′ → Rest (length l′) items
           → TurnClaim ours set sent heard (length l′ + length (heardFrom set (length l′) (take i items))) (getD (turns feedOf (after set l′) items) i d))
           → TurnClaim ours set sent heard (length l + length (cond b (x ∷ heardFrom set (suc (length l)) (take i items)) (heardFrom set (length l) (take i items))))
           (getD (turns feedOf (feedOf (after set l) x .handset) items) i d)

@@ -1,9 +1,8 @@
 -- The entries of a window, made k by k from what was sent and what was heard k ago.
 -- Assumes nothing.
-use Prim.Native.Nat.{ℕ, suc, _+_, _%_, _<_, _≤_}
-use mathlib.Core.Bool.{Bool, true, false, cond, _||_, false≢true, or-true}
+use Prim.Native.Nat.{ℕ, suc, _<_, _≤_}
+use mathlib.Core.Bool.{Bool, true, false, _||_, false≢true, or-true}
 use mathlib.Core.List.{List, [], _∷_, map}
-use mathlib.Core.Logic.{_⊎_, inl, inr}
 use mathlib.Core.Path.{_≡_, refl, sym, ap, _∙_}
 use native.Mathlib.Omega.{arith}
 use lib.Dec.{eqb}

@@ -1,7 +1,7 @@
 -- A reply is sent exactly when it is due: from what is answered in either case.
 -- Assumes nothing.
 use Prim.Native.Nat.{ℕ}
-use mathlib.Core.Logic.{_⊎_, inl, inr, _↔_}
+use mathlib.Core.Logic.{_⊎_, inl, inr}
 use mathlib.Core.Path.{_≡_, sym, _∙_, subst}
 use native.Mathlib.Omega.{arith}
 use Rattle.reply.specs.declared.Answer.{Answer}

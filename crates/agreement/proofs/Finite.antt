@@ -1,13 +1,13 @@
 -- A schedule that sends a finite list and then nothing, and a list of feeds against it: the hypotheses of demand 3 as tests that compute.
 -- Assumes nothing.
-use Prim.Native.Nat.{ℕ, zero, suc, _+_, _-_, _%_, _<_, _≤_}
-use mathlib.Core.Bool.{Bool, true, false, cond, _&&_}
+use Prim.Native.Nat.{ℕ, suc, _+_, _-_, _%_, _<_, _≤_}
+use mathlib.Core.Bool.{Bool, true, false, _&&_}
 use mathlib.Core.List.{List, [], _∷_, map}
-use mathlib.Core.Logic.{_⊎_, inl, inr}
-use mathlib.Core.Path.{_≡_, refl, sym, ap, _∙_, subst}
+use mathlib.Core.Logic.{inl, inr}
+use mathlib.Core.Path.{_≡_, refl, sym, subst}
 use native.Mathlib.Decide.{decLt}
 use native.Mathlib.Omega.{arith}
-use lib.Dec.{T, eqb, leb, eqb→eq}
+use lib.Dec.{T, eqb, eqb→eq}
 use lib.Ieee.Fits.{and-l, and-r}
 use lib.ListN.{length, getD, List·getD-eq-default}
 use borrow.Author.Tests.{le-leb}
@@ -19,7 +19,7 @@ use Rattle.reply.specs.declared.Heard.{Heard}
 use Rattle.reply.specs.declared.Heard.the-variants.{Nothing, Granted}
 use Rattle.reply.specs.Heard.{heardRefusal}
 use Rattle.agreement.specs.Run.{Send, nothing, grant, sentOf, asHeard, sentAgo, heardFrom, Item, RuleFrom, Schedule, Brings, BringsSent}
-use Rattle.agreement.proofs.Entries.{AllOf, all-of, OfWindow, of-window, in-time}
+use Rattle.agreement.proofs.Entries.{AllOf, all-of, of-window, in-time}
 
 -- what a finite list sends
 abbrev pub sending : List Send → ℕ → Send

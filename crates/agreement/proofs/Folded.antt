@@ -1,24 +1,21 @@
 -- What the fold of a window finds, over the window's entries in time order: U counts the heard grants, V is the DAI of the last
 -- of them, and that is the one after the heard and the lost before it; position, first CCE and ANDs likewise.
 -- Assumes nothing.
-use Prim.Native.Nat.{ℕ, zero, suc, _+_, _-_, _%_, _<_, _≤_}
-use mathlib.Core.Bool.{Bool, true, false, cond, _&&_, _||_, false≢true}
-use mathlib.Core.List.{List, [], _∷_, map}
-use mathlib.Core.Logic.{_⊎_, inl, inr, _↔_}
+use Prim.Native.Nat.{ℕ, suc, _+_, _-_, _%_, _≤_}
+use mathlib.Core.Bool.{Bool, true, false, cond, _&&_, false≢true}
+use mathlib.Core.List.{List, [], _∷_}
+use mathlib.Core.Logic.{inl, inr, _↔_}
 use mathlib.Core.Path.{_≡_, refl, sym, ap, _∙_}
 use native.Mathlib.Omega.{arith}
-use lib.ListN.{length, getD}
+use lib.ListN.{length}
 use Rattle.frame.specs.Order.{positionOf}
-use Rattle.reply.specs.declared.Control.{Control}
 use Rattle.reply.specs.declared.Grant.{Grant}
 use Rattle.reply.specs.declared.Heard.{Heard}
 use Rattle.reply.specs.declared.Heard.the-variants.{Nothing, Granted}
 use Rattle.reply.specs.declared.Seen.{Seen}
-use Rattle.reply.specs.declared.View.{View}
-use Rattle.reply.specs.declared.View.the-variants.{Silence, Signalled}
-use Rattle.reply.specs.Fold.{stepOf, seenFrom}
+use Rattle.reply.specs.Fold.{stepOf}
 use Rattle.reply.specs.Heard.{viewOf}
-use Rattle.agreement.specs.Run.{Send, nothing, grant, sentOf, RuleFrom, Brings}
+use Rattle.agreement.specs.Run.{Send, nothing, grant, Brings}
 use Rattle.agreement.specs.Window.{Entry, at, isHeard, anyHeard, isLost, lostBefore, Last, unheard, heardAt, asLast, later, lastHeard, EveryHeard}
 
 -- The fold over entries.

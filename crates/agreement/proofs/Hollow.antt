@@ -2,13 +2,13 @@
 -- not meet demand 3. Each is the engine of this repository but for one fault.
 -- Assumes nothing.
 use Prim.Native.Nat.{ℕ, _+_, _-_, _/_, _%_, _^_}
-use mathlib.Core.Bool.{Bool, true, false, cond, false≢true}
-use mathlib.Core.List.{List, [], _∷_}
-use mathlib.Core.Logic.{_⊎_, inl, inr}
-use mathlib.Core.Path.{_≡_, refl, sym, ap, _∙_}
+use mathlib.Core.Bool.{Bool, true, false, cond}
+use mathlib.Core.List.{[], _∷_}
+use mathlib.Core.Logic.{inl}
+use mathlib.Core.Path.{_≡_, refl, ap, _∙_}
 use native.Mathlib.Omega.{arith}
-use lib.Dec.{T, ltb, eqb}
-use lib.ListN.{length, getD}
+use lib.Dec.{ltb, eqb}
+use lib.ListN.{getD}
 use borrow.Author.Tests.{eqb-false}
 use Rattle.frame.specs.declared.Settings.{Settings}
 use Rattle.frame.specs.Layout.{layouts, letterOf, downlink}
@@ -24,16 +24,16 @@ use Rattle.symbols.specs.declared.Symbol.{Symbol}
 use Rattle.symbols.specs.declared.Symbol.the-variants as symbol
 use Rattle.symbols.specs.Delivered.{deliveredAt}
 use Rattle.symbols.proofs.Reading.{delivered-exactly}
-use Rattle.symbols.specs.Selection.{symbolOf, tableOf, table2, table3, table4}
+use Rattle.symbols.specs.Selection.{symbolOf, tableOf, table4}
 use Rattle.reply.specs.declared.Answer.{Answer}
 use Rattle.reply.specs.declared.Answer.the-variants as answer
 use Rattle.reply.specs.declared.Heard.{Heard}
-use Rattle.reply.specs.declared.Heard.the-variants.{Nothing, Granted}
+use Rattle.reply.specs.declared.Heard.the-variants.{Nothing}
 use Rattle.reply.specs.declared.Reply.{Reply}
 use Rattle.reply.specs.Fold.{stepOf, seenFrom, seenOf}
 use Rattle.reply.specs.Heard.{uplinkRefusal, grantRefusal, heardRefusal, viewOf}
 use Rattle.reply.specs.Memory.{slotOf, heardIn, viewIn, viewAgo}
-use Rattle.reply.specs.Replies.{replyOn, expected, missShown, secondBit, bundledAnswer, stateOf, cceOf, windowState, symbolAnswer, multiplexedAnswer, windowAnswer}
+use Rattle.reply.specs.Replies.{replyOn, expected, missShown, secondBit, bundledAnswer, windowAnswer}
 use Rattle.handset.specs.declared.Fed.{Fed}
 use Rattle.handset.specs.declared.Handset.{Handset}
 use Rattle.handset.specs.Feed.{answerOf, dueOf, pushed, feedRefusal, feedOf}
@@ -45,7 +45,7 @@ use Rattle.station.specs.Readings.{readOf}
 use Rattle.agreement.specs.Claim.{Engine, Demand3}
 use Rattle.agreement.specs.Run.{grant, Turn, turns}
 use Rattle.agreement.proofs.Finite.{sending, scheduled, brought}
-use Rattle.agreement.proofs.Worked.{cell, quiet, hears, Run, Worked, allHeard, shared, runs}
+use Rattle.agreement.proofs.Worked.{cell, quiet, hears, Run, allHeard, shared, runs}
 
 -- our engine with another feed, another resource call, another reading
 abbrev pub fedBy : (Handset → Heard → Fed) → Engine

@@ -1,47 +1,29 @@
 -- The handset after a history, newest first, of what was heard: it remembers the last 13, expects the next subframe, and is sound.
 -- Assumes nothing.
 use Prim.Native.Nat.{ℕ, zero, suc, _+_, _-_, _*_, _/_, _%_, _<_, _≤_}
-use mathlib.Core.Bool.{Bool, true, false, cond, _&&_, _||_}
+use mathlib.Core.Bool.{Bool, true, false, cond}
 use mathlib.Core.List.{List, [], _∷_, map}
 use mathlib.Core.Path.{_≡_, refl, sym, ap, _∙_}
 use native.Mathlib.Nat.{zero-add, add-suc, suc-add, le-of-suc-le-suc, not-suc-le-zero, add-zero}
 use native.Mathlib.Omega.{arith}
-use lib.Dec.{eqb, leb, ltb}
-use lib.ListN.{length, getD, List·getD-map}
-use borrow.Author.Tests.{eq-eqb, ne-eqb, ltb-true, le-leb, eqb-true, eqb-false}
+use lib.Dec.{eqb, leb}
+use lib.ListN.{length, getD}
+use borrow.Author.Tests.{le-leb, eqb-true, eqb-false}
 use Rattle.frame.specs.declared.Settings.{Settings}
-use Rattle.frame.specs.Settings.{orElse, outside, settingsRefusal}
-use Rattle.frame.proofs.Accepted.{Accepted, neither, unmet, between}
-use Rattle.resource.specs.declared.Cce.{Cce}
+use Rattle.frame.specs.Settings.{settingsRefusal}
+use Rattle.frame.proofs.Accepted.{Accepted}
 use Rattle.resource.specs.Formula.{edge}
 use Rattle.reply.specs.declared.Grant.{Grant}
 use Rattle.reply.specs.declared.Heard.{Heard}
 use Rattle.reply.specs.declared.Heard.the-variants.{Nothing, Granted}
 use Rattle.reply.specs.declared.Slot.{Slot}
-use Rattle.reply.specs.Heard.{uplinkRefusal, grantRefusal, heardRefusal, viewOf}
+use Rattle.reply.specs.Heard.{heardRefusal, viewOf}
 use Rattle.reply.specs.Memory.{none, bit, slotOf, heardIn, viewIn, viewAgo}
+use Rattle.reply.proofs.Valid.{valid}
 use Rattle.handset.specs.declared.Handset.{Handset}
 use Rattle.handset.specs.Feed.{pushed}
 use Rattle.handset.specs.Make.{slotsFrom, memory, fresh}
 use Rattle.handset.specs.Sound.{slotSound, previous, allSound, stateSound, stateRefusal}
-
--- What a valid grant is.
-pub record ValidGrant (set : Settings) (g : Grant) : Type 0 where
-  pub least : 1 ≤ g .blocks
-  pub most : g .blocks ≤ set .blocks
-  pub cce : g .cce .0 < edge (set .nrb) 4
-
-pub valid-grant : (set : Settings) (n : ℕ) (g : Grant) → heardRefusal set n (Granted g) ≡ 0 → ValidGrant set g
-unfolding heardRefusal grantRefusal
-valid-grant set n g e =
-    let a = neither (uplinkRefusal set n) (grantRefusal set g) e .1 in
-    let b = unmet (outside 1 (set .blocks) (g .blocks)) 9 (cond (ltb (g .cce .0) (edge (set .nrb) 4)) (cond (outside 1 4 (g .dai)) 12 0) 11) a in
-    let c = between 1 (set .blocks) (g .blocks) (b .0) in
-    record { least = c .0; most = c .1; cce = below (ltb (g .cce .0) (edge (set .nrb) 4)) refl (b .1) }
-  where
-    below : (t : Bool) → ltb (g .cce .0) (edge (set .nrb) 4) ≡ t → _≡_ {A = ℕ} (cond t (cond (outside 1 4 (g .dai)) 12 0) 11) 0 → g .cce .0 < edge (set .nrb) 4
-    below true t e = ltb-true (g .cce .0) (edge (set .nrb) 4) t
-    below false t e = absurd (omega arith)
 
 -- The three bits of a slot's results, taken apart again.
 first-back : (a b c : Bool) → eqb ((bit a + 2 * bit b + 4 * bit c) % 2) 1 ≡ a
@@ -86,9 +68,9 @@ pub slot-back : (set : Settings) → Accepted set → (n : ℕ) (x : Heard) → 
 unfolding heardIn slotOf
 slot-back set ok n Nothing e = refl
 slot-back set ok n (Granted g) e =
-    let v = valid-grant set n g e in
+    let v = valid set n g e in
     let t : Bool = eqb (g .blocks) 2 in
-    let b = blocks-back (g .blocks) (v .least) (omega (arith, v .most, ok .blocksMost)) in
+    let b = blocks-back (g .blocks) (v .blocksLeast) (omega (arith, v .blocksMost, ok .blocksMost)) in
     rw (two-back (g .first) (g .second) t, first-back (g .first) (g .second) t, second-back (g .first) (g .second) t, b)
 
 pub slot-view : (set : Settings) → Accepted set → (n : ℕ) (x : Heard) → heardRefusal set n x ≡ 0 → viewIn (slotOf x) ≡ viewOf x
@@ -96,9 +78,9 @@ unfolding viewIn
 slot-view set ok n x e = ap viewOf (slot-back set ok n x e)
 
 -- A history, newest first, each heard thing valid in the subframe it was fed in.
-abbrev pub Valid : Settings → List Heard → Type 0
-Valid set [] = Unit {0}
-Valid set (x ∷ l) = (heardRefusal set (length l % 10) x ≡ 0) × Valid set l
+abbrev pub ValidPast : Settings → List Heard → Type 0
+ValidPast set [] = Unit {0}
+ValidPast set (x ∷ l) = (heardRefusal set (length l % 10) x ≡ 0) × ValidPast set l
 
 -- The handset after a history.
 abbrev pub after : Settings → List Heard → Handset
@@ -121,7 +103,7 @@ slots-at (suc count) i l (suc j) h =
     slots-at count (suc i) l j (le-of-suc-le-suc h) ∙ ap (λ (x : ℕ). getD l x none) (suc-add i j ∙ sym (add-suc i j))
 
 -- A heard thing of the history, or nothing before it, was valid.
-valid-at : (set : Settings) (l : List Heard) → Valid set l → (i : ℕ) → (n : ℕ) × (heardRefusal set n (getD l i Nothing) ≡ 0)
+valid-at : (set : Settings) (l : List Heard) → ValidPast set l → (i : ℕ) → (n : ℕ) × (heardRefusal set n (getD l i Nothing) ≡ 0)
 unfolding heardRefusal
 valid-at set [] v i = (0, refl)
 valid-at set (x ∷ l) v zero = (length l % 10, v .0)
@@ -134,7 +116,7 @@ slot-of (x ∷ l) zero = refl
 slot-of (x ∷ l) (suc i) = slot-of l i
 
 -- k ago, up to 13, the handset remembers what the history has there.
-pub view-after : (set : Settings) → Accepted set → (l : List Heard) → Valid set l → (k : ℕ) → 1 ≤ k → k ≤ 13
+pub view-after : (set : Settings) → Accepted set → (l : List Heard) → ValidPast set l → (k : ℕ) → 1 ≤ k → k ≤ 13
     → viewAgo (memory (map slotOf l)) k ≡ viewOf (getD l (k - 1) Nothing)
 unfolding viewAgo
 view-after set ok l v k least most =
@@ -143,10 +125,10 @@ view-after set ok l v k least most =
     slots-at 13 0 (map slotOf l) (k - 1) (omega arith) ∙ ap (λ (x : ℕ). getD (map slotOf l) x none) (zero-add (k - 1)) in
     ap viewIn (e ∙ slot-of l (k - 1)) ∙ slot-view set ok (w .0) (getD l (k - 1) Nothing) (w .1)
 
-pub low-after : (set : Settings) (l : List Heard) → Valid set l → (i : ℕ) (g : Grant) → getD l i Nothing ≡ Granted g → g .cce .0 < edge (set .nrb) 4
+pub low-after : (set : Settings) (l : List Heard) → ValidPast set l → (i : ℕ) (g : Grant) → getD l i Nothing ≡ Granted g → g .cce .0 < edge (set .nrb) 4
 low-after set l v i g e =
     let w = valid-at set l v i in
-    valid-grant set (w .0) g (rw e at (w .1)) .cce
+    valid set (w .0) g (rw e at (w .1)) .cce
 
 -- Refusal 8 is never met.
 slots-tail : (count i : ℕ) (t : Slot) (ts : List Slot) → slotsFrom count (suc i) (t ∷ ts) ≡ slotsFrom count i ts
@@ -171,7 +153,7 @@ slot-sound : (set : Settings) → Accepted set → (n : ℕ) (x : Heard) → hea
 unfolding slotSound
 slot-sound set ok n x e = rw (kind-small x, slot-back set ok n x e, e)
 
-sound-from : (set : Settings) → Accepted set → (l : List Heard) → Valid set l → (count n : ℕ) → n ≡ length l % 10 → allSound set n (slotsFrom count 0 (map slotOf l)) ≡ true
+sound-from : (set : Settings) → Accepted set → (l : List Heard) → ValidPast set l → (count n : ℕ) → n ≡ length l % 10 → allSound set n (slotsFrom count 0 (map slotOf l)) ≡ true
 unfolding allSound
 sound-from set ok [] v count n e = none-all set count 0 n
 sound-from set ok (x ∷ l) v zero n e = refl
@@ -180,7 +162,7 @@ sound-from set ok (x ∷ l) v (suc count) n e =
     rw (slots-tail count 0 (slotOf x) (map slotOf l), p, slot-sound set ok (length l % 10) x (v .0))
     (sound-from set ok l (v .1) count (length l % 10) refl)
 
-pub sound-after : (set : Settings) → settingsRefusal set ≡ 0 → Accepted set → (l : List Heard) → Valid set l → stateRefusal (after set l) ≡ 0
+pub sound-after : (set : Settings) → settingsRefusal set ≡ 0 → Accepted set → (l : List Heard) → ValidPast set l → stateRefusal (after set l) ≡ 0
 unfolding stateRefusal stateSound
 sound-after set good ok l v =
     rw (good, le-leb (length l % 10) 9 (omega arith), sound-from set ok l v 13 (length l % 10) refl)

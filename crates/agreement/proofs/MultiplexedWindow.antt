@@ -1,19 +1,18 @@
 -- One multiplexed window, from what was heard in it alone: demand 3's sentences on a window that 01 multiplexes.
 -- Assumes nothing.
-use Prim.Native.Nat.{ℕ, suc, _+_, _/_, _%_, _^_, _<_, _≤_}
+use Prim.Native.Nat.{ℕ, _/_, _%_, _^_, _<_, _≤_}
 use mathlib.Core.Bool.{Bool, true, false, cond, _&&_, false≢true}
 use mathlib.Core.List.{List, [], _∷_, map}
 use mathlib.Core.Logic.{_⊎_, inl, inr, _↔_}
 use mathlib.Core.Path.{_≡_, refl, sym, ap, _∙_}
 use native.Mathlib.Omega.{arith}
-use lib.ListN.{length, getD, length-map, List·getD-map}
+use lib.ListN.{length, getD, length-map}
 use Rattle.frame.specs.declared.Settings.{Settings}
 use Rattle.frame.specs.Order.{timesOf}
 use Rattle.frame.specs.Settings.{bundles, windowRefusal}
 use Rattle.frame.specs.Table.{windowOf}
 use Rattle.frame.proofs.Lists as lists
 use Rattle.frame.proofs.Windows.{window-k}
-use Rattle.resource.specs.declared.Cce.{Cce}
 use Rattle.resource.specs.declared.Mapped.the-variants as mapped
 use Rattle.resource.specs.Calls.{sizeOf, resourceOf}
 use Rattle.resource.specs.Formula.{edge}
@@ -22,11 +21,10 @@ use Rattle.symbols.specs.declared.State.{State}
 use Rattle.symbols.specs.declared.State.the-variants.{Ack, Nack, Dtx}
 use Rattle.symbols.specs.declared.Symbol.{Symbol}
 use Rattle.symbols.specs.declared.Symbol.the-variants as symbol
-use Rattle.symbols.specs.Delivered.{setOf, deliveredAt, deliveredSet}
+use Rattle.symbols.specs.Delivered.{deliveredAt, deliveredSet}
 use Rattle.symbols.specs.Selection.{symbolOf, AllDtx}
 use Rattle.symbols.proofs.Reading.{delivered-exactly, set-below, set-bit}
 use Rattle.symbols.proofs.Rows.{silent-exactly, index-heard}
-use Rattle.reply.specs.declared.Answer.{Answer}
 use Rattle.reply.specs.declared.Answer.the-variants as answer
 use Rattle.reply.specs.declared.Grant.{Grant}
 use Rattle.reply.specs.declared.Heard.{Heard}
@@ -35,7 +33,6 @@ use Rattle.reply.specs.declared.Reply.{Reply}
 use Rattle.reply.specs.declared.View.{View}
 use Rattle.reply.specs.Heard.{viewOf}
 use Rattle.reply.specs.Replies.{replyOn, stateOf, cceOf, windowState, symbolAnswer, multiplexedAnswer}
-use Rattle.station.specs.declared.Reading.the-variants as reading
 use Rattle.station.specs.Readings.{readOf}
 use Rattle.station.proofs.Back.{read-symbol}
 use Rattle.agreement.specs.Run.{Send}

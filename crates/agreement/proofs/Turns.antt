@@ -1,25 +1,23 @@
 -- One feed of a run: the handset after a history is fed, and its answer is what demand 3 says.
 -- Assumes nothing.
-use Prim.Native.Nat.{ℕ, zero, suc, _+_, _-_, _%_, _<_, _≤_}
-use mathlib.Core.Bool.{Bool, true, false, cond, _||_, false≢true, or-true}
+use Prim.Native.Nat.{ℕ, zero, suc, _-_, _%_, _<_, _≤_}
+use mathlib.Core.Bool.{true, false, or-true}
 use mathlib.Core.List.{List, [], _∷_, map}
-use mathlib.Core.Logic.{_⊎_, inl, inr, _↔_}
+use mathlib.Core.Logic.{_⊎_, inl, inr}
 use mathlib.Core.Path.{_≡_, refl, sym, ap, _∙_}
 use native.Mathlib.Decide.{decLe, decLt}
 use native.Mathlib.Omega.{arith}
-use lib.Dec.{eqb, leb, leb·suc-zero}
+use lib.Dec.{eqb}
 use lib.ListN.{length, getD, List·getD-eq-default}
 use borrow.Author.Tests.{eq-eqb, ne-eqb, le-leb, lt-leb}
 use Rattle.frame.specs.declared.Settings.{Settings}
-use Rattle.frame.specs.Layout.{Letter, letterOf, carries, downlink}
-use Rattle.frame.specs.Order.{timesOf}
-use Rattle.frame.specs.Settings.{orElse, bundles, settingsRefusal, noWindowRefusal, windowRefusal}
+use Rattle.frame.specs.Layout.{carries, downlink}
+use Rattle.frame.specs.Settings.{bundles, settingsRefusal, noWindowRefusal, windowRefusal}
 use Rattle.frame.specs.Table.{windowOf}
 use Rattle.frame.proofs.Accepted.{Accepted, accepted}
 use Rattle.frame.proofs.Windows.{window-uplink, small-windows}
 use Rattle.resource.specs.Calls.{resourceOf, inverseOf}
 use Rattle.resource.specs.Formula.{edge}
-use Rattle.reply.specs.declared.Answer.{Answer}
 use Rattle.reply.specs.declared.Answer.the-variants as answer
 use Rattle.reply.specs.declared.Grant.{Grant}
 use Rattle.reply.specs.declared.Heard.{Heard}
@@ -30,15 +28,13 @@ use Rattle.reply.specs.Heard.{heardRefusal, viewOf}
 use Rattle.reply.specs.Memory.{slotOf, viewAgo}
 use Rattle.reply.specs.Replies.{bundledAnswer, multiplexedAnswer, windowAnswer}
 use Rattle.handset.specs.declared.Fed.{Fed}
-use Rattle.handset.specs.declared.Handset.{Handset}
-use Rattle.handset.specs.Feed.{answerOf, dueOf, pushed, feedRefusal, fedAs, feedOf}
+use Rattle.handset.specs.Feed.{answerOf, dueOf, feedRefusal, fedAs, feedOf}
 use Rattle.handset.specs.Make.{memory, makeOf}
-use Rattle.handset.specs.Sound.{stateRefusal}
 use Rattle.station.specs.Readings.{readOf}
 use Rattle.agreement.specs.Claim.{Engine, Answered, TurnClaim}
-use Rattle.agreement.specs.Run.{Send, nothing, Turn, Item, sentAgo, heardAgo, Schedule, Brings}
+use Rattle.agreement.specs.Run.{Send, sentAgo, heardAgo, Schedule, Brings}
 use Rattle.agreement.proofs.BundledWindow.{bundled-window}
-use Rattle.agreement.proofs.Memory.{Valid, after, pushed-after, view-after, low-after, sound-after}
+use Rattle.agreement.proofs.Memory.{ValidPast, after, pushed-after, view-after, low-after, sound-after}
 use Rattle.agreement.proofs.MultiplexedWindow.{multiplexed-window}
 use Rattle.agreement.proofs.NeverRefused.{never-refused}
 
@@ -75,7 +71,7 @@ ago-past heard (x ∷ l) p k h = go k h (ago-past heard l (p .1))
 
 module _ (set : Settings) (good : settingsRefusal set ≡ 0) (sent : ℕ → Send) (schedule : Schedule set sent) (heard : List Heard)
     (brings : (s : ℕ) → s < length heard → Brings (sent s) (getD heard s Nothing))
-    (l : List Heard) (valid : Valid set l) (past : Past heard l) where
+    (l : List Heard) (valid : ValidPast set l) (past : Past heard l) where
   ok : Accepted set
   ok = accepted set good
 

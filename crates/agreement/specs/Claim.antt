@@ -3,7 +3,7 @@
 -- promises of the code are equations with: makeOf (handset::make), feedOf (handset::feed), resourceOf and inverseOf
 -- (resource::resource_of and inverse_of), readOf (station::read).
 -- Assumes nothing.
-use Prim.Native.Nat.{ℕ, _+_, _%_, _<_}
+use Prim.Native.Nat.{ℕ, _%_, _<_}
 use mathlib.Core.Bool.{true, false}
 use mathlib.Core.List.{List, []}
 use mathlib.Core.Logic.{_⊎_, _↔_}

@@ -2,7 +2,7 @@
 -- Assumes nothing.
 use Prim.Native.Nat.{ℕ, zero, suc, _+_, _%_}
 use mathlib.Core.Bool.{cond}
-use mathlib.Core.List.{List, _∷_}
+use mathlib.Core.List.{_∷_}
 use Rattle.frame.specs.declared.Settings.{Settings}
 use Rattle.frame.specs.Layout.{downlink}
 use Rattle.frame.specs.Settings.{orElse}

@@ -17,7 +17,7 @@ use Rattle.symbols.specs.declared.Symbol.{Symbol}
 use Rattle.symbols.specs.declared.Symbol.the-variants as symbol
 use Rattle.symbols.specs.Selection.{symbolOf}
 use Rattle.reply.specs.declared.Answer.{Answer}
-use Rattle.reply.specs.declared.Answer.the-variants.{Taken, NoWindow, Silent, Sent, Refused}
+use Rattle.reply.specs.declared.Answer.the-variants.{NoWindow, Silent, Sent, Refused}
 use Rattle.reply.specs.declared.Seen.{Seen}
 use Rattle.reply.specs.declared.View.{View}
 use Rattle.reply.specs.declared.View.the-variants.{Silence, Signalled}
