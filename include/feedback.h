@@ -193,10 +193,11 @@ struct feedback_claims_answer {
 
 /* One remembered subframe. 4 bytes. */
 struct feedback_slot {
-    uint8_t kind;    /* FEEDBACK_SLOT_NOTHING (the rest has no meaning) or FEEDBACK_SLOT_GRANT */
-    uint8_t cce;     /* the first CCE of the grant */
-    uint8_t dai;     /* the DAI of the grant, 1 to 4 */
-    uint8_t results; /* bits of enum feedback_slot_results; the other bits have no meaning */
+    uint8_t kind;    /* FEEDBACK_SLOT_NOTHING or FEEDBACK_SLOT_GRANT */
+    uint8_t cce;     /* grant: its first CCE; nothing: no meaning */
+    uint8_t dai;     /* grant: its DAI, 1 to 4; nothing: no meaning */
+    uint8_t results; /* grant: bits of enum feedback_slot_results, other bits have no meaning;
+                        nothing: no meaning */
 };
 
 /*
@@ -271,12 +272,12 @@ struct feedback_inverse_answer feedback_inverse(struct feedback_settings setting
  *
  * Bundled: that is the last grant the handset heard. A bit is ACK exactly when
  * every grant that the handset HEARD in this window decoded that block (a grant
- * with one block counts with it for both bits). Grants sent before the last one
- * heard can be lost unseen, but only four or eight of them together, since the
- * DAI then comes round to the same value. So, if at most four grants of the
- * window were sent up to and with the one named here, all of these were heard
- * and an ACK holds for all of them. If more were sent, it is sure for the named
- * grant alone. Grants sent after it were lost.
+ * with one block counts with it for both bits). With DAIs by the rule above,
+ * grants sent before the last one heard can be lost unnoticed, but then four or
+ * eight of them in all, where the DAI comes round to the same value. So, if at
+ * most four grants of the window were sent up to and with the one named here, all
+ * of these were heard and an ACK holds for all of them. If more were sent, it is
+ * sure for the named grant alone. Grants sent after it were lost.
  *
  * Multiplexed: delivered has the positions that are A (every block carried was
  * decoded) in every state of the window that sends this symbol. Where states

@@ -1,9 +1,16 @@
 //! Holds the engine to the model, and counts what was compared. The plain
 //! implementation is held to the model on the way.
 
+use crate::guarded::{Flush, Guarded, BOTH};
 use crate::model::Model;
-use crate::plain::{plain_inverse, plain_resource};
-use crate::{inverse, resource, Settings};
+use crate::plain::{
+    plain_claims, plain_feed_grant, plain_feed_nothing, plain_inverse, plain_make, plain_reading,
+    plain_resource,
+};
+use crate::{
+    claims, feed, inverse, make, reading, resource, ClaimsAnswer, Fed, Grant, Handset, Settings,
+};
+use std::fmt;
 
 /// The number of windows in the table.
 pub const WINDOWS: u64 = 21;
@@ -20,16 +27,20 @@ pub const CCES: u64 = 7397;
 /// The highest refusal number.
 const LAST_REFUSAL: usize = 16;
 
-/// A test's comparisons, counted by the refusal that was due, 0 for none.
+/// The highest kind of an answer.
+const LAST_KIND: usize = 5;
+
+/// A test's comparisons, counted by the refusal that was due, 0 for none, and
+/// by the kind, where an answer has one.
 pub struct Comparison<'a> {
     model: &'a Model,
     counts: [u64; LAST_REFUSAL + 1],
+    kinds: [u64; LAST_KIND + 1],
 }
 
 impl<'a> Comparison<'a> {
     pub fn with(model: &'a Model) -> Self {
-        let counts = [0; LAST_REFUSAL + 1];
-        Self { model, counts }
+        Self { model, counts: [0; LAST_REFUSAL + 1], kinds: [0; LAST_KIND + 1] }
     }
 
     pub fn resource(&mut self, settings: Settings, n: u16, position: u16, cce: u16) {
@@ -56,6 +67,88 @@ impl<'a> Comparison<'a> {
         self.counts[usize::from(due.refusal)] += 1;
     }
 
+    pub fn reading(&mut self, settings: Settings, n: u16, resource: u16, b0: u16, b1: u16) {
+        let due = self.model.reading(settings, n, resource, b0, b1);
+        let given = reading(settings, n, resource, b0, b1);
+        let plain = plain_reading(settings, n, resource, b0, b1);
+        assert!(
+            given == due && plain == due,
+            "feedback_reading({settings:?}, n {n}, resource {resource}, b0 {b0}, b1 {b1}): the \
+             engine gives {given:?}, the model {due:?}, the plain implementation {plain:?}"
+        );
+        self.counts[usize::from(due.refusal)] += 1;
+        self.kinds[usize::from(due.kind)] += 1;
+    }
+
+    /// Two comparisons: list and scratch lie flush with a guard, once at their
+    /// start and once at their end. The list can't be written, and every byte of
+    /// the scratch is compared. Shows the answer.
+    pub fn claims(
+        &mut self,
+        lent: &mut Lent,
+        settings: Settings,
+        n: u16,
+        list: &[u16],
+        scratch: &[u8],
+    ) -> ClaimsAnswer {
+        let (due, left) = self.model.claims(settings, n, list, scratch);
+        let mut plain_left = scratch.to_vec();
+        let plain = plain_claims_on(settings, n, list, &mut plain_left);
+        for flush in BOTH {
+            let given_left = lent.scratch.bytes(scratch, flush);
+            let read = lent.list.numbers_to_read(list, flush);
+            let given = claims(settings, n, read, given_left);
+            assert!(
+                given == due && plain == due,
+                "feedback_claims({settings:?}, n {n}, {}, room {}), flush at the {flush:?}: the \
+                 engine gives {given:?}, the model {due:?}, the plain implementation {plain:?}",
+                Shown(list),
+                scratch.len()
+            );
+            assert!(
+                given_left == left && plain_left == left,
+                "feedback_claims({settings:?}, n {n}, {}, room {}), flush at the {flush:?}: the \
+                 scratch was {}; the engine leaves {}, the model {}, the plain implementation {}",
+                Shown(list),
+                scratch.len(),
+                Shown(scratch),
+                Shown(given_left),
+                Shown(&left),
+                Shown(&plain_left)
+            );
+            self.counts[usize::from(due.refusal)] += 1;
+            self.kinds[usize::from(due.kind)] += 1;
+        }
+        due
+    }
+
+    pub fn make(&mut self, settings: Settings) -> Handset {
+        let due = self.model.make(settings);
+        let given = make(settings);
+        let plain = plain_make(settings);
+        assert!(
+            given == due && plain == due,
+            "feedback_make({settings:?}): the engine gives {given:?}, the model {due:?}, the \
+             plain implementation {plain:?}"
+        );
+        self.counts[usize::from(due.refusal)] += 1;
+        given.handset
+    }
+
+    pub fn feed(&mut self, handset: Handset, heard: Option<Grant>) -> Fed {
+        let due = self.model.feed(handset, heard);
+        let given = feed(handset, heard);
+        let plain = plain_feed(handset, heard);
+        assert!(
+            given == due && plain == due,
+            "a feed of {heard:?} to {handset:?}: the engine gives {given:?}, the model {due:?}, \
+             the plain implementation {plain:?}"
+        );
+        self.counts[usize::from(due.refusal)] += 1;
+        self.kinds[usize::from(due.kind)] += 1;
+        given
+    }
+
     /// Ends a test: as many answers were compared as there should be, and as
     /// many of them were answers without a refusal.
     pub fn finish(&self, compared: u64, answered: u64) {
@@ -64,12 +157,92 @@ impl<'a> Comparison<'a> {
         assert_eq!(self.counts[0], answered, "answers without a refusal");
     }
 
+    /// Ends a test: as many answers were compared as there should be, with at
+    /// least one for each of these refusals and each of these kinds.
+    pub fn finish_with(&self, compared: u64, refusals: &[usize], kinds: &[usize]) {
+        println!("{} compared, by refusal {:?}", self.total(), self.counts);
+        println!("by kind {:?}", self.kinds);
+        assert_eq!(self.total(), compared, "answers compared");
+        let missing = |number: &&usize| self.counts[**number] == 0;
+        assert_eq!(refusals.iter().find(missing), None, "a refusal that did not occur");
+        let missing = |number: &&usize| self.kinds[**number] == 0;
+        assert_eq!(kinds.iter().find(missing), None, "a kind that did not occur");
+    }
+
     /// How many answers were due with this refusal, 0 for none.
     pub fn refused(&self, number: usize) -> u64 {
         self.counts[number]
     }
 
+    /// How many answers were due of this kind.
+    pub fn of_kind(&self, number: u16) -> u64 {
+        self.kinds[usize::from(number)]
+    }
+
     pub fn total(&self) -> u64 {
         self.counts.iter().sum()
+    }
+}
+
+/// The memory that is lent for claims.
+pub struct Lent {
+    pub list: Guarded,
+    pub scratch: Guarded,
+}
+
+impl Lent {
+    /// For lists of as many claims.
+    pub fn new(longest: usize) -> Self {
+        Self { list: Guarded::new(2 * longest), scratch: Guarded::new(0) }
+    }
+
+    /// Calls the engine on copies of list and scratch, flush with a guard, and
+    /// shows what it left of both.
+    pub fn call(
+        &mut self,
+        settings: Settings,
+        n: u16,
+        list: &[u16],
+        scratch: &[u8],
+        flush: Flush,
+    ) -> (ClaimsAnswer, &[u16], &[u8]) {
+        let left = self.scratch.bytes(scratch, flush);
+        let read = self.list.numbers(list, flush);
+        (claims(settings, n, read, left), read, left)
+    }
+}
+
+/// The plain implementation's verdict on claims, with the marks it leaves.
+pub fn plain_claims_on(
+    settings: Settings,
+    n: u16,
+    list: &[u16],
+    scratch: &mut [u8],
+) -> ClaimsAnswer {
+    let (start, count) = (list.as_ptr(), list.len());
+    // SAFETY: each slice is lent with its own length, and by their types the two
+    // do not overlap.
+    unsafe { plain_claims(settings, n, start, count, scratch.as_mut_ptr(), scratch.len()) }
+}
+
+/// The plain implementation's answer to a feed.
+pub fn plain_feed(handset: Handset, heard: Option<Grant>) -> Fed {
+    match heard {
+        None => plain_feed_nothing(handset),
+        Some(Grant { blocks, first, second, cce, dai }) => {
+            plain_feed_grant(handset, blocks, first, second, cce, dai)
+        }
+    }
+}
+
+/// The numbers of a list in a message: all of a short one, the first of a long one.
+pub struct Shown<'a, T>(pub &'a [T]);
+
+impl<T: fmt::Debug> fmt::Display for Shown<'_, T> {
+    fn fmt(&self, f: &mut fmt::Formatter) -> fmt::Result {
+        let Self(list) = self;
+        let first = &list[..list.len().min(1300)];
+        write!(f, "{} numbers {first:?}", list.len())?;
+        write!(f, "{}", if first.len() < list.len() { " and so on" } else { "" })
     }
 }

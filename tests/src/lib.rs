@@ -1,69 +1,28 @@
 //! The feedback engine as a C caller sees it, and what its answers are held to.
 //!
 //! This file declares the engine's C calls, as in `include/feedback.h`, and
-//! wraps them for Rust. [`model`] is a second implementation of the same rules,
-//! made to be plainly right; [`plain`] is a third, made to be fast, the measure
-//! in the benchmark. [`compare`] holds the engine to the model, answer by answer.
+//! wraps them for Rust; [`types`] has their structs. [`model`] is a second
+//! implementation of the same rules, made to be plainly right; [`plain`] is a
+//! third, made to be fast, the measure in the benchmark and in the fuzzing.
+//! [`compare`] holds the engine to the model, answer by answer.
 
 pub mod compare;
+pub mod guarded;
 pub mod model;
 pub mod plain;
+pub mod random;
+pub mod types;
 
-/// The settings of a cell: raw numbers, of which a call refuses what is not allowed.
-#[repr(C)]
-#[derive(Clone, Copy, Debug, PartialEq, Eq)]
-pub struct Settings {
-    pub config: u16,
-    pub nrb: u16,
-    pub n1: u16,
-    pub mode: u16,
-    pub blocks: u16,
-}
-
-/// The answer of [`resource`]: a refusal, or 0 and the resource.
-#[repr(C)]
-#[derive(Clone, Copy, Debug, PartialEq, Eq)]
-pub struct ResourceAnswer {
-    pub refusal: u16,
-    pub resource: u16,
-}
-
-/// The answer of [`inverse`]: a refusal, or 0 and the position and first CCE.
-#[repr(C)]
-#[derive(Clone, Copy, Debug, PartialEq, Eq)]
-pub struct InverseAnswer {
-    pub refusal: u16,
-    pub position: u16,
-    pub cce: u16,
-}
-
-impl ResourceAnswer {
-    pub fn refused(refusal: u16) -> Self {
-        let resource = 0;
-        Self { refusal, resource }
-    }
-
-    pub fn of(resource: u16) -> Self {
-        let refusal = 0;
-        Self { refusal, resource }
-    }
-}
-
-impl InverseAnswer {
-    pub fn refused(refusal: u16) -> Self {
-        let (position, cce) = (0, 0);
-        Self { refusal, position, cce }
-    }
-
-    pub fn of(position: u16, cce: u16) -> Self {
-        let refusal = 0;
-        Self { refusal, position, cce }
-    }
-}
+pub use types::{
+    ClaimsAnswer, Fed, Grant, Handset, InverseAnswer, Made, ReadingAnswer, ResourceAnswer,
+    Settings, Slot,
+};
 
 /// The engine's calls under their C names.
 pub mod c {
-    use super::{InverseAnswer, ResourceAnswer, Settings};
+    use super::{
+        ClaimsAnswer, Fed, Handset, InverseAnswer, Made, ReadingAnswer, ResourceAnswer, Settings,
+    };
 
     extern "C" {
         pub fn feedback_resource(
@@ -74,6 +33,36 @@ pub mod c {
         ) -> ResourceAnswer;
 
         pub fn feedback_inverse(settings: Settings, n: u16, resource: u16) -> InverseAnswer;
+
+        pub fn feedback_reading(
+            settings: Settings,
+            n: u16,
+            resource: u16,
+            b0: u16,
+            b1: u16,
+        ) -> ReadingAnswer;
+
+        pub fn feedback_claims(
+            settings: Settings,
+            n: u16,
+            claims: *const u16,
+            count: usize,
+            scratch: *mut u8,
+            room: usize,
+        ) -> ClaimsAnswer;
+
+        pub fn feedback_make(settings: Settings) -> Made;
+
+        pub fn feedback_feed_nothing(handset: Handset) -> Fed;
+
+        pub fn feedback_feed_grant(
+            handset: Handset,
+            blocks: u16,
+            first: u16,
+            second: u16,
+            cce: u16,
+            dai: u16,
+        ) -> Fed;
     }
 }
 
@@ -87,4 +76,47 @@ pub fn resource(settings: Settings, n: u16, position: u16, cce: u16) -> Resource
 pub fn inverse(settings: Settings, n: u16, resource: u16) -> InverseAnswer {
     // SAFETY: the call takes numbers and gives numbers, and is lent no memory.
     unsafe { c::feedback_inverse(settings, n, resource) }
+}
+
+/// The engine's reading of two bits on a resource in subframe `n`.
+pub fn reading(settings: Settings, n: u16, resource: u16, b0: u16, b1: u16) -> ReadingAnswer {
+    // SAFETY: the call takes numbers and gives numbers, and is lent no memory.
+    unsafe { c::feedback_reading(settings, n, resource, b0, b1) }
+}
+
+/// The engine's verdict on the claims for subframe `n`, with the marks it leaves
+/// in the scratch.
+pub fn claims(settings: Settings, n: u16, claims: &[u16], scratch: &mut [u8]) -> ClaimsAnswer {
+    let (list, count) = (claims.as_ptr(), claims.len());
+    let (marks, room) = (scratch.as_mut_ptr(), scratch.len());
+    // SAFETY: each slice is lent with its own length, the list to be read and the
+    // scratch to be written, and by their types the two do not overlap.
+    unsafe { c::feedback_claims(settings, n, list, count, marks, room) }
+}
+
+/// The engine's fresh handset.
+pub fn make(settings: Settings) -> Made {
+    // SAFETY: the call takes numbers and gives numbers, and is lent no memory.
+    unsafe { c::feedback_make(settings) }
+}
+
+/// The engine's answer when the next subframe of a handset heard a grant, or nothing.
+pub fn feed(handset: Handset, heard: Option<Grant>) -> Fed {
+    match heard {
+        None => feed_nothing(handset),
+        Some(grant) => feed_grant(handset, grant),
+    }
+}
+
+/// The engine's answer when the next subframe of a handset heard nothing.
+pub fn feed_nothing(handset: Handset) -> Fed {
+    // SAFETY: the call takes numbers and gives numbers, and is lent no memory.
+    unsafe { c::feedback_feed_nothing(handset) }
+}
+
+/// The engine's answer when the next subframe of a handset heard a grant.
+pub fn feed_grant(handset: Handset, grant: Grant) -> Fed {
+    let Grant { blocks, first, second, cce, dai } = grant;
+    // SAFETY: the call takes numbers and gives numbers, and is lent no memory.
+    unsafe { c::feedback_feed_grant(handset, blocks, first, second, cce, dai) }
 }

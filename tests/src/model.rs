@@ -3,9 +3,17 @@
 //! Nothing here computes a resource by the formula. The resources of a window
 //! are laid out one after the other as a list of (position, CCE), and both calls
 //! are a search in that list: the resource of a pair is the place where it lies,
-//! and a pair or a place that is not in the list is refused.
+//! and a pair or a place that is not in the list is refused. The multiplexed
+//! replies are laid out likewise: every state of a window, with its symbol.
+
+mod handset;
+mod replies;
+mod station;
+
+pub use replies::{Row, Symbol};
 
 use crate::{InverseAnswer, ResourceAnswer, Settings};
+use replies::States;
 
 /// The frame, subframes 0 to 9, and the windows of each configuration, as
 /// printed: the uplink subframe n, then K in order.
@@ -44,10 +52,11 @@ impl Window {
 /// the first has resource N1, the next N1 + 1, and so on.
 struct Layout(Vec<(u16, u16)>);
 
-/// The windows and the layouts, made once and then searched.
+/// The windows, the layouts and the states, made once and then searched.
 pub struct Model {
     windows: Vec<Window>,
     layouts: Vec<Vec<Layout>>,
+    states: Vec<States>,
 }
 
 impl Default for Model {
@@ -62,6 +71,7 @@ impl Model {
         Self {
             windows: (0..7).flat_map(windows_of).collect(),
             layouts: (1..=LONGEST).map(layouts_of_size).collect(),
+            states: replies::all(),
         }
     }
 
@@ -100,7 +110,8 @@ impl Model {
         Ok(&of_size[usize::from(settings.nrb - NRB.start())])
     }
 
-    fn window(&self, config: u16, n: u16) -> Option<&Window> {
+    /// The window of subframe n in a configuration, if it has one.
+    pub fn window(&self, config: u16, n: u16) -> Option<&Window> {
         self.windows.iter().find(|window| window.config == config && window.n == n)
     }
 }
@@ -145,17 +156,31 @@ pub fn frame(config: u16) -> &'static str {
     TABLE[usize::from(config)].0
 }
 
+/// Whether a subframe, 0 to 9, is an uplink one.
+pub fn is_uplink(config: u16, subframe: u16) -> bool {
+    frame(config).chars().nth(usize::from(subframe)) == Some('U')
+}
+
+/// Whether the reply for a window of `size` subframes is bundled.
+pub fn bundles(settings: Settings, size: u16) -> bool {
+    settings.mode == 0 || size == 1
+}
+
 /// The lowest number among the causes that the settings meet.
 fn settings_refusal(settings: Settings) -> Option<u16> {
     let Settings { config, nrb, n1, mode, blocks } = settings;
-    let causes = [
+    lowest([
         (1, config > 6),
         (2, !NRB.contains(&nrb)),
         (3, n1 > 2047),
         (4, ![0, 1].contains(&mode)),
         (5, (mode, config) == (1, 5)),
         (6, ![1, 2].contains(&blocks)),
-    ];
+    ])
+}
+
+/// The lowest number among the causes that are met.
+fn lowest<const C: usize>(causes: [(u16, bool); C]) -> Option<u16> {
     let met = causes.into_iter().filter(|(_, met)| *met);
     met.map(|(number, _)| number).min()
 }

@@ -1,6 +1,13 @@
-//! The two calls as one would write them in plain Rust with speed in mind:
-//! table lookup, the formula, a loop over the regions, a closed form for the
-//! inverse. The benchmark measures the engine against these.
+//! The calls as one would write them in plain Rust with speed in mind: table
+//! lookup, the formula, a loop over the regions, a closed form for the inverse,
+//! one pass over a window, a match for the symbols. The benchmark measures the
+//! engine against these, and the fuzzing compares with them.
+
+mod handset;
+mod station;
+
+pub use handset::{plain_feed_grant, plain_feed_nothing, plain_make};
+pub use station::{plain_claims, plain_reading};
 
 use crate::{InverseAnswer, ResourceAnswer, Settings};
 
@@ -91,6 +98,16 @@ fn check(settings: &Settings) -> Result<(), u16> {
     } else {
         Ok(())
     }
+}
+
+/// Whether the reply for a window of `size` subframes is bundled.
+fn bundles(settings: &Settings, size: u16) -> bool {
+    settings.mode == 0 || size == 1
+}
+
+/// N_4, the number of CCEs, for a bandwidth that has been checked.
+fn cces(nrb: u16) -> u16 {
+    nrb * 44 / 36
 }
 
 /// M of a window, for a configuration that has been checked.

@@ -1,0 +1,122 @@
+//! The station's side: the reading of a reply and the claims of a cell.
+
+use super::{bundles, check, inverse, window_size};
+use crate::{ClaimsAnswer, ReadingAnswer, Settings};
+use std::slice;
+
+/// Stands where no state sends a symbol.
+const NONE: u8 = 255;
+
+/// The positions that a symbol delivers, bit p for position p, by M − 2, index
+/// and 2 × b0 + b1.
+const DELIVERED: [[[u8; 4]; 4]; 3] = [
+    [[NONE, 0b01, 0b00, NONE], [0b10, NONE, 0b00, 0b11], [NONE; 4], [NONE; 4]],
+    [
+        [NONE, 0b001, 0b000, 0b101],
+        [0b010, NONE, 0b000, 0b011],
+        [0b100, 0b000, 0b110, 0b111],
+        [NONE; 4],
+    ],
+    [
+        [NONE, 0b1001, 0b0000, 0b0001],
+        [0b0000, 0b0010, 0b0011, 0b1111],
+        [0b0100, 0b0101, 0b0110, 0b0000],
+        [0b1000, 0b1100, 0b1010, 0b0000],
+    ],
+];
+
+/// The reading of two bits on a resource, under the signature of the C call.
+#[inline(never)]
+pub extern "C" fn plain_reading(
+    settings: Settings,
+    n: u16,
+    resource: u16,
+    b0: u16,
+    b1: u16,
+) -> ReadingAnswer {
+    match reading(&settings, n, resource, b0, b1) {
+        Ok(answer) => answer,
+        Err(refusal) => ReadingAnswer::refused(refusal),
+    }
+}
+
+/// The verdict on a list of claims, under the signature of the C call.
+///
+/// # Safety
+///
+/// The list has `count` numbers to be read and the scratch `room` bytes to be
+/// written, and the two do not overlap.
+#[inline(never)]
+pub unsafe extern "C" fn plain_claims(
+    settings: Settings,
+    n: u16,
+    claims: *const u16,
+    count: usize,
+    scratch: *mut u8,
+    room: usize,
+) -> ClaimsAnswer {
+    // SAFETY: the caller lends both for as long as the call lasts.
+    let (claims, scratch) =
+        unsafe { (slice::from_raw_parts(claims, count), slice::from_raw_parts_mut(scratch, room)) };
+    match judge(&settings, n, claims, scratch) {
+        Ok(None) => ClaimsAnswer::CLEAN,
+        Ok(Some(index)) => ClaimsAnswer::clash(index),
+        Err((refusal, index)) => ClaimsAnswer::refused(refusal, index),
+    }
+}
+
+fn reading(
+    settings: &Settings,
+    n: u16,
+    resource: u16,
+    b0: u16,
+    b1: u16,
+) -> Result<ReadingAnswer, u16> {
+    let (position, cce) = inverse(settings, n, resource)?;
+    if b0 > 1 || b1 > 1 {
+        return Err(14);
+    }
+    let size = window_size(settings.config, n)?;
+    if bundles(settings, size) {
+        if settings.blocks == 1 && b1 == 1 {
+            return Err(14);
+        }
+        return Ok(ReadingAnswer::bundled(position, cce, b0, b1));
+    }
+    let of_index = &DELIVERED[usize::from(size - 2)][usize::from(position)];
+    match of_index[usize::from(2 * b0 + b1)] {
+        NONE => Err(14),
+        delivered => Ok(ReadingAnswer::multiplexed(position, cce, delivered.into())),
+    }
+}
+
+/// The index of the first clash, if there is one, or a refusal and its index.
+fn judge(
+    settings: &Settings,
+    n: u16,
+    claims: &[u16],
+    scratch: &mut [u8],
+) -> Result<Option<usize>, (u16, usize)> {
+    let without_index = |refusal| (refusal, 0);
+    check(settings).map_err(without_index)?;
+    let size = window_size(settings.config, n).map_err(without_index)?;
+    let edges = [0, 8, 20, 32, 44].map(|twelfths| settings.nrb * twelfths / 36);
+    let cces = edges[4];
+    let marks = scratch.get_mut(..usize::from(size * cces)).ok_or((15, 0))?;
+    let is_bad = |claim: &u16| claim >> 8 >= size || claim & 255 >= cces;
+    if let Some(index) = claims.iter().position(is_bad) {
+        return Err((16, index));
+    }
+    marks.fill(0);
+    for (index, claim) in claims.iter().enumerate() {
+        let (position, cce) = (claim >> 8, claim & 255);
+        let p = edges[1..4].iter().filter(|edge| cce >= **edge).count();
+        let place = (size - position - 1) * edges[p] + position * edges[p + 1] + cce;
+        let mark = &mut marks[usize::from(place)];
+        if *mark == 1 {
+            return Ok(Some(index));
+        }
+        *mark = 1;
+    }
+    Ok(None)
+}

@@ -1,0 +1,184 @@
+//! Pseudo-random inputs from fixed seeds, the same in every run.
+
+use crate::model::{edge, Model, Window, NRB};
+use crate::{Grant, Handset, Settings, Slot};
+
+/// Numbers that are a limit somewhere, lie beside one, or would be allowed if
+/// only their low eight bits were read.
+const SPECIAL: [u16; 32] = [
+    0, 1, 2, 3, 4, 5, 6, 7, 8, 9, 10, 13, 14, 50, 110, 111, 133, 134, 135, 255, 256, 257, 258, 306,
+    1206, 2046, 2047, 2048, 3252, 3253, 32768, 65535,
+];
+
+/// A xorshift generator.
+pub struct Random(u64);
+
+impl Random {
+    /// Each seed gives a sequence of its own.
+    pub fn new(seed: u64) -> Self {
+        let mut random = Self((seed + 1).wrapping_mul(0x9e37_79b9_7f4a_7c15));
+        for _ in 0..8 {
+            random.number();
+        }
+        random
+    }
+
+    pub fn number(&mut self) -> u64 {
+        self.0 ^= self.0 << 13;
+        self.0 ^= self.0 >> 7;
+        self.0 ^= self.0 << 17;
+        self.0
+    }
+
+    /// A number below `end`.
+    pub fn below(&mut self, end: usize) -> usize {
+        ((self.number() >> 32) % end as u64) as usize
+    }
+
+    /// A number below `end`, in 16 bits.
+    pub fn below16(&mut self, end: u16) -> u16 {
+        self.below(end.into()) as u16
+    }
+
+    /// True once in `times` on average.
+    pub fn once_in(&mut self, times: usize) -> bool {
+        self.below(times) == 0
+    }
+
+    pub fn one_of<T: Copy>(&mut self, values: &[T]) -> T {
+        values[self.below(values.len())]
+    }
+
+    /// Any 16-bit number, every other time a special one.
+    pub fn any(&mut self) -> u16 {
+        match self.once_in(2) {
+            true => self.one_of(&SPECIAL),
+            false => (self.number() >> 32) as u16,
+        }
+    }
+
+    /// Any byte, every other time a special number cut to its low eight bits.
+    pub fn any_byte(&mut self) -> u8 {
+        self.any() as u8
+    }
+
+    /// The value, or once in `times` any number instead.
+    fn unless_once_in(&mut self, times: usize, value: u16) -> u16 {
+        match self.once_in(times) {
+            true => self.any(),
+            false => value,
+        }
+    }
+
+    /// Settings that are allowed.
+    pub fn settings(&mut self) -> Settings {
+        let config = self.below16(7);
+        Settings {
+            config,
+            nrb: NRB.start() + self.below16(NRB.count() as u16),
+            n1: self.below16(2048),
+            mode: if config == 5 { 0 } else { self.below16(2) },
+            blocks: 1 + self.below16(2),
+        }
+    }
+
+    /// Settings of which each number is once in `times` any number.
+    pub fn wild_settings(&mut self, times: usize) -> Settings {
+        let Settings { config, nrb, n1, mode, blocks } = self.settings();
+        Settings {
+            config: self.unless_once_in(times, config),
+            nrb: self.unless_once_in(times, nrb),
+            n1: self.unless_once_in(times, n1),
+            mode: self.unless_once_in(times, mode),
+            blocks: self.unless_once_in(times, blocks),
+        }
+    }
+
+    /// A window of a configuration.
+    pub fn window<'a>(&mut self, model: &'a Model, config: u16) -> &'a Window {
+        let windows: Vec<_> = model.windows().iter().filter(|w| w.config == config).collect();
+        windows[self.below(windows.len())]
+    }
+
+    /// Mostly a subframe in which some configuration has a window, else any number.
+    pub fn wild_n(&mut self) -> u16 {
+        let n = self.one_of(&[2, 2, 2, 3, 4, 7, 8, 9]);
+        self.unless_once_in(16, n)
+    }
+
+    /// A grant that is allowed in the downlink, its flags any numbers.
+    pub fn grant(&mut self, settings: Settings) -> Grant {
+        Grant {
+            blocks: 1 + self.below16(settings.blocks),
+            first: self.flag(),
+            second: self.flag(),
+            cce: self.below16(edge(settings.nrb, 4)),
+            dai: 1 + self.below16(4),
+        }
+    }
+
+    /// A decoded flag: 0, or any other number.
+    pub fn flag(&mut self) -> u16 {
+        match self.below(4) {
+            0 => 0,
+            1 | 2 => 1,
+            _ => self.any(),
+        }
+    }
+
+    /// A grant of which each number is once in `times` any number.
+    pub fn wild_grant(&mut self, settings: Settings, times: usize) -> Grant {
+        let cces = edge(settings.nrb.clamp(*NRB.start(), *NRB.end()), 4);
+        let Grant { blocks, first, second, cce, dai } =
+            self.grant(Settings { nrb: 6, blocks: settings.blocks.clamp(1, 2), ..settings });
+        let cce = if self.once_in(4) { cce } else { self.below16(cces) };
+        Grant {
+            blocks: self.unless_once_in(times, blocks),
+            first,
+            second,
+            cce: self.unless_once_in(times, cce),
+            dai: self.unless_once_in(times, dai),
+        }
+    }
+
+    /// One to three fields of a handset get other values.
+    pub fn damage(&mut self, mut handset: Handset) -> Handset {
+        for _ in 0..1 + self.below(3) {
+            let settings = &mut handset.settings;
+            match self.below(16) {
+                0 => settings.config = self.any(),
+                1 => settings.nrb = self.any(),
+                2 => settings.n1 = self.any(),
+                3 => settings.mode = self.any(),
+                4 => settings.blocks = self.any(),
+                5 => handset.next = self.any(),
+                6 => handset.next = self.below16(10),
+                7 => settings.config = self.below16(7),
+                8 => settings.nrb = NRB.start() + self.below16(NRB.count() as u16),
+                other => {
+                    let slot = &mut handset.past[self.below(13)];
+                    match other {
+                        9 => slot.kind = self.any_byte(),
+                        10 => slot.kind = 1 - slot.kind.min(1),
+                        11 | 12 => slot.cce = self.any_byte(),
+                        13 => slot.dai = self.any_byte(),
+                        14 => slot.dai = self.below(7) as u8,
+                        _ => slot.results = self.any_byte(),
+                    }
+                }
+            }
+        }
+        handset
+    }
+
+    /// A handset of any numbers.
+    pub fn noise(&mut self) -> Handset {
+        let mut handset = Handset::fresh(self.wild_settings(2));
+        handset.next = self.any();
+        for slot in &mut handset.past {
+            let [kind, cce, dai, results] = [0; 4].map(|_: u8| self.any_byte());
+            *slot = Slot { kind, cce, dai, results };
+        }
+        handset
+    }
+}

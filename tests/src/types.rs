@@ -1,0 +1,200 @@
+//! The structs of the C calls, as in `include/feedback.h`.
+
+/// The settings of a cell: raw numbers, of which a call refuses what is not allowed.
+#[repr(C)]
+#[derive(Clone, Copy, Debug, PartialEq, Eq)]
+pub struct Settings {
+    pub config: u16,
+    pub nrb: u16,
+    pub n1: u16,
+    pub mode: u16,
+    pub blocks: u16,
+}
+
+/// The answer of the resource call: a refusal, or 0 and the resource.
+#[repr(C)]
+#[derive(Clone, Copy, Debug, PartialEq, Eq)]
+pub struct ResourceAnswer {
+    pub refusal: u16,
+    pub resource: u16,
+}
+
+/// The answer of the inverse: a refusal, or 0 and the position and first CCE.
+#[repr(C)]
+#[derive(Clone, Copy, Debug, PartialEq, Eq)]
+pub struct InverseAnswer {
+    pub refusal: u16,
+    pub position: u16,
+    pub cce: u16,
+}
+
+/// The answer of the station's reading: a refusal, or 0 and the position and
+/// first CCE, with the ACK bits of a bundled reply (kind 1) or the positions
+/// delivered by a multiplexed one (kind 2; bit p for position p). What is not
+/// of the kind is 0.
+#[repr(C)]
+#[derive(Clone, Copy, Debug, PartialEq, Eq)]
+pub struct ReadingAnswer {
+    pub refusal: u16,
+    pub kind: u16,
+    pub position: u16,
+    pub cce: u16,
+    pub b0: u16,
+    pub b1: u16,
+    pub delivered: u16,
+}
+
+/// The answer about the claims of a cell: clean (kind 0), the index of the
+/// first claim equal to an earlier one (1), or a refusal (2), with the index of
+/// the first bad claim where that is the cause.
+#[repr(C)]
+#[derive(Clone, Copy, Debug, PartialEq, Eq)]
+pub struct ClaimsAnswer {
+    pub kind: u16,
+    pub refusal: u16,
+    pub index: u64,
+}
+
+/// What a handset remembers of one subframe: nothing (kind 0), or a grant (1)
+/// with its results: bit 0 if the first block was decoded, bit 1 if the second
+/// was, bit 2 if the grant carried two.
+#[repr(C)]
+#[derive(Clone, Copy, Debug, PartialEq, Eq)]
+pub struct Slot {
+    pub kind: u8,
+    pub cce: u8,
+    pub dai: u8,
+    pub results: u8,
+}
+
+/// A running handset: its settings, the subframe it expects, and the last 13
+/// subframes, newest first.
+#[repr(C)]
+#[derive(Clone, Copy, Debug, PartialEq, Eq)]
+pub struct Handset {
+    pub settings: Settings,
+    pub next: u16,
+    pub past: [Slot; 13],
+}
+
+/// The answer of making a handset: a refusal, or 0 and the handset.
+#[repr(C)]
+#[derive(Clone, Copy, Debug, PartialEq, Eq)]
+pub struct Made {
+    pub refusal: u16,
+    pub handset: Handset,
+}
+
+/// The answer of a feed: refused (kind 0), a bundled reply (1) or a multiplexed
+/// one (2) with its resource and bits, silent (3), taken (4) or no window (5);
+/// and the handset afterwards.
+#[repr(C)]
+#[derive(Clone, Copy, Debug, PartialEq, Eq)]
+pub struct Fed {
+    pub refusal: u16,
+    pub kind: u16,
+    pub resource: u16,
+    pub b0: u16,
+    pub b1: u16,
+    pub handset: Handset,
+}
+
+/// A grant as the arguments of a feed name it: raw numbers, of which the feed
+/// refuses what is not allowed. A block was decoded unless its number is 0.
+#[derive(Clone, Copy, Debug, PartialEq, Eq)]
+pub struct Grant {
+    pub blocks: u16,
+    pub first: u16,
+    pub second: u16,
+    pub cce: u16,
+    pub dai: u16,
+}
+
+impl ResourceAnswer {
+    pub fn refused(refusal: u16) -> Self {
+        let resource = 0;
+        Self { refusal, resource }
+    }
+
+    pub fn of(resource: u16) -> Self {
+        let refusal = 0;
+        Self { refusal, resource }
+    }
+}
+
+impl InverseAnswer {
+    pub fn refused(refusal: u16) -> Self {
+        let (position, cce) = (0, 0);
+        Self { refusal, position, cce }
+    }
+
+    pub fn of(position: u16, cce: u16) -> Self {
+        let refusal = 0;
+        Self { refusal, position, cce }
+    }
+}
+
+impl ReadingAnswer {
+    pub fn refused(refusal: u16) -> Self {
+        Self { refusal, kind: 0, position: 0, cce: 0, b0: 0, b1: 0, delivered: 0 }
+    }
+
+    pub fn bundled(position: u16, cce: u16, b0: u16, b1: u16) -> Self {
+        Self { refusal: 0, kind: 1, position, cce, b0, b1, delivered: 0 }
+    }
+
+    pub fn multiplexed(position: u16, cce: u16, delivered: u16) -> Self {
+        Self { refusal: 0, kind: 2, position, cce, b0: 0, b1: 0, delivered }
+    }
+}
+
+impl ClaimsAnswer {
+    pub const CLEAN: Self = Self { kind: 0, refusal: 0, index: 0 };
+
+    pub fn clash(index: usize) -> Self {
+        Self { kind: 1, refusal: 0, index: index as u64 }
+    }
+
+    pub fn refused(refusal: u16, index: usize) -> Self {
+        Self { kind: 2, refusal, index: index as u64 }
+    }
+}
+
+impl Slot {
+    pub const NOTHING: Self = Self { kind: 0, cce: 0, dai: 0, results: 0 };
+}
+
+impl Handset {
+    /// What stands beside a refusal to make one.
+    pub const NONE: Self = Self {
+        settings: Settings { config: 0, nrb: 0, n1: 0, mode: 0, blocks: 0 },
+        next: 0,
+        past: [Slot::NOTHING; 13],
+    };
+
+    /// A fresh one, which has heard nothing and expects subframe 0.
+    pub fn fresh(settings: Settings) -> Self {
+        Self { settings, ..Self::NONE }
+    }
+}
+
+impl Fed {
+    pub const BUNDLED: u16 = 1;
+    pub const MULTIPLEXED: u16 = 2;
+    pub const SILENT: u16 = 3;
+    pub const TAKEN: u16 = 4;
+    pub const NO_WINDOW: u16 = 5;
+
+    pub fn refused(refusal: u16, handset: Handset) -> Self {
+        Self { refusal, ..Self::answer(0, handset) }
+    }
+
+    pub fn reply(kind: u16, resource: u16, bits: (u16, u16), handset: Handset) -> Self {
+        Self { refusal: 0, kind, resource, b0: bits.0, b1: bits.1, handset }
+    }
+
+    /// An answer that is no reply.
+    pub fn answer(kind: u16, handset: Handset) -> Self {
+        Self::reply(kind, 0, (0, 0), handset)
+    }
+}
