@@ -239,7 +239,7 @@ module _ (set : Settings) (n : ℕ) (good : windowRefusal set n ≡ 0) (ok : Acc
 
   -- the reply that is due
   reply : anyHeard es ≡ true → Fours (lostBefore es)
-      → (r : Reply) × (bundledAnswer set n seen ≡ answer.Sent r) × BundledReply set (readOf set n) (windowOf (set .config) n) es r
+      → (r : Reply) × (bundledAnswer set n seen ≡ answer.Sent r) × BundledReply set (resourceOf set n) (readOf set n) (windowOf (set .config) n) es r
   reply some lost =
       let l = some-heard some in
       let f = found (l .0) (l .1) (l .2) in
@@ -252,7 +252,7 @@ module _ (set : Settings) (n : ℕ) (good : windowRefusal set n ≡ 0) (ok : Acc
           kind = refl;
           isRead = λ k c e.
               let q = same-last (l .0) (l .1) k c (sym (l .2) ∙ e) in
-              (m, f .of .position, f .of .back ∙ q .0, reads m (l .1) (p .0) (p .3 .there) ∙ ap (λ (x : ℕ). reading.Bundled m (record { 0 = x }) (bit (seen .first)) (secondBit set seen)) (q .1));
+              (m, f .of .position, f .of .back ∙ q .0, ap (resourceOf set n m) (sym (q .1)) ∙ p .3 .there, reads m (l .1) (p .0) (p .3 .there) ∙ ap (λ (x : ℕ). reading.Bundled m (record { 0 = x }) (bit (seen .first)) (secondBit set seen)) (q .1));
           first = (λ e. first-all .0 (bit-true (seen .first) .0 e), λ h. bit-true (seen .first) .1 (first-all .1 h));
           second = λ two. (
             λ e. second-all .0 (bit-true (seen .second) .0 (sym (second-bit two) ∙ e)),
@@ -262,7 +262,7 @@ module _ (set : Settings) (n : ℕ) (good : windowRefusal set n ≡ 0) (ok : Acc
         },
       )
 
-  pub bundled-window : Bundled set (readOf set n) (windowOf (set .config) n) (map (entry S H) (timesOf (windowOf (set .config) n))) (bundledAnswer set n (seenOf F (windowOf (set .config) n)))
+  pub bundled-window : Bundled set (resourceOf set n) (readOf set n) (windowOf (set .config) n) (map (entry S H) (timesOf (windowOf (set .config) n))) (bundledAnswer set n (seenOf F (windowOf (set .config) n)))
   unfolding es
   bundled-window = rw folded (sent-exactly _ _ _ (decided (anyHeard es) refl (fours (lostBefore es))) (λ d. reply (d .0) (d .1)) undue)
     where

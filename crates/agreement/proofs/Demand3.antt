@@ -21,10 +21,10 @@ use Rattle.handset.specs.declared.Fed.{Fed}
 use Rattle.handset.specs.Feed.{feedOf}
 use Rattle.handset.specs.Make.{makeOf}
 use Rattle.station.proofs.Back.{read-back}
-use Rattle.agreement.specs.Claim.{TurnClaim, Demand3}
-use Rattle.agreement.specs.Run.{Send, Item, feed, heardFrom, Turn, turns, Schedule, Brings}
+use Rattle.agreement.specs.Claim.{ours, turnAt, IsSubframe, Demand3}
+use Rattle.agreement.specs.Run.{Send, Item, feed, heardFrom, Turn, turns, Schedule, Brings, subframeAt, BringsSent}
 use Rattle.agreement.proofs.Memory.{ValidPast, after, fresh-after}
-use Rattle.agreement.proofs.Turns.{ours, Past, accepted-after, refused-after, turn-claim}
+use Rattle.agreement.proofs.Turns.{Past, accepted-after, refused-after, turn-claim, Answered, TurnClaim}
 
 module _ (set : Settings) (good : settingsRefusal set ≡ 0) (sent : ℕ → Send) (schedule : Schedule set sent) (heard : List Heard)
     (brings : (s : ℕ) → s < length heard → Brings (sent s) (getD heard s Nothing)) where
@@ -35,7 +35,7 @@ module _ (set : Settings) (good : settingsRefusal set ≡ 0) (sent : ℕ → Sen
   -- Every feed of a list is as claimed, from the handset after any history.
   every-turn : (items : List Item) (l : List Heard) → ValidPast set l → Past heard l → Rest (length l) items
       → (i : ℕ) → i < length items → (d : Turn)
-      → TurnClaim ours set sent heard (length l + length (heardFrom set (length l) (take i items))) (getD (turns feedOf (after set l) items) i d)
+      → TurnClaim set sent heard (length l + length (heardFrom set (length l) (take i items))) (getD (turns feedOf (after set l) items) i d)
   every-turn [] l valid past rest i h d = absurd (not-suc-le-zero h)
   every-turn (feed x ∷ items) l valid past rest zero h d = rw (add-zero (length l)) (turn-claim set good sent schedule heard brings l valid past x)
   every-turn (feed x ∷ items) l valid past rest (suc i) h d =
@@ -45,8 +45,8 @@ module _ (set : Settings) (good : settingsRefusal set ≡ 0) (sent : ℕ → Sen
       go : (b : Bool) → eqb (heardRefusal set (length l % 10) x) 0 ≡ b
           → ((j : ℕ) → getD heard (length l + j) Nothing ≡ getD (cond b (x ∷ heardFrom set (suc (length l)) items) (heardFrom set (length l) items)) j Nothing)
           → ((l′ : List Heard) → ValidPast set l′ → Past heard l′ → Rest (length l′) items
-          → TurnClaim ours set sent heard (length l′ + length (heardFrom set (length l′) (take i items))) (getD (turns feedOf (after set l′) items) i d))
-          → TurnClaim ours set sent heard (length l + length (cond b (x ∷ heardFrom set (suc (length l)) (take i items)) (heardFrom set (length l) (take i items))))
+          → TurnClaim set sent heard (length l′ + length (heardFrom set (length l′) (take i items))) (getD (turns feedOf (after set l′) items) i d))
+          → TurnClaim set sent heard (length l + length (cond b (x ∷ heardFrom set (suc (length l)) (take i items)) (heardFrom set (length l) (take i items))))
           (getD (turns feedOf (feedOf (after set l) x .handset) items) i d)
       go true b rest next =
           let e : heardRefusal set (length l % 10) x ≡ 0 = eqb-true (heardRefusal set (length l % 10) x) 0 b in
@@ -69,6 +69,20 @@ made-accepted : (set : Settings) → settingsRefusal set ≡ 0 → makeOf set .r
 unfolding makeOf
 made-accepted set good = good
 
+-- Every feed of a run is as claimed.
+every-feed : (set : Settings) → settingsRefusal set ≡ 0 → (sent : ℕ → Send) → Schedule set sent → (items : List Item) → BringsSent set sent items
+    → (i : ℕ) → i < length items → TurnClaim set sent (heardFrom set 0 items) (subframeAt set items i) (turnAt ours set items i)
+every-feed set good sent schedule items brings i h =
+    rw (made-fresh set good, ← zero-add (length (heardFrom set 0 (take i items))))
+    (every-turn set good sent schedule (heardFrom set 0 items) brings items [] tt tt
+    (λ j. ap (λ (s : ℕ). getD (heardFrom set 0 items) s Nothing) (zero-add j)) i h _)
+
+-- So is every subframe of the run.
+every-subframe : (set : Settings) → settingsRefusal set ≡ 0 → (sent : ℕ → Send) → Schedule set sent → (items : List Item) → BringsSent set sent items
+    → (i s : ℕ) → IsSubframe ours set items i s → Answered set sent (heardFrom set 0 items) s (turnAt ours set items i .fed .answer)
+every-subframe set good sent schedule items brings i s at =
+    rw (at .counted) at (every-feed set good sent schedule items brings i (at .inside) .accepted (at .accepted))
+
 -- The theorem of the third demand: it holds of the engine of this repository.
 pub demand3 : Demand3 ours
 demand3 =
@@ -78,8 +92,13 @@ demand3 =
       givesBack = λ set n m c r b0 b1 there. read-back set n m c r there b0 b1;
       exactlyOne = exactly-one;
       made = made-accepted;
-      run = λ set good sent schedule items brings i h.
-          rw (made-fresh set good, ← zero-add (length (heardFrom set 0 (take i items))))
-          (every-turn set good sent schedule (heardFrom set 0 items) brings items [] tt tt
-          (λ j. ap (λ (s : ℕ). getD (heardFrom set 0 items) s Nothing) (zero-add j)) i h _);
+      run = λ set good sent schedule items brings.
+          record {
+            refusedExactly = λ i h. every-feed set good sent schedule items brings i h .refusedExactly;
+            leaves = λ i h. every-feed set good sent schedule items brings i h .refused;
+            taken = λ i s at. every-subframe set good sent schedule items brings i s at .taken;
+            noWindow = λ i s at. every-subframe set good sent schedule items brings i s at .noWindow;
+            bundled = λ i s at. every-subframe set good sent schedule items brings i s at .bundled;
+            multiplexed = λ i s at. every-subframe set good sent schedule items brings i s at .multiplexed;
+          };
     }

@@ -40,11 +40,11 @@ heardCount (at k sent heard ∷ es) = cond (isHeard heard) 1 0 + heardCount es
 
 module _ (ks : List ℕ) where
   -- Nothing heard changes nothing.
-  pub quiet : (es : List Entry) (seen : Seen) → anyHeard es ≡ false → foldIn ks seen es ≡ seen
+  pub nothing-heard : (es : List Entry) (seen : Seen) → anyHeard es ≡ false → foldIn ks seen es ≡ seen
   unfolding foldIn stepOf viewOf
-  quiet [] seen e = refl
-  quiet (at k sent Nothing ∷ es) seen e = quiet es seen e
-  quiet (at k sent (Granted g) ∷ es) seen e = absurd (false≢true (sym e))
+  nothing-heard [] seen e = refl
+  nothing-heard (at k sent Nothing ∷ es) seen e = nothing-heard es seen e
+  nothing-heard (at k sent (Granted g) ∷ es) seen e = absurd (false≢true (sym e))
 
   -- U counts the heard grants.
   pub counted : (es : List Entry) (seen : Seen) → foldIn ks seen es .u ≡ seen .u + heardCount es
@@ -78,8 +78,8 @@ module _ (ks : List ℕ) where
           → foldIn ks next es .v ≡ (j + (1 + heardCount es) + cond (anyHeard es) (0 + lostBefore es) 0 - 1) % 4 + 1
       go true t rest = rw t (rest t ∙ omega arith)
       go false t rest =
-          rw (t, ap (λ (s : Seen). s .v) (quiet es next t))
-          (same (s .0) ∙ r .0 ∙ omega (arith, counted es next, ap (λ (s : Seen). s .u) (quiet es next t)))
+          rw (t, ap (λ (s : Seen). s .v) (nothing-heard es next t))
+          (same (s .0) ∙ r .0 ∙ omega (arith, counted es next, ap (λ (s : Seen). s .u) (nothing-heard es next t)))
 
   -- Position and first CCE are those of the last heard grant.
   KeptBy : Last → Seen → Type 0

@@ -3,7 +3,7 @@
 use Prim.Native.Nat.{ℕ, zero, suc, _-_, _%_, _<_, _≤_}
 use mathlib.Core.Bool.{true, false, or-true}
 use mathlib.Core.List.{List, [], _∷_, map}
-use mathlib.Core.Logic.{_⊎_, inl, inr}
+use mathlib.Core.Logic.{_⊎_, inl, inr, _↔_}
 use mathlib.Core.Path.{_≡_, refl, sym, ap, _∙_}
 use native.Mathlib.Decide.{decLe, decLt}
 use native.Mathlib.Omega.{arith}
@@ -16,8 +16,9 @@ use Rattle.frame.specs.Settings.{bundles, settingsRefusal, noWindowRefusal, win
 use Rattle.frame.specs.Table.{windowOf}
 use Rattle.frame.proofs.Accepted.{Accepted, accepted}
 use Rattle.frame.proofs.Windows.{window-uplink, small-windows}
-use Rattle.resource.specs.Calls.{resourceOf, inverseOf}
+use Rattle.resource.specs.Calls.{resourceOf}
 use Rattle.resource.specs.Formula.{edge}
+use Rattle.reply.specs.declared.Answer.{Answer}
 use Rattle.reply.specs.declared.Answer.the-variants as answer
 use Rattle.reply.specs.declared.Grant.{Grant}
 use Rattle.reply.specs.declared.Heard.{Heard}
@@ -29,18 +30,30 @@ use Rattle.reply.specs.Memory.{slotOf, viewAgo}
 use Rattle.reply.specs.Replies.{bundledAnswer, multiplexedAnswer, windowAnswer}
 use Rattle.handset.specs.declared.Fed.{Fed}
 use Rattle.handset.specs.Feed.{answerOf, dueOf, feedRefusal, fedAs, feedOf}
-use Rattle.handset.specs.Make.{memory, makeOf}
+use Rattle.handset.specs.Make.{memory}
 use Rattle.station.specs.Readings.{readOf}
-use Rattle.agreement.specs.Claim.{Engine, Answered, TurnClaim}
-use Rattle.agreement.specs.Run.{Send, sentAgo, heardAgo, Schedule, Brings}
+use Rattle.agreement.specs.Run.{Send, sentAgo, heardAgo, Schedule, Brings, Turn, windowAt}
+use Rattle.agreement.specs.Window.{inTime, Bundled, Multiplexed}
 use Rattle.agreement.proofs.BundledWindow.{bundled-window}
 use Rattle.agreement.proofs.Memory.{ValidPast, after, pushed-after, view-after, low-after, sound-after}
 use Rattle.agreement.proofs.MultiplexedWindow.{multiplexed-window}
 use Rattle.agreement.proofs.NeverRefused.{never-refused}
 
--- The engine of this repository: the definitions that the promises of its code are equations with.
-abbrev pub ours : Engine
-ours = record { make = makeOf; feed = feedOf; resource = resourceOf; inverse = inverseOf; read = readOf }
+-- What demand 3 says of the answer at the run's subframe s, which was fed and not refused.
+pub record Answered (set : Settings) (sent : ℕ → Send) (heard : List Heard) (s : ℕ) (a : Answer) : Type 0 where
+  pub taken : downlink (set .config) (s % 10) ≡ true → a ≡ answer.Taken
+  pub noWindow : downlink (set .config) (s % 10) ≡ false → windowAt set s ≡ [] → a ≡ answer.NoWindow
+  pub bundled : 0 < length (windowAt set s) → (set .mode ≡ 0) ⊎ (length (windowAt set s) ≡ 1)
+      → Bundled set (resourceOf set (s % 10)) (readOf set (s % 10)) (windowAt set s) (inTime (sentAgo sent s) (heardAgo heard s) (windowAt set s)) a
+  pub multiplexed : 0 < length (windowAt set s) → set .mode ≡ 1 → (length (windowAt set s) ≡ 1 → ⊥)
+      → Multiplexed (resourceOf set (s % 10)) (readOf set (s % 10)) (windowAt set s) (heardAgo heard s) (inTime (sentAgo sent s) (heardAgo heard s) (windowAt set s)) a
+
+-- What it says of a feed at the run's next subframe s.
+pub record TurnClaim (set : Settings) (sent : ℕ → Send) (heard : List Heard) (s : ℕ) (t : Turn) : Type 0 where
+  pub refusedExactly : ((k : ℕ) × (t .fed .answer ≡ answer.Refused k)) ↔ (heardRefusal set (s % 10) (t .brought) ≡ 0 → ⊥)
+  pub refused : (heardRefusal set (s % 10) (t .brought) ≡ 0 → ⊥)
+      → t .fed ≡ record { answer = answer.Refused (heardRefusal set (s % 10) (t .brought)); handset = t .handset }
+  pub accepted : heardRefusal set (s % 10) (t .brought) ≡ 0 → Answered set sent heard s (t .fed .answer)
 
 -- The run's list of heard things has the history, newest first, at its subframes.
 abbrev pub Past : List Heard → List Heard → Type 0
@@ -136,7 +149,7 @@ module _ (set : Settings) (good : settingsRefusal set ≡ 0) (sent : ℕ → Sen
   unfolding dueOf answerOf windowAnswer
   no-window-due e f = rw (e, f)
 
-  answered : Answered ours set sent heard (length l) (dueOf (after set l))
+  answered : Answered set sent heard (length l) (dueOf (after set l))
   answered =
       record {
         taken = taken-due;
@@ -173,7 +186,7 @@ module _ (set : Settings) (good : settingsRefusal set ≡ 0) (sent : ℕ → Sen
       go zero e = absurd (h e)
       go (suc k) e = refl
 
-  pub turn-claim : (x : Heard) → TurnClaim ours set sent heard (length l) (record { handset = after set l; brought = x; fed = feedOf (after set l) x })
+  pub turn-claim : (x : Heard) → TurnClaim set sent heard (length l) (record { handset = after set l; brought = x; fed = feedOf (after set l) x })
   turn-claim x =
       record {
         refusedExactly = (

@@ -30,8 +30,8 @@ abbrev pub cell : ℕ → ℕ → Settings
 cell config mode = record { config = config; nrb = 50; n1 = 10; mode = mode; blocks = 1 }
 
 -- a feed that brings nothing, and one that brings a grant of one block
-abbrev pub quiet : Item
-quiet = feed Nothing
+abbrev pub hearsNothing : Item
+hearsNothing = feed Nothing
 
 abbrev pub hears : ℕ → ℕ → Bool → Item
 hears c d decoded = feed (Granted (record { blocks = 1; first = decoded; second = false; cce = record { 0 = c }; dai = d }))
@@ -58,7 +58,7 @@ allHeard =
     record {
       set = cell 1 0;
       sends = grant 1 3 1 ∷ grant 1 10 2 ∷ [];
-      items = hears 3 1 true ∷ hears 10 2 true ∷ quiet ∷ quiet ∷ quiet ∷ quiet ∷ quiet ∷ quiet ∷ [];
+      items = hears 3 1 true ∷ hears 10 2 true ∷ hearsNothing ∷ hearsNothing ∷ hearsNothing ∷ hearsNothing ∷ hearsNothing ∷ hearsNothing ∷ [];
       answers = answer.Taken ∷ answer.Taken ∷ answer.Silent ∷ answer.Silent ∷ answer.Taken ∷ answer.Taken ∷ answer.Taken ∷ reply 1 31 1 0 ∷ [];
     }
 
@@ -68,7 +68,7 @@ missed =
     record {
       set = cell 1 0;
       sends = grant 1 3 1 ∷ grant 1 10 2 ∷ [];
-      items = quiet ∷ hears 10 2 true ∷ quiet ∷ quiet ∷ quiet ∷ quiet ∷ quiet ∷ quiet ∷ [];
+      items = hearsNothing ∷ hears 10 2 true ∷ hearsNothing ∷ hearsNothing ∷ hearsNothing ∷ hearsNothing ∷ hearsNothing ∷ hearsNothing ∷ [];
       answers = answer.Taken ∷ answer.Taken ∷ answer.Silent ∷ answer.Silent ∷ answer.Taken ∷ answer.Taken ∷ answer.Taken ∷ answer.Silent ∷ [];
     }
 
@@ -78,7 +78,7 @@ refusedBetween =
     record {
       set = cell 1 0;
       sends = grant 1 3 1 ∷ grant 1 10 2 ∷ [];
-      items = hears 3 1 true ∷ hears 10 5 true ∷ hears 10 2 false ∷ quiet ∷ quiet ∷ quiet ∷ quiet ∷ quiet ∷ quiet ∷ [];
+      items = hears 3 1 true ∷ hears 10 5 true ∷ hears 10 2 false ∷ hearsNothing ∷ hearsNothing ∷ hearsNothing ∷ hearsNothing ∷ hearsNothing ∷ hearsNothing ∷ [];
       answers = answer.Taken ∷ answer.Refused 12 ∷ answer.Taken ∷ answer.Silent ∷ answer.Silent ∷ answer.Taken ∷ answer.Taken ∷ answer.Taken ∷ reply 1 31 0 0 ∷ [];
     }
 
@@ -88,7 +88,7 @@ fourLost =
     record {
       set = cell 5 0;
       sends = grant 1 0 1 ∷ grant 1 0 2 ∷ nothing ∷ grant 1 0 3 ∷ grant 1 0 4 ∷ grant 1 0 1 ∷ [];
-      items = quiet ∷ quiet ∷ quiet ∷ quiet ∷ quiet ∷ hears 0 1 true ∷ quiet ∷ quiet ∷ quiet ∷ quiet ∷ quiet ∷ quiet ∷ quiet ∷ [];
+      items = hearsNothing ∷ hearsNothing ∷ hearsNothing ∷ hearsNothing ∷ hearsNothing ∷ hears 0 1 true ∷ hearsNothing ∷ hearsNothing ∷ hearsNothing ∷ hearsNothing ∷ hearsNothing ∷ hearsNothing ∷ hearsNothing ∷ [];
       answers =
           answer.Taken ∷ answer.Taken ∷ answer.Silent ∷ answer.Taken ∷ answer.Taken ∷ answer.Taken ∷ answer.Taken ∷ answer.Taken ∷ answer.Taken ∷ answer.Taken ∷ answer.Taken
           ∷ answer.Taken ∷ reply 1 54 1 0 ∷ [];
@@ -100,7 +100,7 @@ shared =
     record {
       set = cell 2 1;
       sends = nothing ∷ nothing ∷ nothing ∷ nothing ∷ grant 1 0 1 ∷ grant 1 5 2 ∷ [];
-      items = quiet ∷ quiet ∷ quiet ∷ quiet ∷ hears 0 1 true ∷ hears 5 2 true ∷ quiet ∷ quiet ∷ quiet ∷ quiet ∷ quiet ∷ quiet ∷ quiet ∷ [];
+      items = hearsNothing ∷ hearsNothing ∷ hearsNothing ∷ hearsNothing ∷ hears 0 1 true ∷ hears 5 2 true ∷ hearsNothing ∷ hearsNothing ∷ hearsNothing ∷ hearsNothing ∷ hearsNothing ∷ hearsNothing ∷ hearsNothing ∷ [];
       answers =
           answer.Taken ∷ answer.Taken ∷ answer.Silent ∷ answer.Taken ∷ answer.Taken ∷ answer.Taken ∷ answer.Taken ∷ answer.Silent ∷ answer.Taken ∷ answer.Taken ∷ answer.Taken
           ∷ answer.Taken ∷ reply 2 26 1 0 ∷ [];
@@ -112,7 +112,7 @@ beforeStart =
     record {
       set = cell 2 0;
       sends = grant 1 0 1 ∷ [];
-      items = hears 0 1 true ∷ quiet ∷ quiet ∷ quiet ∷ quiet ∷ quiet ∷ quiet ∷ quiet ∷ [];
+      items = hears 0 1 true ∷ hearsNothing ∷ hearsNothing ∷ hearsNothing ∷ hearsNothing ∷ hearsNothing ∷ hearsNothing ∷ hearsNothing ∷ [];
       answers = answer.Taken ∷ answer.Taken ∷ answer.Silent ∷ answer.Taken ∷ answer.Taken ∷ answer.Taken ∷ answer.Taken ∷ reply 1 21 1 0 ∷ [];
     }
 

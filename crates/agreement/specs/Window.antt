@@ -95,13 +95,15 @@ SentExactly a Due Right =
     × ((r : Reply) → a ≡ answer.Sent r → Right r)
     × (((r : Reply) → a ≡ answer.Sent r → ⊥) → a ≡ answer.Silent)
 
--- "If 01 bundles it": `ks` is K as printed, `es` the window's subframes in time order; `read` is the station's reading with the
--- same settings and n = s mod 10.
-pub record BundledReply (set : Settings) (read : ℕ → ℕ → ℕ → Reading) (ks : List ℕ) (es : List Entry) (r : Reply) : Type 0 where
+-- "If 01 bundles it": `ks` is K as printed, `es` the window's subframes in time order; `resource` is the resource call and `read`
+-- the station's reading, with the same settings and n = s mod 10.
+pub record BundledReply (set : Settings) (resource : ℕ → ℕ → Mapped) (read : ℕ → ℕ → ℕ → Reading) (ks : List ℕ) (es : List Entry) (r : Reply) : Type 0 where
   pub kind : r .kind ≡ 1
-  -- "It is read as that last grant": its position is the place of its k in K, and the reply's bits are the ACK bits
+  -- "It is read as that last grant", on whose resource it is sent: its position is the place of its k in K, and the reply's bits
+  -- are the ACK bits
   pub isRead : (k c : ℕ) → lastHeard es ≡ heardAt k c
       → (m : ℕ) × (m < length ks) × (getD ks m 0 ≡ k)
+      × (resource m c ≡ mapped.At (r .resource))
       × (read (r .resource .0) (r .b0) (r .b1) ≡ reading.Bundled m (record { 0 = c }) (r .b0) (r .b1))
   -- "and a block's bit is ACK exactly when every heard grant decoded it"
   pub first : (r .b0 ≡ 1) ↔ EveryHeard decodedFirst es
@@ -109,15 +111,15 @@ pub record BundledReply (set : Settings) (read : ℕ → ℕ → ℕ → Reading
   -- a bit is 0 or 1; a one-bit reply's second is 0
   pub bits : (r .b0 ≤ 1) × (r .b1 ≤ 1) × (set .blocks ≡ 1 → r .b1 ≡ 0)
 
-abbrev pub Bundled : Settings → (ℕ → ℕ → ℕ → Reading) → List ℕ → List Entry → Answer → Type 0
-Bundled set read ks es a =
+abbrev pub Bundled : Settings → (ℕ → ℕ → Mapped) → (ℕ → ℕ → ℕ → Reading) → List ℕ → List Entry → Answer → Type 0
+Bundled set resource read ks es a =
     -- "a reply is sent exactly when a grant was heard and 0, 4 or 8 of its grants before the last heard one were lost"
     SentExactly a
     ((anyHeard es ≡ true) × ((lostBefore es ≡ 0) ⊎ (lostBefore es ≡ 4) ⊎ (lostBefore es ≡ 8)))
-    (BundledReply set read ks es)
+    (BundledReply set resource read ks es)
 
 -- "If 01 multiplexes it": `states` are the states of its positions, in the order of K.
-pub record MultiplexedReply (map : ℕ → ℕ → Mapped) (read : ℕ → ℕ → ℕ → Reading) (ks : List ℕ) (heard : ℕ → Heard) (states : List State) (r : Reply) : Type 0 where
+pub record MultiplexedReply (resource : ℕ → ℕ → Mapped) (read : ℕ → ℕ → ℕ → Reading) (ks : List ℕ) (heard : ℕ → Heard) (states : List State) (r : Reply) : Type 0 where
   pub kind : r .kind ≡ 2
   -- "01's symbol for its state is sent": its index and its two bits
   pub index : ℕ
@@ -126,7 +128,7 @@ pub record MultiplexedReply (map : ℕ → ℕ → Mapped) (read : ℕ → ℕ �
   -- the grant at its index, on whose resource it is sent
   pub granted : Grant
   pub isHeard : heard (getD ks index 0) ≡ Granted granted
-  pub onResource : map index (granted .cce .0) ≡ mapped.At (r .resource)
+  pub onResource : resource index (granted .cce .0) ≡ mapped.At (r .resource)
   -- "and read as the grant at its index, delivered for exactly the positions that are A in every state sending the same symbol":
   -- bit p of the set is position p
   pub delivered : ℕ
@@ -136,6 +138,6 @@ pub record MultiplexedReply (map : ℕ → ℕ → Mapped) (read : ℕ → ℕ �
   pub noOther : delivered < 2 ^ length ks
 
 abbrev pub Multiplexed : (ℕ → ℕ → Mapped) → (ℕ → ℕ → ℕ → Reading) → List ℕ → (ℕ → Heard) → List Entry → Answer → Type 0
-Multiplexed onto read ks heard es a =
+Multiplexed resource read ks heard es a =
     -- "is sent exactly when a grant was heard"
-    SentExactly a (anyHeard es ≡ true) (MultiplexedReply onto read ks heard (map (λ (k : ℕ). stateIn (heard k)) ks))
+    SentExactly a (anyHeard es ≡ true) (MultiplexedReply resource read ks heard (map (λ (k : ℕ). stateIn (heard k)) ks))

@@ -14,7 +14,7 @@ use Rattle.resource.specs.Calls.{sizeOf, resourceOf, inverseOf}
 use Rattle.resource.specs.Formula.{edge}
 use Rattle.reply.specs.declared.Answer.the-variants as answer
 use Rattle.reply.specs.declared.View.{View}
-use Rattle.reply.specs.declared.View.the-variants.{Silence, Signalled}
+use Rattle.reply.specs.declared.View.the-variants.{Unheard, Pdcch}
 use Rattle.reply.specs.Replies.{windowAnswer}
 
 -- N_0, N_1, .., N_4
@@ -42,11 +42,11 @@ abbrev pub heard : (ℕ → ℕ) → ℕ → ℕ → View
 heard dais n k = seen (dais (before n k))
   where
     seen : ℕ → View
-    seen zero = Silence
-    seen (suc d) = Signalled (record { cce = record { 0 = 0 }; dai = suc d; first = true; second = true })
+    seen zero = Unheard
+    seen (suc d) = Pdcch (record { cce = record { 0 = 0 }; dai = suc d; first = true; second = true })
 
-abbrev pub oneInNineThreeInThree : ℕ → ℕ
-oneInNineThreeInThree x = cond (eqb x 9) 1 (cond (eqb x 3) 3 0)
+abbrev pub heardDais : ℕ → ℕ
+heardDais x = cond (eqb x 9) 1 (cond (eqb x 3) 3 0)
 
 pub record Tabled : Type 0 where
   -- "N_RB 50 gives N = 0, 11, 27, 44, 61."
@@ -71,4 +71,4 @@ pub record Tabled : Type 0 where
   pub position3 : positionIn 3 7 (windowOf 2 7) ≡ 2
   pub subframe3 : resourceOf (cell 2) 7 (positionIn 3 7 (windowOf 2 7)) 5 ≡ at 37
   -- "There, in mode 0, DAI 1 heard in 9 and DAI 3 in 3: silent."
-  pub silent : windowAnswer (cell 2) 7 (heard oneInNineThreeInThree 7) ≡ answer.Silent
+  pub silent : windowAnswer (cell 2) 7 (heard heardDais 7) ≡ answer.Silent

@@ -11,7 +11,7 @@ use lib.Dec.{ltb, eqb}
 use lib.ListN.{length, getD}
 use borrow.Author.Tests.{le-ltb, ltb-false, eqb-false, ne-eqb}
 use Rattle.frame.specs.declared.Settings.{Settings}
-use Rattle.claims.specs.declared.Verdict.the-variants.{Clean, Clash, Bad}
+use Rattle.claims.specs.declared.Verdict.the-variants.{Clean, Clash, Refused}
 use Rattle.claims.specs.Claims.{isBad, firstBad, earlier, firstClash, scratchRefusal, refusedOr, verdictOn, verdictOf}
 use Rattle.claims.specs.Clean.{AllClean}
 use Rattle.claims.proofs.First.{first-none, first-bad, first-clash}
@@ -35,7 +35,7 @@ module _ (claims : List ℕ) (x : ℕ) where
   earlier-none (suc e) h = rw (ne-eqb (getD claims e 0) x (h e (omega arith))) (earlier-none e λ i b. h i (omega arith))
 
 -- Only one way leads to a clean answer.
-only-clean : (k x y : ℕ) (a b : Bool) → refusedOr k (cond a (Bad x) (cond b (Clash y) Clean)) ≡ Clean → (k ≡ 0) × (a ≡ false) × (b ≡ false)
+only-clean : (k x y : ℕ) (a b : Bool) → refusedOr k (cond a (Refused 16 x) (cond b (Clash y) Clean)) ≡ Clean → (k ≡ 0) × (a ≡ false) × (b ≡ false)
 only-clean (suc k) x y a b e = let z : _≡_ {A = ℕ} 0 1 = cc in absurd (omega arith)
 only-clean zero x y true b e = let z : _≡_ {A = ℕ} 0 1 = cc in absurd (omega arith)
 only-clean zero x y false true e = let z : _≡_ {A = ℕ} 0 1 = cc in absurd (omega arith)

@@ -10,7 +10,7 @@ use borrow.Author.Tests.{lt-ltb, le-ltb}
 use Rattle.frame.specs.declared.Settings.{Settings}
 use Rattle.frame.specs.Settings.{orElse, windowRefusal}
 use Rattle.claims.specs.declared.Verdict.{Verdict}
-use Rattle.claims.specs.declared.Verdict.the-variants.{Clean, Clash, Bad, Refused}
+use Rattle.claims.specs.declared.Verdict.the-variants.{Clean, Clash, Refused}
 use Rattle.claims.specs.Claims.{resourcesOf, firstBad, firstClash, scratchRefusal, verdictOn, refusedOr, verdictOf, markedUpTo, markedScratch, scratchAfter, scratchOf}
 use Rattle.claims.specs.Marking.{Accepted, Ready}
 use Rattle.claims.proofs.Cells.{room}
@@ -25,21 +25,21 @@ module _ (s : Settings) (n : ℕ) (claims old : List ℕ) where
   unfolding scratchOf
   right v new e f = (e, rw (← e) f)
 
-  refused-as : (k w next : ℕ) (v : Verdict) → k ≡ w → (k ≡ 0 → ⊥) → Refused k ≡ refusedOr (orElse w next) v
+  refused-as : (k w next : ℕ) (v : Verdict) → k ≡ w → (k ≡ 0 → ⊥) → Refused k 0 ≡ refusedOr (orElse w next) v
   refused-as k zero next v e h = absurd (h e)
   refused-as k (suc w) next v e h = rw e
 
   -- 1 to 7
-  pub refused : (k : ℕ) → k ≡ windowRefusal s n → (k ≡ 0 → ⊥) → Right (Refused k) old
+  pub refused : (k : ℕ) → k ≡ windowRefusal s n → (k ≡ 0 → ⊥) → Right (Refused k 0) old
   unfolding verdictOf scratchRefusal
-  refused k e h = right (Refused k) old (refused-as k (windowRefusal s n) _ _ e h) refl
+  refused k e h = right (Refused k 0) old (refused-as k (windowRefusal s n) _ _ e h) refl
 
   module _ (size top : ℕ) (known : Accepted (record { s = s; n = n; size = size; top = top })) where
     -- 15
-    pub short : length old < size * top → Right (Refused 15) old
+    pub short : length old < size * top → Right (Refused 15 0) old
     unfolding verdictOf scratchRefusal
     short h =
-        right (Refused 15) old (rw (known .accepted, lt-ltb (length old) (resourcesOf s n) (omega (arith, room _ known)))) refl
+        right (Refused 15 0) old (rw (known .accepted, lt-ltb (length old) (resourcesOf s n) (omega (arith, room _ known)))) refl
 
     module _ (enough : size * top ≤ length old) where
       answered : verdictOf s n claims (length old) ≡ verdictOn s n claims
@@ -48,9 +48,9 @@ module _ (s : Settings) (n : ℕ) (claims old : List ℕ) where
 
       module _ (b : ℕ) (searched : b ≡ firstBad s n claims) where
         -- 16
-        pub bad : b < length claims → Right (Bad b) old
+        pub bad : b < length claims → Right (Refused 16 b) old
         unfolding verdictOn
-        bad h = right (Bad b) old (rw (answered, ← searched, lt-ltb b (length claims) h)) refl
+        bad h = right (Refused 16 b) old (rw (answered, ← searched, lt-ltb b (length claims) h)) refl
 
         module _ (good : length claims ≤ b) (front : List ℕ) (zeros : front ≡ replicate (length (take (size * top) old)) 0) where
           -- the scratch after it was cleared

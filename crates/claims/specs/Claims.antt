@@ -12,7 +12,7 @@ use Rattle.resource.specs.declared.Mapped.the-variants as mapped
 use Rattle.resource.specs.Calls.{sizeOf, resourceOf}
 use Rattle.resource.specs.Formula.{edge}
 use Rattle.claims.specs.declared.Verdict.{Verdict}
-use Rattle.claims.specs.declared.Verdict.the-variants.{Clean, Clash, Bad, Refused}
+use Rattle.claims.specs.declared.Verdict.the-variants.{Clean, Clash, Refused}
 
 -- A claim is m × 256 + first CCE.
 abbrev pub positionIn : ℕ → ℕ
@@ -59,13 +59,13 @@ scratchRefusal s n room = orElse (windowRefusal s n) (cond (ltb room (resourcesO
 -- index; else the index of the first claim equal to an earlier one; else clean.
 unfoldable pub verdictOn : Settings → ℕ → List ℕ → Verdict
 verdictOn s n claims =
-    cond (ltb (firstBad s n claims) (length claims)) (Bad (firstBad s n claims))
+    cond (ltb (firstBad s n claims) (length claims)) (Refused 16 (firstBad s n claims))
     (cond (ltb (firstClash claims) (length claims)) (Clash (firstClash claims))
     Clean)
 
 abbrev pub refusedOr : ℕ → Verdict → Verdict
 refusedOr zero verdict = verdict
-refusedOr (suc k) verdict = Refused (suc k)
+refusedOr (suc k) verdict = Refused (suc k) 0
 
 -- The answer to a list of claims with a scratch of `room` bytes.
 unfoldable pub verdictOf : Settings → ℕ → List ℕ → ℕ → Verdict
@@ -98,8 +98,7 @@ markedScratch s n claims old = markedUpTo s n claims old (firstClash claims)
 abbrev pub scratchAfter : Verdict → List ℕ → List ℕ → List ℕ
 scratchAfter Clean new old = new
 scratchAfter (Clash i) new old = new
-scratchAfter (Bad i) new old = old
-scratchAfter (Refused k) new old = old
+scratchAfter (Refused k i) new old = old
 
 unfoldable pub scratchOf : Settings → ℕ → List ℕ → List ℕ → List ℕ
 scratchOf s n claims old = scratchAfter (verdictOf s n claims (length old)) (markedScratch s n claims old) old

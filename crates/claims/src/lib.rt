@@ -7,12 +7,12 @@ ghost use lib.ListN.{length, replicate};
 ghost use Rattle.claims.specs.Claims.{isBad, firstBad, firstClash, markedUpTo, verdictOf, scratchOf};
 ghost use Rattle.claims.specs.Marking.{Accepted, Ready, Byte};
 
-// The answer: clean; the first claim equal to an earlier one; refusal 16 with the first bad claim; any other refusal.
+// The answer: clean; the index of the first claim equal to an earlier one; or a refusal's number with an index, that of the first
+// bad claim for 16, else 0.
 pub enum Verdict {
     Clean,
     Clash(usize),
-    Bad(usize),
-    Refused(u16),
+    Refused(u16, usize),
 }
 
 // A cell in uplink subframe n: its settings, M and N_4.
@@ -31,13 +31,13 @@ pub fn claims_of(s: Settings, n: u16, claims: &[u16], scratch: &mut [u8]) -> Ver
 {
     let refusal = frame::window_refusal(s, n);
     if refusal != 0 {
-        return Verdict::Refused(refusal);
+        return Verdict::Refused(refusal, 0);
     }
     let w = frame::window_of(s.config, n);
     let top = resource::cces_of(s.nrb);
     let room = (w.size * top) as usize;
     if scratch.len() < room {
-        return Verdict::Refused(15);
+        return Verdict::Refused(15, 0);
     }
     let cell = Cell {
         s,
@@ -47,7 +47,7 @@ pub fn claims_of(s: Settings, n: u16, claims: &[u16], scratch: &mut [u8]) -> Ver
     };
     let bad = first_bad(cell, claims);
     if bad < claims.len() {
-        return Verdict::Bad(bad);
+        return Verdict::Refused(16, bad);
     }
     clear(&mut scratch[..room]);
     let clash = mark(cell, claims, scratch);

@@ -41,8 +41,7 @@ readingAnswer (reading.Refused k) = record { refusal = k; kind = 0; position = 0
 abbrev pub claimsAnswer : Verdict → ClaimsAnswer
 claimsAnswer verdict.Clean = record { kind = 0; refusal = 0; index = 0 }
 claimsAnswer (verdict.Clash i) = record { kind = 1; refusal = 0; index = i }
-claimsAnswer (verdict.Bad i) = record { kind = 2; refusal = 16; index = i }
-claimsAnswer (verdict.Refused k) = record { kind = 2; refusal = k; index = 0 }
+claimsAnswer (verdict.Refused k i) = record { kind = 2; refusal = k; index = i }
 
 abbrev pub noReply : ℕ → ℕ → Handset → FedAnswer
 noReply refusal kind h = record { refusal = refusal; kind = kind; resource = 0; b0 = 0; b1 = 0; handset = h }

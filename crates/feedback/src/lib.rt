@@ -1,5 +1,5 @@
-// The engine's C interface: one static library, libfeedback.a, with the header include/feedback.h. Every number is sixteen bits
-// wide. An answer is a struct of numbers: the refusal, 0 for none, and the values, each 0 where the call refuses.
+// The engine's C interface: one static library, libfeedback.a, with the header include/feedback.h. The papers' numbers are sixteen
+// bits wide. An answer is a struct of numbers: the refusal, 0 for none, and the values, which are 0 where they say nothing.
 use claims::Verdict;
 use frame::Settings;
 use handset::Fed;
@@ -58,7 +58,7 @@ pub struct ClaimsAnswer {
     pub index: u64,
 }
 
-// Kind 1 is a bundled reply, 2 a multiplexed one, 3 silent, 4 taken, 5 no window; 0 where refused. The handset after the feed.
+// Kind 1 is a bundled reply, 2 a multiplexed one, 3 silent, 4 taken, 5 no window; 0 where refused. `handset` is the handset after the feed.
 #[repr(C)]
 pub struct FedAnswer {
     pub refusal: u16,
@@ -149,15 +149,10 @@ fn claims_numbers(x: Verdict) -> ClaimsAnswer
             refusal: 0,
             index: i as u64,
         },
-        Verdict::Bad(i) => ClaimsAnswer {
-            kind: 2,
-            refusal: 16,
-            index: i as u64,
-        },
-        Verdict::Refused(k) => ClaimsAnswer {
+        Verdict::Refused(k, i) => ClaimsAnswer {
             kind: 2,
             refusal: k,
-            index: 0,
+            index: i as u64,
         },
     }
 }

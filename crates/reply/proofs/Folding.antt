@@ -16,7 +16,7 @@ use Rattle.frame.proofs.Times.{order-size, order-below}
 use Rattle.frame.proofs.Windows.{window-size, window-k}
 use Rattle.reply.specs.declared.Seen.{Seen}
 use Rattle.reply.specs.declared.View.{View}
-use Rattle.reply.specs.declared.View.the-variants.{Silence, Signalled}
+use Rattle.reply.specs.declared.View.the-variants.{Unheard, Pdcch}
 use Rattle.reply.specs.Fold.{stepOf, seenFrom}
 
 -- One position more.
@@ -33,8 +33,8 @@ seen-all F ks ms j seen h = rw (drop-of-length-le ms {i = j} h)
 -- A step counts at most one more.
 step-counts : (seen : Seen) (m : ℕ) (x : View) → stepOf seen m x .u ≤ seen .u + 1
 unfolding stepOf
-step-counts seen m Silence = omega arith
-step-counts seen m (Signalled g) = omega arith
+step-counts seen m Unheard = omega arith
+step-counts seen m (Pdcch g) = omega arith
 
 pub step-left : (seen : Seen) (m : ℕ) (x : View) (next : Seen) (j : ℕ) → next ≡ stepOf seen m x → seen .u ≤ j → next .u ≤ j + 1
 step-left seen m x next j e h = rw e (omega (arith, step-counts seen m x))

@@ -11,7 +11,7 @@ use Rattle.frame.specs.Order.{orderOf}
 use Rattle.frame.specs.Table.{windowOf}
 use Rattle.reply.specs.declared.Seen.{Seen}
 use Rattle.reply.specs.declared.View.{View}
-use Rattle.reply.specs.declared.View.the-variants.{Silence, Signalled}
+use Rattle.reply.specs.declared.View.the-variants.{Unheard, Pdcch}
 
 -- Before the first subframe of the window.
 abbrev pub unseen : Seen
@@ -20,8 +20,8 @@ unseen = record { u = 0; v = 0; position = 0; cce = record { 0 = 0 }; first = tr
 -- One subframe more, at position m. A heard grant counts in U, and V, position and first CCE are the latest one's; a block's
 -- result joins the AND.
 unfoldable pub stepOf : Seen → ℕ → View → Seen
-stepOf seen m Silence = seen
-stepOf seen m (Signalled g) =
+stepOf seen m Unheard = seen
+stepOf seen m (Pdcch g) =
     record {
       u = seen .u + 1;
       v = g .dai;

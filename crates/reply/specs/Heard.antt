@@ -11,7 +11,7 @@ use Rattle.reply.specs.declared.Grant.{Grant}
 use Rattle.reply.specs.declared.Heard.{Heard}
 use Rattle.reply.specs.declared.Heard.the-variants.{Nothing, Granted}
 use Rattle.reply.specs.declared.View.{View}
-use Rattle.reply.specs.declared.View.the-variants.{Silence, Signalled}
+use Rattle.reply.specs.declared.View.the-variants.{Unheard, Pdcch}
 
 -- 9: grant in an uplink subframe.
 unfoldable pub uplinkRefusal : Settings → ℕ → ℕ
@@ -31,6 +31,6 @@ heardRefusal s n (Granted g) = orElse (uplinkRefusal s n) (grantRefusal s g)
 
 -- What a reply sees: in a two-block cell a one-block grant's result stands for both blocks.
 unfoldable pub viewOf : Heard → View
-viewOf Nothing = Silence
+viewOf Nothing = Unheard
 viewOf (Granted g) =
-    Signalled (record { cce = g .cce; dai = g .dai; first = g .first; second = cond (eqb (g .blocks) 2) (g .second) (g .first) })
+    Pdcch (record { cce = g .cce; dai = g .dai; first = g .first; second = cond (eqb (g .blocks) 2) (g .second) (g .first) })

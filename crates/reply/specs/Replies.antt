@@ -1,4 +1,5 @@
--- The reply of a window: document 01, "The bundled reply" and "The multiplexed reply". Over any settings, whose mode is the window's.
+-- The reply of a window: document 01, "The bundled reply" and "The multiplexed reply". The settings' mode is the mode that the
+-- window is answered in.
 -- Assumes nothing.
 use Prim.Native.Nat.{ℕ, _+_, _-_, _%_}
 use mathlib.Core.Bool.{Bool, cond, not, _&&_}
@@ -20,7 +21,7 @@ use Rattle.reply.specs.declared.Answer.{Answer}
 use Rattle.reply.specs.declared.Answer.the-variants.{NoWindow, Silent, Sent, Refused}
 use Rattle.reply.specs.declared.Seen.{Seen}
 use Rattle.reply.specs.declared.View.{View}
-use Rattle.reply.specs.declared.View.the-variants.{Silence, Signalled}
+use Rattle.reply.specs.declared.View.the-variants.{Unheard, Pdcch}
 use Rattle.reply.specs.Fold.{seenOf}
 use Rattle.reply.specs.Memory.{bit}
 
@@ -52,13 +53,13 @@ bundledAnswer s n seen =
 
 -- State of a position: A if heard with every carried block decoded, N if heard otherwise, D if unheard.
 unfoldable pub stateOf : View → State
-stateOf Silence = Dtx
-stateOf (Signalled g) = cond (g .first && g .second) Ack Nack
+stateOf Unheard = Dtx
+stateOf (Pdcch g) = cond (g .first && g .second) Ack Nack
 
 -- The first CCE of a heard grant.
 unfoldable pub cceOf : View → ℕ
-cceOf Silence = 0
-cceOf (Signalled g) = g .cce .0
+cceOf Unheard = 0
+cceOf (Pdcch g) = g .cce .0
 
 -- The state of a window: the states of its positions, in the order of K as printed.
 unfoldable pub windowState : (ℕ → View) → List ℕ → List State

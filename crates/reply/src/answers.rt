@@ -85,8 +85,8 @@ fn digit_of(x: View) -> u16
     ensures { λ r. ⌜ r ≡ digitOf (stateOf x) ⌝ }
 {
     match x {
-        View::Silence => 2,
-        View::Signalled(g) => {
+        View::Unheard => 2,
+        View::Pdcch(g) => {
             if g.first {
                 if g.second {
                     return 0;
@@ -101,8 +101,8 @@ fn cce_of(x: View) -> Cce
     ensures { λ r. ⌜ r .0 ≡ cceOf x ⌝ }
 {
     match x {
-        View::Silence => Cce::new(0),
-        View::Signalled(g) => g.cce,
+        View::Unheard => Cce::new(0),
+        View::Pdcch(g) => g.cce,
     }
 }
 
@@ -141,7 +141,7 @@ fn multiplexed_answer(s: Settings, n: u16, past: [Slot; 13], w: Window) -> Answe
     }
 }
 
-// The answer of uplink subframe n, over what is remembered.
+// The answer of uplink subframe n, over what is remembered, by settings that are accepted: `handset::feed` refuses others.
 pub fn answer_in(s: Settings, n: u16, past: [Slot; 13]) -> Answer
     ensures { λ r. ⌜ r ≡ windowAnswer s n (viewAgo past) ⌝ }
 {

@@ -40,8 +40,8 @@ pub struct Control {
 
 // What a reply sees of a subframe.
 pub enum View {
-    Silence,
-    Signalled(Control),
+    Unheard,
+    Pdcch(Control),
 }
 
 // A remembered subframe, four bytes: kind (0 nothing, 1 grant), first CCE, DAI, and results (bit 0 the first block decoded,
@@ -96,13 +96,13 @@ fn view_in(t: Slot) -> View
     ensures { λ r. ⌜ r ≡ viewIn t ⌝ }
 {
     if t.kind == 0 {
-        return View::Silence;
+        return View::Unheard;
     }
     let two = t.results / 4 % 2 == 1;
     let first = t.results % 2 == 1;
     let last = t.results / 2 % 2 == 1;
     let second = pick(two, last, first);
-    View::Signalled(Control {
+    View::Pdcch(Control {
         cce: Cce::new(t.cce as u16),
         dai: t.dai as u16,
         first,
@@ -125,8 +125,8 @@ fn step(seen: Seen, m: u16, x: View) -> Seen
     ensures { λ r. ⌜ r ≡ stepOf seen m x ⌝ }
 {
     match x {
-        View::Silence => seen,
-        View::Signalled(g) => {
+        View::Unheard => seen,
+        View::Pdcch(g) => {
             let cce = g.cce;
             let first = pick(seen.first, g.first, false);
             let second = pick(seen.second, g.second, false);

@@ -1,7 +1,7 @@
 -- `feedback::claims_numbers` meets its contract. Assumes nothing.
 use mathlib.Core.Path.{sym, ap}
-use Rattle.feedback.specs.Answers.{claimsAnswer}
 use borrow.Author.Needs.{needs}
+use Rattle.feedback.specs.Answers.{claimsAnswer}
 use Rattle.feedback.proofs.claims_numbers.Statement.{statement}
 use Rattle.feedback.proofs.claims_numbers.Tie as tie
 
@@ -14,9 +14,6 @@ enum-known-x c = search needs
 enum-known-x-2 : tie.Need-enum-known-x-2
 enum-known-x-2 c = search needs
 
-enum-known-x-3 : tie.Need-enum-known-x-3
-enum-known-x-3 c = search needs
-
 returns : tie.Need-returns
 returns c = sym (ap claimsAnswer (c .enum-told .given .1))
 
@@ -26,18 +23,6 @@ returns-2 c = sym (ap claimsAnswer (c .before .x .given .1))
 returns-3 : tie.Need-returns-3
 returns-3 c = sym (ap claimsAnswer (c .before .x2 .given .1))
 
-returns-4 : tie.Need-returns-4
-returns-4 c = sym (ap claimsAnswer (c .before .x3 .given .1))
-
 pub claims-numbers-spec : {M : Type 1} → statement M
 claims-numbers-spec =
-    tie.close
-    (tie.spec
-    enum-told
-    enum-known-x
-    enum-known-x-2
-    enum-known-x-3
-    returns
-    returns-2
-    returns-3
-    returns-4)
+    tie.close (tie.spec enum-told enum-known-x enum-known-x-2 returns returns-2 returns-3)

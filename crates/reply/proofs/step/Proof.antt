@@ -6,7 +6,7 @@ use borrow.Author.Needs.{needs}
 use Rattle.reply.specs.declared.Control.{Control}
 use Rattle.reply.specs.declared.Seen.{Seen}
 use Rattle.reply.specs.declared.View.{View}
-use Rattle.reply.specs.declared.View.the-variants.{Silence, Signalled}
+use Rattle.reply.specs.declared.View.the-variants.{Unheard, Pdcch}
 use Rattle.reply.specs.Fold.{stepOf}
 use Rattle.reply.proofs.step.Statement.{statement}
 use Rattle.reply.proofs.step.Tie as tie
@@ -16,11 +16,11 @@ both : (a b : Bool) → cond a b false ≡ (a && b)
 both true b = refl
 both false b = refl
 
-silent : (seen : Seen) (m : ℕ) (x : View) → x ≡ Silence → seen ≡ stepOf seen m x
+silent : (seen : Seen) (m : ℕ) (x : View) → x ≡ Unheard → seen ≡ stepOf seen m x
 unfolding stepOf
 silent seen m x e = rw e
 
-heard : (seen : Seen) (m : ℕ) (x : View) (g : Control) (first second : Bool) → x ≡ Signalled g
+heard : (seen : Seen) (m : ℕ) (x : View) (g : Control) (first second : Bool) → x ≡ Pdcch g
     → first ≡ cond (seen .first) (g .first) false → second ≡ cond (seen .second) (g .second) false
     → _≡_ {A = Seen} (record { u = seen .u + 1; v = g .dai; position = m; cce = g .cce; first = first; second = second }) (stepOf seen m x)
 unfolding stepOf

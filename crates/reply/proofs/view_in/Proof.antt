@@ -8,7 +8,7 @@ use borrow.Author.Tests.{eq-eqb, ne-eqb}
 use Rattle.resource.specs.declared.Cce.{Cce}
 use Rattle.reply.specs.declared.Slot.{Slot}
 use Rattle.reply.specs.declared.View.{View}
-use Rattle.reply.specs.declared.View.the-variants.{Silence, Signalled}
+use Rattle.reply.specs.declared.View.the-variants.{Unheard, Pdcch}
 use Rattle.reply.specs.Heard.{viewOf}
 use Rattle.reply.specs.Memory.{heardIn, viewIn}
 use Rattle.reply.proofs.view_in.Statement.{statement}
@@ -19,13 +19,13 @@ two : (b : Bool) → eqb (cond b 2 1) 2 ≡ b
 two true = refl
 two false = refl
 
-nothing : (t : Slot) → t .kind ≡ 0 → Silence ≡ viewIn t
+nothing : (t : Slot) → t .kind ≡ 0 → Unheard ≡ viewIn t
 unfolding viewIn heardIn viewOf
 nothing t e = rw (eq-eqb (t .kind) 0 e)
 
 grant : (t : Slot) (cce : Cce) (second : Bool) → (t .kind ≡ 0 → ⊥) → cce .0 ≡ t .cce
     → second ≡ cond (eqb (t .results / 4 % 2) 1) (eqb (t .results / 2 % 2) 1) (eqb (t .results % 2) 1)
-    → _≡_ {A = View} (Signalled (record { cce = cce; dai = t .dai; first = eqb (t .results % 2) 1; second = second })) (viewIn t)
+    → _≡_ {A = View} (Pdcch (record { cce = cce; dai = t .dai; first = eqb (t .results % 2) 1; second = second })) (viewIn t)
 unfolding viewIn heardIn viewOf
 grant t cce second k c s =
     let e : _≡_ {A = Cce} cce (record { 0 = t .cce }) = ap (λ (x : ℕ). record { 0 = x }) c in

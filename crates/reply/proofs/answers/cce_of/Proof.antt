@@ -4,16 +4,16 @@ use mathlib.Core.Path.{_≡_}
 use borrow.Author.Needs.{needs}
 use Rattle.reply.specs.declared.Control.{Control}
 use Rattle.reply.specs.declared.View.{View}
-use Rattle.reply.specs.declared.View.the-variants.{Silence, Signalled}
+use Rattle.reply.specs.declared.View.the-variants.{Unheard, Pdcch}
 use Rattle.reply.specs.Replies.{cceOf}
 use Rattle.reply.proofs.answers.cce_of.Statement.{statement}
 use Rattle.reply.proofs.answers.cce_of.Tie as tie
 
-unheard : (x : View) (r : ℕ) → x ≡ Silence → r ≡ 0 → r ≡ cceOf x
+unheard : (x : View) (r : ℕ) → x ≡ Unheard → r ≡ 0 → r ≡ cceOf x
 unfolding cceOf
 unheard x r e h = rw e h
 
-heard : (x : View) (g : Control) → x ≡ Signalled g → g .cce .0 ≡ cceOf x
+heard : (x : View) (g : Control) → x ≡ Pdcch g → g .cce .0 ≡ cceOf x
 unfolding cceOf
 heard x g e = rw e
 
