@@ -85,11 +85,12 @@ extern "C" {
 #endif
 
 /*
- * Why a call refuses: the value of refusal in every answer. Each call names the
- * refusals it can give. Where several causes are met, the lowest number is given.
- * Beside a refusal every other number of the answer is 0, but for the index that
- * comes with 16 and the handset that a feed gives back. A refused call changes
- * nothing: no buffer is written, no state moves on, nothing is made.
+ * Why a call refuses: the value of refusal in every answer, 0 for no refusal. Each
+ * call names the refusals it can give. Where several causes are met, the lowest
+ * number is given. A refused call changes nothing: no buffer is written, no state
+ * moves on, nothing is made. Beside a refusal every other number of the answer is
+ * 0, with three exceptions: a feed gives back the handset as it was, claims have
+ * kind 2, and 16 comes with an index.
  */
 enum feedback_refusal {
     FEEDBACK_NOT_REFUSED = 0,
@@ -101,8 +102,9 @@ enum feedback_refusal {
     FEEDBACK_REFUSED_BLOCKS = 6,        /* blocks not 1 or 2 */
     FEEDBACK_REFUSED_SUBFRAME = 7,      /* subframe over 9 or without a window */
     FEEDBACK_REFUSED_STATE = 8,         /* lent state fails 1 to 6, expects a subframe over 9, or
-                                           remembers a grant failing 9 to 12 there; or remembers
-                                           a kind that does not exist */
+                                           remembers a grant failing 9 to 12 there, in the
+                                           subframe that brought it; also a remembered kind that
+                                           is not in enum feedback_slot_kind */
     FEEDBACK_REFUSED_UPLINK = 9,        /* grant in an uplink subframe */
     FEEDBACK_REFUSED_CARRIED = 10,      /* blocks carried 0 or over the setting */
     FEEDBACK_REFUSED_CCE = 11,          /* first CCE not below N_4 (also position not below M, in
@@ -207,6 +209,7 @@ struct feedback_slot {
  * bytes: it may be copied, stored, and given back later, as often as you like,
  * on a machine of the same byte order. Other bytes may be given as well: a feed
  * then refuses 8, or answers as for the grants that these bytes say were heard.
+ * Bytes and bits of a slot that have no meaning are carried along unchanged.
  */
 struct feedback_handset {
     struct feedback_settings settings;
@@ -294,7 +297,7 @@ struct feedback_reading_answer feedback_reading(struct feedback_settings setting
  *
  *   settings   the settings of the cell
  *   n          the uplink subframe of the replies, 0 to 9, one with a window
- *   claims     the list of claims, read only
+ *   claims     the list of claims, only read; aligned as C demands of uint16_t
  *   count      the number of claims
  *   scratch    bytes to work in, at least M * N_4 of them (never more than 1206)
  *   room       the number of bytes lent in scratch

@@ -1,9 +1,12 @@
 //! The refusals and their order: each argument at its limits, one past them and
 //! far away, alone, in pairs, and all together.
 
-use feedback_tests::compare::Comparison;
+use feedback_tests::compare::{Comparison, Lent};
 use feedback_tests::model::Model;
-use feedback_tests::{inverse, resource, InverseAnswer, ResourceAnswer, Settings};
+use feedback_tests::{
+    claims, inverse, make, reading, resource, ClaimsAnswer, Handset, InverseAnswer, ReadingAnswer,
+    ResourceAnswer, Settings,
+};
 
 /// The settings' special values: 0, each limit, one past it, 65535, and numbers
 /// that would be allowed if only their low eight bits were read.
@@ -18,10 +21,17 @@ const N: &[u16] = &[0, 2, 3, 9, 10, 258, 65535];
 const POSITION: &[u16] = &[0, 1, 8, 9, 256, 65535];
 const CCE: &[u16] = &[0, 6, 7, 133, 134, 256, 65535];
 const RESOURCE: &[u16] = &[0, 9, 10, 131, 132, 2046, 2047, 3252, 3253, 32768, 65535];
+const BIT: &[u16] = &[0, 1, 2, 257];
+const CLAIM: &[u16] = &[0, 6, 7, 133, 134, 256, 2181, 2304, 65535];
+const ROOM: &[u16] = &[0, 6, 7, 121, 122, 1205, 1206, 1207];
 
-/// The arguments of each call, in order, by their special values.
+/// The arguments of each call, in order, by their special values. Of the claims,
+/// the second of three and the length of the scratch are arguments.
 const RESOURCE_CALL: [&[u16]; 8] = [CONFIG, NRB, N1, MODE, BLOCKS, N, POSITION, CCE];
 const INVERSE_CALL: [&[u16]; 7] = [CONFIG, NRB, N1, MODE, BLOCKS, N, RESOURCE];
+const READING_CALL: [&[u16]; 9] = [CONFIG, NRB, N1, MODE, BLOCKS, N, RESOURCE, BIT, BIT];
+const CLAIMS_CALL: [&[u16]; 8] = [CONFIG, NRB, N1, MODE, BLOCKS, N, CLAIM, ROOM];
+const MAKE_CALL: [&[u16]; 5] = [CONFIG, NRB, N1, MODE, BLOCKS];
 
 /// Arguments that are not refused, from which the changes start.
 const RESOURCE_STARTS: [[u16; 8]; 4] = [
@@ -36,6 +46,20 @@ const INVERSE_STARTS: [[u16; 7]; 4] = [
     [0, 6, 0, 1, 1, 9, 6],
     [3, 25, 100, 1, 2, 3, 101],
 ];
+const READING_STARTS: [[u16; 9]; 4] = [
+    [1, 50, 10, 0, 1, 2, 131, 1, 0],
+    [5, 110, 2047, 0, 2, 2, 3252, 0, 1],
+    [0, 6, 0, 1, 1, 9, 6, 0, 0],
+    [3, 25, 100, 1, 2, 3, 101, 0, 1],
+];
+const CLAIMS_STARTS: [[u16; 8]; 4] = [
+    [1, 50, 10, 0, 1, 2, 256, 122],
+    [5, 110, 2047, 0, 2, 2, 2181, 1206],
+    [0, 6, 0, 1, 1, 9, 6, 7],
+    [3, 25, 100, 1, 2, 3, 1, 122],
+];
+const MAKE_STARTS: [[u16; 5]; 4] =
+    [[1, 50, 10, 0, 1], [5, 110, 2047, 0, 2], [0, 6, 0, 1, 1], [3, 25, 100, 1, 2]];
 
 fn compare_resource(comparison: &mut Comparison, arguments: [u16; 8]) {
     let [config, nrb, n1, mode, blocks, n, position, cce] = arguments;
@@ -45,6 +69,22 @@ fn compare_resource(comparison: &mut Comparison, arguments: [u16; 8]) {
 fn compare_inverse(comparison: &mut Comparison, arguments: [u16; 7]) {
     let [config, nrb, n1, mode, blocks, n, resource] = arguments;
     comparison.inverse(Settings { config, nrb, n1, mode, blocks }, n, resource);
+}
+
+fn compare_reading(comparison: &mut Comparison, arguments: [u16; 9]) {
+    let [config, nrb, n1, mode, blocks, n, resource, b0, b1] = arguments;
+    comparison.reading(Settings { config, nrb, n1, mode, blocks }, n, resource, b0, b1);
+}
+
+fn compare_claims(comparison: &mut Comparison, lent: &mut Lent, arguments: [u16; 8]) {
+    let [config, nrb, n1, mode, blocks, n, claim, room] = arguments;
+    let settings = Settings { config, nrb, n1, mode, blocks };
+    comparison.claims(lent, settings, n, &[5, claim, 5], &vec![7; room.into()]);
+}
+
+fn compare_make(comparison: &mut Comparison, arguments: [u16; 5]) {
+    let [config, nrb, n1, mode, blocks] = arguments;
+    comparison.make(Settings { config, nrb, n1, mode, blocks });
 }
 
 /// Every change of one argument to every 16-bit number.
@@ -182,6 +222,87 @@ fn inverse_with_all_arguments_special() {
     assert_settings_refused(&comparison, 7 * 11);
 }
 
+#[test]
+fn reading_with_one_argument_changed() {
+    let model = Model::new();
+    let mut comparison = Comparison::with(&model);
+    for start in READING_STARTS {
+        alone(start, |arguments| compare_reading(&mut comparison, arguments));
+    }
+    comparison.finish_with(4 * 9 * 65536, &[0, 1, 2, 3, 4, 5, 6, 7, 13, 14], &[0, 1, 2]);
+}
+
+#[test]
+fn reading_with_two_arguments_changed() {
+    let model = Model::new();
+    let mut comparison = Comparison::with(&model);
+    for start in READING_STARTS {
+        in_pairs(start, READING_CALL, |arguments| compare_reading(&mut comparison, arguments));
+    }
+    let compared = 4 * number_of_pairs(&READING_CALL);
+    comparison.finish_with(compared, &[0, 1, 2, 3, 4, 5, 6, 7, 13, 14], &[0, 1, 2]);
+}
+
+#[test]
+fn reading_with_all_arguments_special() {
+    let model = Model::new();
+    let mut comparison = Comparison::with(&model);
+    all_together(READING_CALL, |arguments| compare_reading(&mut comparison, arguments));
+    let compared = 7 * 8 * 5 * 6 * 6 * 7 * 11 * 4 * 4;
+    comparison.finish_with(compared, &[0, 1, 2, 3, 4, 5, 6, 7, 13, 14], &[0, 1, 2]);
+    assert_settings_refused(&comparison, 7 * 11 * 4 * 4);
+}
+
+#[test]
+fn claims_with_two_arguments_changed() {
+    let model = Model::new();
+    let mut comparison = Comparison::with(&model);
+    let mut lent = Lent::new(3);
+    for start in CLAIMS_STARTS {
+        in_pairs(start, CLAIMS_CALL, |arguments| {
+            compare_claims(&mut comparison, &mut lent, arguments);
+        });
+    }
+    let compared = 4 * number_of_pairs(&CLAIMS_CALL) * 2;
+    comparison.finish_with(compared, &[0, 1, 2, 3, 4, 5, 6, 7, 15, 16], &[1, 2]);
+}
+
+#[test]
+fn claims_with_all_arguments_special() {
+    let model = Model::new();
+    let mut comparison = Comparison::with(&model);
+    let mut lent = Lent::new(3);
+    // One number beyond each limit and one within it.
+    let call = [&CONFIG[3..5], &NRB[4..6], &N1[2..4], &MODE[1..3], &BLOCKS[2..4]];
+    let [config, nrb, n1, mode, blocks] = call;
+    let call = [config, nrb, n1, mode, blocks, &N[1..6], &CLAIM[4..7], ROOM];
+    all_together(call, |arguments| compare_claims(&mut comparison, &mut lent, arguments));
+    let compared = 32 * 5 * 3 * 8 * 2;
+    comparison.finish_with(compared, &[1, 2, 3, 4, 5, 6], &[2]);
+}
+
+#[test]
+fn make_with_arguments_changed() {
+    let model = Model::new();
+    let mut comparison = Comparison::with(&model);
+    for start in MAKE_STARTS {
+        alone(start, |arguments| compare_make(&mut comparison, arguments));
+        in_pairs(start, MAKE_CALL, |arguments| compare_make(&mut comparison, arguments));
+    }
+    let compared = 4 * (5 * 65536 + number_of_pairs(&MAKE_CALL));
+    comparison.finish_with(compared, &[0, 1, 2, 3, 4, 5, 6], &[]);
+}
+
+#[test]
+fn make_with_all_arguments_special() {
+    let model = Model::new();
+    let mut comparison = Comparison::with(&model);
+    all_together(MAKE_CALL, |arguments| compare_make(&mut comparison, arguments));
+    // Three configurations have both modes, and 5 has one.
+    comparison.finish(7 * 8 * 5 * 6 * 6, 7 * 3 * 3 * 2);
+    assert_settings_refused(&comparison, 1);
+}
+
 /// One cause after another is put right, and the next number is answered: the
 /// order, written out by hand.
 #[test]
@@ -210,5 +331,25 @@ fn lowest_number_first() {
         let (pair, other) = (ResourceAnswer::refused(last(11)), InverseAnswer::refused(last(13)));
         assert_eq!(resource(settings, n, 9, 7), pair, "{settings:?}, n {n}, position 9, cce 7");
         assert_eq!(inverse(settings, n, 2046), other, "{settings:?}, n {n}, resource 2046");
+
+        let read = ReadingAnswer::refused(last(13));
+        assert_eq!(reading(settings, n, 2046, 2, 2), read, "{settings:?}, n {n}, resource 2046");
+        let judged = ClaimsAnswer::refused(last(15), 0);
+        let mut scratch = [3; 5];
+        assert_eq!(claims(settings, n, &[65535], &mut scratch), judged, "{settings:?}, n {n}");
+        assert_eq!(scratch, [3; 5], "{settings:?}, n {n}");
+        let (made, refusal) = (make(settings), if number < 7 { number } else { 0 });
+        let handset = if refusal == 0 { Handset::fresh(settings) } else { Handset::NONE };
+        assert_eq!((made.refusal, made.handset), (refusal, handset), "{settings:?}");
     }
+    // The last causes of the two longer calls: 14 after 13, and 16 after 15.
+    let settings = Settings { config: 5, nrb: 6, n1: 2047, mode: 0, blocks: 1 };
+    assert_eq!(reading(settings, 2, 2047, 2, 2), ReadingAnswer::refused(14));
+    assert_eq!(reading(settings, 2, 2047, 0, 1), ReadingAnswer::refused(14));
+    assert_eq!(reading(settings, 2, 2047, 1, 0), ReadingAnswer::bundled(0, 0, 1, 0));
+    let mut scratch = [3; 9 * 7];
+    assert_eq!(claims(settings, 2, &[0, 0, 7], &mut scratch), ClaimsAnswer::refused(16, 2));
+    assert_eq!(scratch, [3; 9 * 7]);
+    assert_eq!(claims(settings, 2, &[0, 0, 6], &mut scratch), ClaimsAnswer::clash(1));
+    assert_eq!((scratch[0], scratch[1..].iter().max()), (1, Some(&0)));
 }
