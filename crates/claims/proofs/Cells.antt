@@ -2,25 +2,22 @@
 -- Assumes nothing.
 use Prim.Native.Nat.{ℕ, _*_, _/_, _%_, _≤_}
 use mathlib.Core.Bool.{not, _&&_}
-use mathlib.Core.Path.{_≡_, sym, ap, _∙_}
+use mathlib.Core.Path.{_≡_, sym, _∙_}
 use lib.Dec.{ltb}
 use Rattle.frame.specs.declared.Settings.{Settings}
-use Rattle.frame.specs.declared.Window.{Window}
-use Rattle.frame.specs.Coded.{codedWindow}
 use Rattle.frame.specs.Settings.{windowRefusal}
-use Rattle.frame.specs.Table.{windowOf}
-use Rattle.resource.specs.Calls.{ccesOf}
+use Rattle.resource.specs.Calls.{ccesOf, sizeOf}
 use Rattle.resource.proofs.Counts.{cces-answered, resources-most}
 use Rattle.claims.specs.declared.Cell.{Cell}
 use Rattle.claims.specs.Claims.{resourcesOf, isBad}
 use Rattle.claims.specs.Marking.{Accepted}
 
 -- What was read before the claims are M and N_4.
-pub cell-read : (s : Settings) (n k top : ℕ) (w : Window) → k ≡ windowRefusal s n → k ≡ 0 → w ≡ codedWindow (windowOf (s .config) n)
-    → top ≡ ccesOf (s .nrb) → Accepted (record { s = s; n = n; size = w .size; top = top })
+pub cell-read : (s : Settings) (n k top : ℕ) (size : ℕ) → k ≡ windowRefusal s n → k ≡ 0 → size ≡ sizeOf s n
+    → top ≡ ccesOf (s .nrb) → Accepted (record { s = s; n = n; size = size; top = top })
 cell-read s n k top w asked none ew et =
     let accepted = sym asked ∙ none in
-    record { accepted = accepted; positions = ap (λ (w : Window). w .size) ew; cces = et ∙ cces-answered s n accepted }
+    record { accepted = accepted; positions = ew; cces = et ∙ cces-answered s n accepted }
 
 module _ (cell : Cell) (known : Accepted cell) where
   pub room : cell .size * cell .top ≡ resourcesOf (cell .s) (cell .n)

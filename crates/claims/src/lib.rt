@@ -33,18 +33,13 @@ pub fn claims_of(s: Settings, n: u16, claims: &[u16], scratch: &mut [u8]) -> Ver
     if refusal != 0 {
         return Verdict::Refused(refusal, 0);
     }
-    let w = frame::window_of(s.config, n);
+    let size = frame::size_of(s.config, n);
     let top = resource::cces_of(s.nrb);
-    let room = (w.size * top) as usize;
+    let room = (size * top) as usize;
     if scratch.len() < room {
         return Verdict::Refused(15, 0);
     }
-    let cell = Cell {
-        s,
-        n,
-        size: w.size,
-        top,
-    };
+    let cell = Cell { s, n, size, top };
     let bad = first_bad(cell, claims);
     if bad < claims.len() {
         return Verdict::Refused(16, bad);

@@ -1,12 +1,13 @@
 -- Laws of refusals: which one of two is answered, and what an accepted settings' fields are.
 -- Assumes nothing.
-use Prim.Native.Nat.{ℕ, zero, suc, _≤_}
-use mathlib.Core.Bool.{Bool, true, false, cond, _&&_, _||_}
-use mathlib.Core.Path.{_≡_, refl, sym, _∙_}
+use Prim.Native.Nat.{ℕ, zero, suc}
+use mathlib.Core.Path.{_≡_}
 use native.Mathlib.Omega.{arith}
-use lib.Dec.{ltb, eqb}
+use lib.ListN.{length}
 use borrow.Author.Tests.{lt-ltb, le-ltb, le-leb, lt-leb, eq-eqb, ne-eqb}
-use Rattle.frame.specs.Settings.{orElse}
+use Rattle.frame.specs.declared.Settings.{Settings}
+use Rattle.frame.specs.Settings.{orElse, settingsRefusal, noWindowRefusal, windowRefusal}
+use Rattle.frame.specs.Table.{windowOf}
 
 -- From a number's place to the value of a test on it.
 pub ruleset decided = (lt-ltb, le-ltb, le-leb, lt-leb, eq-eqb, ne-eqb)
@@ -20,3 +21,13 @@ refused-first r (suc k) next e h = e
 pub refused-next : (r k x next : ℕ) → r ≡ k → r ≡ 0 → x ≡ next → x ≡ orElse k next
 refused-next r zero x next e h f = f
 refused-next r (suc k) x next e h f = absurd (omega arith)
+
+-- Accepted settings are refused by 7 exactly where M is 0.
+module _ (s : Settings) (n k size : ℕ) (asked : k ≡ settingsRefusal s) (none : k ≡ 0) (read : size ≡ length (windowOf (s .config) n)) where
+  pub without-window : size ≡ 0 → 7 ≡ windowRefusal s n
+  unfolding windowRefusal noWindowRefusal
+  without-window e = refused-next k _ 7 _ asked none (rw (← read, eq-eqb size 0 e))
+
+  pub with-window : (size ≡ 0 → ⊥) → 0 ≡ windowRefusal s n
+  unfolding windowRefusal noWindowRefusal
+  with-window e = refused-next k _ 0 _ asked none (rw (← read, ne-eqb size 0 e))

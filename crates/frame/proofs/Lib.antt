@@ -1,9 +1,11 @@
 pub mod Accepted
+pub mod Arms
 pub mod Below
 pub mod Causes
+pub mod Hex
 pub mod Layouts
 pub mod Lists
+pub mod Orders
 pub mod Padded
-pub mod Rows
 pub mod Times
 pub mod Windows

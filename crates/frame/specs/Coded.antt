@@ -1,22 +1,15 @@
--- The code's form of the tables: a list of at most nine numbers stands in an array of nine, with zeros after it.
+-- The code's form of the tables: a list of at most nine numbers stands in an array of nine, with zeros after it, and ten numbers
+-- below 16 stand in one number, as its hexadecimal digits.
 -- Assumes nothing.
-use Prim.Native.Nat.{ℕ, zero, suc}
-use mathlib.Core.Bool.{cond, _&&_}
+use Prim.Native.Nat.{ℕ, zero, suc, _+_, _*_, _/_, _%_, _^_}
 use mathlib.Core.List.{List, [], _∷_}
-use lib.Dec.{eqb}
 use lib.ListN.{length}
 use Rattle.frame.specs.declared.Window.{Window}
 use Rattle.frame.specs.declared.table.Order.{Order}
 use Rattle.frame.specs.declared.table.Row.{Row}
-use Rattle.frame.specs.Layout.{Letter, D, S, U}
+use Rattle.frame.specs.Layout.{Letter, D, S, U, letterOf}
 use Rattle.frame.specs.Order.{orderOf}
-use Rattle.frame.specs.Table.{Printed, table}
-
--- the letters' bytes
-abbrev pub byteOf : Letter → ℕ
-byteOf D = 68
-byteOf S = 83
-byteOf U = 85
+use Rattle.frame.specs.Table.{windowOf}
 
 -- the first n numbers, zeros where the list has ended
 abbrev pub padded : ℕ → List ℕ → List ℕ
@@ -24,20 +17,38 @@ padded zero l = []
 padded (suc n) [] = 0 ∷ padded n []
 padded (suc n) (x ∷ xs) = x ∷ padded n xs
 
-abbrev pub codedRow : Printed → Row
-codedRow r = record { 0 = r .config; 1 = r .n; 2 = length (r .k); 3 = padded 9 (r .k) }
+abbrev pub codedRow : List ℕ → Row
+codedRow ks = record { 0 = length ks; 1 = padded 9 ks }
 
-abbrev pub codedOrder : Printed → Order
-codedOrder r = record { 0 = padded 9 (orderOf (r .k)) }
+abbrev pub codedOrder : List ℕ → Order
+codedOrder ks = record { 0 = padded 9 (orderOf ks) }
 
 -- M, K and the time order of a window
 abbrev pub codedWindow : List ℕ → Window
 codedWindow ks = record { size = length ks; k = padded 9 ks; order = padded 9 (orderOf ks) }
 
--- the number of the row for configuration c and subframe n; the number of rows where there is none
-abbrev pub rowIn : List Printed → ℕ → ℕ → ℕ
-rowIn [] c n = zero
-rowIn (r ∷ rs) c n = cond (eqb (r .config) c && eqb (r .n) n) zero (suc (rowIn rs c n))
+-- the number with the n digits f 0, f 1, .., f (n - 1), the first one lowest
+abbrev pub digits : ℕ → (ℕ → ℕ) → ℕ
+digits zero f = 0
+digits (suc n) f = f 0 + 16 * digits n (λ (i : ℕ). f (suc i))
 
-unfoldable pub rowOf : ℕ → ℕ → ℕ
-rowOf c n = rowIn table c n
+abbrev pub five : ℕ → ℕ → ℕ → ℕ → ℕ → ℕ
+five a b c d e = a + 16 * b + 256 * c + 4096 * d + 65536 * e
+
+-- digit n, counted from the lowest, which is 0
+abbrev pub digitAt : ℕ → ℕ → ℕ
+digitAt x n = x / 2 ^ (4 * n) % 16
+
+-- the low four bits of the letters' bytes, 68, 83 and 85
+abbrev pub digitOf : Letter → ℕ
+digitOf D = 4
+digitOf S = 3
+digitOf U = 5
+
+-- the letters of a configuration's ten subframes
+unfoldable pub layoutDigits : ℕ → ℕ
+layoutDigits c = digits 10 (λ (n : ℕ). digitOf (letterOf c n))
+
+-- M of a configuration's ten subframes
+unfoldable pub sizeDigits : ℕ → ℕ
+sizeDigits c = digits 10 (λ (n : ℕ). length (windowOf c n))

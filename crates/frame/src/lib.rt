@@ -1,4 +1,5 @@
 // The frame of a TDD cell: its settings, its layout, and the windows of Table 10.1-1.
+mod digits;
 mod refusals;
 mod table;
 
@@ -6,6 +7,7 @@ pub use refusals::is_bundled;
 pub use refusals::settings_refusal;
 pub use refusals::window_refusal;
 pub use table::is_downlink;
+pub use table::size_of;
 pub use table::window_of;
 
 // The settings of a cell (document 01, "Settings"), as raw numbers: a call refuses what 01 does not allow.

@@ -1,9 +1,10 @@
 // Settings and their refusals (document 01, "Settings"; refusals 1 to 7), and which reply a window takes.
 use crate::Settings;
-use crate::table::window_of;
+use crate::table::size_of;
 ghost use mathlib.Core.Path.{_≡_};
-ghost use Rattle.frame.specs.Settings.{cellRefusal, modeRefusal, blocksRefusal, settingsRefusal, windowRefusal, bundles};
+ghost use Rattle.frame.specs.Settings.{orElse, cellRefusal, modeRefusal, blocksRefusal, settingsRefusal, windowRefusal, bundles};
 
+// The cell: 1 to 3.
 fn cell_refusal(s: Settings) -> u16
     ensures { λ r. ⌜ r ≡ cellRefusal s ⌝ }
 {
@@ -22,8 +23,9 @@ fn cell_refusal(s: Settings) -> u16
     0
 }
 
+// The mode and the blocks: 4 to 6.
 fn mode_refusal(s: Settings) -> u16
-    ensures { λ r. ⌜ r ≡ modeRefusal s ⌝ }
+    ensures { λ r. ⌜ r ≡ orElse (modeRefusal s) (blocksRefusal s) ⌝ }
 {
     if 1 < s.mode {
         return 4;
@@ -33,12 +35,6 @@ fn mode_refusal(s: Settings) -> u16
             return 5;
         }
     }
-    0
-}
-
-fn blocks_refusal(s: Settings) -> u16
-    ensures { λ r. ⌜ r ≡ blocksRefusal s ⌝ }
-{
     if s.blocks < 1 {
         return 6;
     }
@@ -56,11 +52,7 @@ pub fn settings_refusal(s: Settings) -> u16
     if cell != 0 {
         return cell;
     }
-    let mode = mode_refusal(s);
-    if mode != 0 {
-        return mode;
-    }
-    blocks_refusal(s)
+    mode_refusal(s)
 }
 
 // The first of refusals 1 to 7 that settings and uplink subframe n meet; 0 if n has a window.
@@ -71,8 +63,7 @@ pub fn window_refusal(s: Settings, n: u16) -> u16
     if k != 0 {
         return k;
     }
-    let w = window_of(s.config, n);
-    if w.size == 0 {
+    if size_of(s.config, n) == 0 {
         return 7;
     }
     0

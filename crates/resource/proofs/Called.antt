@@ -1,13 +1,9 @@
 -- The two calls from the map and the inverse of their window: 1 to 7 first.
 -- Assumes nothing.
 use Prim.Native.Nat.{ℕ, zero, suc}
-use mathlib.Core.Path.{_≡_, refl, sym, ap, _∙_}
-use native.Mathlib.Omega.{arith}
+use mathlib.Core.Path.{_≡_, sym, _∙_}
 use Rattle.frame.specs.declared.Settings.{Settings}
-use Rattle.frame.specs.declared.Window.{Window}
-use Rattle.frame.specs.Coded.{codedWindow}
 use Rattle.frame.specs.Settings.{orElse, windowRefusal}
-use Rattle.frame.specs.Table.{windowOf}
 use Rattle.frame.proofs.Accepted.{answered}
 use Rattle.frame.proofs.Windows.{window-size}
 use Rattle.resource.specs.declared.Mapped.the-variants as mapped
@@ -34,15 +30,12 @@ module _ (s : Settings) (n : ℕ) where
   unfolding inverseOf
   inverse-refused k r e h = inverted-first k (windowRefusal s n) _ _ _ e h
 
-  -- the window that was read
-  module _ (k : ℕ) (asked : k ≡ windowRefusal s n) (none : k ≡ 0) (w : Window) (read : w ≡ codedWindow (windowOf (s .config) n)) where
-    size-read : w .size ≡ sizeOf s n
-    size-read = ap (λ (w : Window). w .size) read
-
-    pub cell : Cell (s .nrb) (s .n1) (w .size)
+  -- the size that was read
+  module _ (k : ℕ) (asked : k ≡ windowRefusal s n) (none : k ≡ 0) (size : ℕ) (read : size ≡ sizeOf s n) where
+    pub cell : Cell (s .nrb) (s .n1) size
     cell =
         let a = answered s n (sym asked ∙ none) in
-        rw size-read
+        rw read
         (record {
           nrbMost = a .0 .nrbMost;
           n1Most = a .0 .n1;
@@ -50,8 +43,8 @@ module _ (s : Settings) (n : ℕ) where
           sizeMost = window-size (s .config) n;
         })
 
-    pub resource-answered : (m c : ℕ) → resourceIn (s .nrb) (s .n1) (w .size) m c ≡ resourceOf s n m c
-    resource-answered m c = rw size-read (sym (resource-call s n (sym asked ∙ none) m c))
+    pub resource-answered : (m c : ℕ) → resourceIn (s .nrb) (s .n1) size m c ≡ resourceOf s n m c
+    resource-answered m c = rw read (sym (resource-call s n (sym asked ∙ none) m c))
 
-    pub inverse-answered : (r : ℕ) → inverseIn (s .nrb) (s .n1) (w .size) r ≡ inverseOf s n r
-    inverse-answered r = rw size-read (sym (inverse-call s n (sym asked ∙ none) r))
+    pub inverse-answered : (r : ℕ) → inverseIn (s .nrb) (s .n1) size r ≡ inverseOf s n r
+    inverse-answered r = rw read (sym (inverse-call s n (sym asked ∙ none) r))

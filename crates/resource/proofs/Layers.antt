@@ -2,7 +2,7 @@
 -- t = M × lo + (m × w + (c − lo)): position and CCE are the two digits, by w, of what t has above M × lo, and t / M lies in the region.
 -- Assumes nothing.
 use Prim.Native.Nat.{ℕ, _+_, _-_, _*_, _/_, _%_, _<_, _≤_}
-use mathlib.Core.Path.{_≡_, sym, ap, _∙_}
+use mathlib.Core.Path.{_≡_, ap, _∙_}
 use native.Mathlib.Nat.{add-mul, mul-add, mul-comm, le-div-iff-mul-le, div-lt-iff-lt-mul, div-add-mod', mod-lt}
 use native.Mathlib.Omega.{arith}
 use lib.Arith.{digits-lt, digits-div, digits-mod}

@@ -5,7 +5,7 @@ use mathlib.Core.Bool.{Bool, true, false, cond, _&&_}
 use mathlib.Core.Path.{_≡_, refl, sym, ap, _∙_, fun-ext}
 use native.Mathlib.Nat.{div-lt-iff-lt-mul, mul-comm, mul-le-mul-left, zero-mul}
 use native.Mathlib.Omega.{arith}
-use lib.Dec.{ltb, leb}
+use lib.Dec.{ltb}
 use borrow.Author.Tests.{lt-ltb, le-leb, ltb-true}
 use Rattle.frame.specs.declared.Settings.{Settings}
 use Rattle.frame.specs.Settings.{orElse, windowRefusal}
@@ -16,7 +16,7 @@ use Rattle.resource.specs.declared.Mapped.the-variants as mapped
 use Rattle.resource.specs.declared.Inverted.{Inverted}
 use Rattle.resource.specs.declared.Inverted.the-variants as inverted
 use Rattle.resource.specs.Formula.{edge, regionOf, resourceNumber, regionBack, positionBack, cceBack}
-use Rattle.resource.specs.Calls.{mappedAs, invertedAs, pairRefusal, rangeRefusal, resourceIn, inverseIn, sizeOf, resourceOf, inverseOf}
+use Rattle.resource.specs.Calls.{mappedAs, pairRefusal, rangeRefusal, resourceIn, inverseIn, sizeOf, resourceOf, inverseOf}
 use Rattle.resource.specs.OneToOne.{Paired, OneToOne}
 use Rattle.resource.proofs.Edges.{In, edge-top, region-in, region-only}
 use Rattle.resource.proofs.Layers.{formula, There, there, Back, back}

@@ -1,9 +1,7 @@
 -- Where the map of a window and its inverse refuse.
 -- Assumes nothing.
 use Prim.Native.Nat.{ℕ, _+_, _-_, _*_, _<_, _≤_}
-use mathlib.Core.Bool.{and-false}
-use mathlib.Core.Path.{_≡_, refl}
-use lib.Dec.{ltb, leb}
+use mathlib.Core.Path.{_≡_}
 use native.Mathlib.Omega.{arith}
 use borrow.Author.Tests.{lt-ltb, le-ltb, le-leb, lt-leb}
 use Rattle.resource.specs.declared.Mapped.the-variants as mapped

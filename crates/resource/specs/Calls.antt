@@ -53,7 +53,7 @@ resourceOf s n m c =
     mappedAs (orElse (windowRefusal s n) (pairRefusal (s .nrb) (sizeOf s n) m c))
     (resourceNumber (s .nrb) (s .n1) (sizeOf s n) m c)
 
--- The resource call where M is told: 1 to 6, 7 where no window has that M, then 11, else the formula's resource.
+-- The resource call where M is told: 1 to 6, 7 where M is not 1 to 9, then 11, else the formula's resource.
 unfoldable pub resourceSized : Settings → ℕ → ℕ → ℕ → Mapped
 resourceSized s size m c =
     mappedAs (orElse (settingsRefusal s) (orElse (cond (outside 1 9 size) 7 0) (pairRefusal (s .nrb) size m c)))

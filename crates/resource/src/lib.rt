@@ -7,8 +7,8 @@ ghost use Rattle.resource.specs.Formula.{edge, regionOf};
 ghost use Rattle.resource.specs.Calls.{ccesOf, resourceIn, inverseIn, resourceOf, resourceSized, inverseOf};
 ghost use Rattle.resource.specs.Cell.{Cell};
 
-// The number of a grant's first CCE. CCEs and PUCCH resources are counted apart: only `resource_of` and `inverse_of` lead from
-// one count to the other.
+// The number of a grant's first CCE. CCEs and PUCCH resources are counted apart: only the map and its
+// inverse lead from one count to the other.
 #[repr(C)]
 pub struct Cce(u16);
 
@@ -64,11 +64,11 @@ pub fn resource_of(s: Settings, n: u16, m: u16, c: Cce) -> Mapped
     if refusal != 0 {
         return Mapped::Refused(refusal);
     }
-    let w = frame::window_of(s.config, n);
-    resource_in(s, w.size, m, c)
+    let size = frame::size_of(s.config, n);
+    resource_in(s, size, m, c)
 }
 
-// The same where the window's size M is told, for a caller that asks for many grants of one window; 7 where no window has that size.
+// The same where the window's size M is told, for a caller that asks for many grants of one window; 7 where M is not 1 to 9.
 pub fn resource_sized(s: Settings, size: u16, m: u16, c: Cce) -> Mapped
     ensures { λ r. ⌜ r ≡ resourceSized s size m (c .0) ⌝ }
 {
@@ -93,8 +93,8 @@ pub fn inverse_of(s: Settings, n: u16, r: Resource) -> Inverted
     if refusal != 0 {
         return Inverted::Refused(refusal);
     }
-    let w = frame::window_of(s.config, n);
-    inverse_in(s, w.size, r)
+    let size = frame::size_of(s.config, n);
+    inverse_in(s, size, r)
 }
 
 // N_4, which a first CCE lies below; 0 where N_RB is refused.
@@ -135,7 +135,7 @@ fn region_of(nrb: u16, c: u16) -> u16
     }
 }
 
-// A first CCE is below N_4, whatever N_RB is.
+// True if c is below N_4; any N_RB is taken.
 pub fn is_cce(nrb: u16, c: Cce) -> bool
     ensures { λ r. ⌜ r ≡ ltb (c .0) (edge nrb 4) ⌝ }
 {

@@ -53,8 +53,8 @@ pub fn read(s: Settings, n: u16, r: Resource, b0: u16, b1: u16) -> Reading
     match resource::inverse_of(s, n, r) {
         Inverted::Refused(k) => Reading::Refused(k),
         Inverted::At(m, c) => {
-            let w = frame::window_of(s.config, n);
-            read_at(s, w.size, m, c, b0, b1)
+            let size = frame::size_of(s.config, n);
+            read_at(s, size, m, c, b0, b1)
         }
     }
 }

@@ -1,11 +1,9 @@
 -- `resource::inverse_in` meets its contract: 13, or the pair whose resource it is. Assumes nothing.
 use Prim.Native.Nat.{_≤_, _<_, _-_, _*_}
-use mathlib.Core.Path.{sym}
 use native.Mathlib.Omega.{arith}
-use native.Mathlib.Nat.{mul-le-mul}
 use borrow.Author.Needs.{needs}
 use Rattle.resource.specs.Formula.{edge}
-use Rattle.resource.proofs.Edges.{edge-most, region-in}
+use Rattle.resource.proofs.Edges.{region-in}
 use Rattle.resource.proofs.Refused.{low-refused, high-refused, pair-given}
 use Rattle.resource.proofs.Room.{resources-most, quotient, Undone, undone}
 use Rattle.resource.proofs.inverse_in.Statement.{statement}

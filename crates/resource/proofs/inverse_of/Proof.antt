@@ -11,18 +11,18 @@ window-refusal-requires c κs = search needs
 returns : tie.Need-returns
 returns c = inverse-refused _ _ _ _ (c .before .window-refusal .ensures) (c .if1 .taken)
 
-window-of-requires : tie.Need-window-of-requires
-window-of-requires c κs = search needs
+size-of-requires : tie.Need-size-of-requires
+size-of-requires c κs = search needs
 
 inverse-in-requires : tie.Need-inverse-in-requires
 inverse-in-requires c κs =
-    cell _ _ _ (c .before .before .window-refusal .ensures) (c .before .if1 .left) _ (c .window-of .ensures)
+    cell _ _ _ (c .before .before .window-refusal .ensures) (c .before .if1 .left) _ (c .size-of .ensures)
 
 returns-2 : tie.Need-returns-2
 returns-2 c =
     c .inverse-in .ensures
     ∙ inverse-answered _ _ _ (c .before .before .before .window-refusal .ensures) (c .before .before .if1 .left) _
-    (c .before .window-of .ensures) _
+    (c .before .size-of .ensures) _
 
 pub inverse-of-spec : {M : Type 1} → statement M
-inverse-of-spec = tie.close (tie.spec window-refusal-requires returns window-of-requires inverse-in-requires returns-2)
+inverse-of-spec = tie.close (tie.spec window-refusal-requires returns size-of-requires inverse-in-requires returns-2)

@@ -3,7 +3,7 @@ use Prim.Native.Nat.{_≤_, _<_}
 use native.Mathlib.Omega.{arith}
 use borrow.Author.Needs.{needs}
 use Rattle.resource.specs.Formula.{edge}
-use Rattle.resource.proofs.Edges.{In, region-in}
+use Rattle.resource.proofs.Edges.{region-in}
 use Rattle.resource.proofs.Refused.{position-refused, cce-refused, resource-given}
 use Rattle.resource.proofs.Room.{Computed, computed}
 use Rattle.resource.proofs.resource_in.Statement.{statement}

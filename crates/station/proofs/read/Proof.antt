@@ -3,9 +3,6 @@ use Prim.Native.Nat.{ℕ}
 use mathlib.Core.Path.{_≡_, sym, ap, _∙_}
 use borrow.Author.Needs.{needs}
 use Rattle.frame.specs.declared.Settings.{Settings}
-use Rattle.frame.specs.declared.Window.{Window}
-use Rattle.frame.specs.Coded.{codedWindow}
-use Rattle.frame.specs.Table.{windowOf}
 use Rattle.resource.specs.declared.Cce.{Cce}
 use Rattle.resource.specs.declared.Inverted.{Inverted}
 use Rattle.resource.specs.declared.Inverted.the-variants as inverted
@@ -19,9 +16,8 @@ module _ (s : Settings) (n r b0 b1 : ℕ) (i : Inverted) (asked : i ≡ inverseO
   unfolding readOf
   said j same = rw (sym same ∙ asked)
 
-  given : (m : ℕ) (c : Cce) → i ≡ inverted.At m c → (w : Window) → w ≡ codedWindow (windowOf (s .config) n)
-      → readAt s (w .size) m c b0 b1 ≡ readOf s n r b0 b1
-  given m c same w read = ap (λ (w : Window). readAt s (w .size) m c b0 b1) read ∙ said (inverted.At m c) same
+  given : (m : ℕ) (c : Cce) → i ≡ inverted.At m c → (size : ℕ) → size ≡ sizeOf s n → readAt s size m c b0 b1 ≡ readOf s n r b0 b1
+  given m c same size read = ap (λ (size : ℕ). readAt s size m c b0 b1) read ∙ said (inverted.At m c) same
 
 inverse-of-requires : tie.Need-inverse-of-requires
 inverse-of-requires c κs = search needs
@@ -32,8 +28,8 @@ enum-known-k c = search needs
 enum-known-m : tie.Need-enum-known-m
 enum-known-m c = search needs
 
-window-of-requires : tie.Need-window-of-requires
-window-of-requires c κs = search needs
+size-of-requires : tie.Need-size-of-requires
+size-of-requires c κs = search needs
 
 read-at-requires : tie.Need-read-at-requires
 read-at-requires c κs = search needs
@@ -45,7 +41,7 @@ returns-2 : tie.Need-returns-2
 returns-2 c =
     c .read-at .ensures
     ∙ given _ _ _ _ _ _ (c .before .before .before .before .before .inverse-of .ensures) _ _ (c .before .before .before .m .given .1) _
-    (c .before .window-of .ensures)
+    (c .before .size-of .ensures)
 
 pub read-spec : {M : Type 1} → statement M
 read-spec =
@@ -54,7 +50,7 @@ read-spec =
     inverse-of-requires
     enum-known-k
     enum-known-m
-    window-of-requires
+    size-of-requires
     read-at-requires
     returns
     returns-2)

@@ -1,32 +1,44 @@
 -- `frame::table::is_downlink` meets its contract. Assumes nothing.
+use Prim.Native.Nat.{ℕ, _<_}
 use mathlib.Core.Bool.{not}
 use mathlib.Core.Path.{_≡_, refl}
+use native.Mathlib.Omega.{arith}
 use lib.Dec.{eqb}
 use borrow.Author.Needs.{needs}
-use Rattle.frame.specs.Coded.{byteOf}
+use Rattle.frame.specs.Coded.{digitAt, digitOf, layoutDigits}
 use Rattle.frame.specs.Layout.{Letter, D, S, U, carries, letterOf, downlink}
-use Rattle.frame.proofs.Layouts.{outside-configurations, outside-frame}
+use Rattle.frame.proofs.Hex.{digit-at}
+use Rattle.frame.proofs.Layouts.{outside-frame}
 use Rattle.frame.proofs.table.is_downlink.Statement.{statement}
 use Rattle.frame.proofs.table.is_downlink.Tie as tie
 
 -- only U is not downlink
-told : (l : Letter) → not (eqb (byteOf l) 85) ≡ carries l
+told : (l : Letter) → not (eqb (digitOf l) 5) ≡ carries l
 told D = refl
 told S = refl
 told U = refl
 
+small : (l : Letter) → digitOf l < 16
+small D = omega arith
+small S = omega arith
+small U = omega arith
+
+told-at : (c n d w : ℕ) → n < 10 → w ≡ layoutDigits c → d ≡ digitAt w n → not (eqb d 5) ≡ downlink c n
+unfolding layoutDigits downlink
+told-at c n d w h row read =
+    rw (read, row, digit-at 10 (λ (n : ℕ). digitOf (letterOf c n)) (λ n. small (letterOf c n)) n h) (told (letterOf c n))
+
 returns : tie.Need-returns
-returns c = outside-configurations _ _ (c .if1 .taken)
+returns c = outside-frame _ _ (c .if1 .taken)
+
+layout-of-requires : tie.Need-layout-of-requires
+layout-of-requires c κs = search needs
+
+digit-at-requires : tie.Need-digit-at-requires
+digit-at-requires c κs = search needs
 
 returns-2 : tie.Need-returns-2
-returns-2 c = outside-frame _ _ (c .if2 .taken)
-
-letter-at-requires : tie.Need-letter-at-requires
-letter-at-requires c κs = search needs
-
-returns-3 : tie.Need-returns-3
-unfolding downlink
-returns-3 c = rw (c .letter-at .ensures) (told (letterOf (c .before .before .before .args .config) (c .before .before .before .args .n)))
+returns-2 c = told-at _ _ _ _ (omega arith) (c .before .layout-of .ensures) (c .digit-at .ensures)
 
 pub is-downlink-spec : {M : Type 1} → statement M
-is-downlink-spec = tie.close (tie.spec returns returns-2 letter-at-requires returns-3)
+is-downlink-spec = tie.close (tie.spec returns layout-of-requires digit-at-requires returns-2)
