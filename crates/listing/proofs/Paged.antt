@@ -24,7 +24,7 @@ take-padded zero (x ∷ l) h = absurd (not-suc-le-zero h)
 take-padded (suc n) [] h = refl
 take-padded (suc n) (x ∷ l) h = ap (λ t. x ∷ t) (take-padded n l (le-of-suc-le-suc h))
 
-set-padded : (n : ℕ) (l : List ℕ) (b : ℕ) → length l < n → set (padded n l) (length l) b ≡ padded n (l ++ b ∷ [])
+pub set-padded : (n : ℕ) (l : List ℕ) (b : ℕ) → length l < n → set (padded n l) (length l) b ≡ padded n (l ++ b ∷ [])
 set-padded zero l b h = absurd (not-suc-le-zero h)
 set-padded (suc n) [] b h = refl
 set-padded (suc n) (x ∷ l) b h = ap (λ t. x ∷ t) (set-padded n l b (le-of-suc-le-suc h))

@@ -1,0 +1,46 @@
+-- Bytes put on a line in parts are the bytes put on it together.
+-- Assumes nothing.
+use Prim.Native.Nat.{ℕ, zero, suc, _+_, _-_, _<_, _≤_}
+use mathlib.Core.List.{List, [], _∷_, _++_, append-nil, append-assoc}
+use mathlib.Core.Path.{_≡_, refl, ap, _∙_}
+use native.Mathlib.Nat.{sub-zero, suc-sub-suc, zero-sub}
+use native.Mathlib.Numerals.{add-one}
+use lib.ListN.{length, getD}
+use lib.Seq.{slice, slice-cons}
+use Rattle.frame.specs.Table.{windowOf}
+use Rattle.listing.specs.Page.{decimal}
+use Rattle.printing.specs.declared.Line.{Line}
+use Rattle.printing.specs.Put.{putOf, added}
+use Rattle.printing.specs.Text.{bytes, cell, listed, kText, widths, cellsBelow}
+
+-- Two texts, one after the other.
+pub added-append : (p : Line) (a b : List ℕ) → added (added p a) b ≡ added p (a ++ b)
+unfolding added
+added-append p [] b = refl
+added-append p (x ∷ a) b = added-append (putOf p x) a b
+
+-- A text, then the spaces of its column.
+cell-spaces : (w : ℕ) (t : List ℕ) → t ++ cell (w - length t) [] ≡ cell w t
+unfolding cell
+cell-spaces zero [] = refl
+cell-spaces zero (b ∷ t) = ap (λ s. b ∷ s) (rw (zero-sub, append-nil t))
+cell-spaces (suc w) [] = rw sub-zero
+cell-spaces (suc w) (b ∷ t) = ap (λ s. b ∷ s) (rw suc-sub-suc (cell-spaces w t))
+
+pub added-cell : (p : Line) (w : ℕ) (t : List ℕ) → added (added p t) (cell (w - length t) []) ≡ added p (cell w t)
+added-cell p w t = added-append p t (cell (w - length t) []) ∙ ap (added p) (cell-spaces w t)
+
+-- A number of a list, then those after it.
+pub added-listed : (p : Line) (k : List ℕ) (m size : ℕ) → m < size → size ≤ length k
+    → added (added p (bytes ", " ++ decimal (getD k m 0))) (listed (slice (m + 1) size k)) ≡ added p (listed (slice m size k))
+unfolding listed
+added-listed p k m size h l =
+    rw (add-one, slice-cons m size k 0)
+    (added-append p (bytes ", " ++ decimal (getD k m 0)) (listed (slice (suc m) size k)))
+
+-- The columns of the subframes below n, then that of n.
+pub added-cells : (p : Line) (c n : ℕ) (t : List ℕ)
+    → added (added p (t ++ cellsBelow n c)) (cell (getD widths n 0) (kText (windowOf c n))) ≡ added p (t ++ cellsBelow (n + 1) c)
+unfolding cellsBelow
+added-cells p c n t =
+    rw (add-one, ← append-assoc) (added-append p (t ++ cellsBelow n c) (cell (getD widths n 0) (kText (windowOf c n))))

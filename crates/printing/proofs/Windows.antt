@@ -1,0 +1,54 @@
+-- The K of a window, put on a line number by number, is K as printed; and it has room there, by a test of every row of Table 10.1-1
+-- that antt computes.
+-- Assumes nothing.
+use Prim.Native.Nat.{ℕ, _<_, _≤_}
+use mathlib.Core.List.{List, [], _∷_}
+use mathlib.Core.Path.{_≡_, refl}
+use native.Mathlib.Nat.{le-of-suc-le-suc, not-suc-le-zero}
+use native.Mathlib.Omega.{arith}
+use lib.Dec.{T, leb, lit≤}
+use lib.ListN.{length, getD, take}
+use lib.Seq.{slice}
+use Rattle.frame.proofs.Windows.{everyRow, window-passes}
+use Rattle.frame.specs.Coded.{padded}
+use Rattle.frame.specs.Table.{table, windowOf}
+use Rattle.io.specs.Counts.{Counts}
+use Rattle.listing.proofs.Paged.{take-padded}
+use Rattle.listing.specs.Page.{decimal}
+use Rattle.printing.specs.declared.Line.{Line}
+use Rattle.printing.specs.Put.{paged, putOf, added}
+use Rattle.printing.specs.Text.{listed, kText}
+use Rattle.printing.proofs.Adding.{added-append}
+use Rattle.printing.proofs.Paged.{added-paged, counted}
+
+-- No window: the dash (45).
+pub added-none : (p : Line) (ks : List ℕ) → length ks ≡ 0 → putOf p 45 ≡ added p (kText ks)
+unfolding added kText
+added-none p [] h = refl
+added-none p (k ∷ ks) h = absurd (omega arith)
+
+-- The first number of a window, then the others.
+pub added-window : (p : Line) (ks : List ℕ) → 0 < length ks → length ks ≤ 9
+    → added (added p (decimal (getD (padded 9 ks) 0 0))) (listed (slice 1 (length ks) (padded 9 ks))) ≡ added p (kText ks)
+unfolding kText
+added-window p [] l h = absurd (not-suc-le-zero l)
+added-window p (k ∷ ks) l h = rw (take-padded 8 ks (le-of-suc-le-suc h)) (added-append p (decimal k) (listed ks))
+
+room-tested : T (everyRow (λ c n ks. leb (length (kText ks)) 100) table)
+unfolding table decimal listed kText
+room-tested = tt
+
+room : (c n : ℕ) → length (kText (windowOf c n)) ≤ 100
+unfolding kText
+room c n = lit≤ (window-passes _ room-tested c n tt)
+
+-- K as printed, alone on a line.
+pub alone : (c n : ℕ) (r : Line) → r ≡ added (paged []) (kText (windowOf c n))
+    → (r ≡ paged (kText (windowOf c n))) × Counts (r .size) (r .text)
+alone c n r e =
+    let t = kText (windowOf c n) in
+    rw (e, added-paged t (room c n)) (refl, counted t (room c n))
+
+-- What is read from that line is K as printed.
+pub read : (c n : ℕ) → take (length (kText (windowOf c n))) (padded 100 (kText (windowOf c n))) ≡ kText (windowOf c n)
+read c n = take-padded 100 (kText (windowOf c n)) (room c n)

@@ -1,0 +1,73 @@
+-- `printing::k_text` meets its contract: a dash where there is no window, else K. A window has at most nine k, so the array holds all.
+-- Assumes nothing.
+use Prim.Native.Nat.{_<_}
+use mathlib.Core.List.{[]}
+use mathlib.Core.Path.{ap, sym, _∙_}
+use native.Mathlib.Omega.{arith}
+use borrow.Author.Needs.{needs}
+use Rattle.frame.proofs.Windows.{window-size}
+use Rattle.frame.specs.Table.{windowOf}
+use Rattle.frame.specs.declared.Window.{Window}
+use Rattle.listing.proofs.Paged.{length-padded}
+use Rattle.printing.specs.Put.{paged}
+use Rattle.printing.proofs.Windows.{added-none, added-window, alone}
+use Rattle.printing.proofs.k_text.Statement.{statement}
+use Rattle.printing.proofs.k_text.Tie as tie
+
+window-of-requires : tie.Need-window-of-requires
+window-of-requires c κs = search needs
+
+empty-requires : tie.Need-empty-requires
+empty-requires c κs = search needs
+
+put-requires : tie.Need-put-requires
+put-requires c κs = search needs
+
+returns : tie.Need-returns
+returns c =
+    let w = c .before .before .before .before in
+    let a = w .before .args in
+    let e = ap (λ (w : Window). w .size) (sym (w .window-of .ensures)) ∙ c .before .before .if1 .taken in
+    alone (a .c) (a .n) (c .put .result)
+    (rw (c .put .ensures, c .before .empty .ensures) (added-none (paged []) (windowOf (a .c) (a .n)) e))
+
+empty-requires-2 : tie.Need-empty-requires-2
+empty-requires-2 c κs = search needs
+
+array-read-put-number : tie.Need-array-read-put-number
+array-read-put-number c = search needs
+
+put-number-requires : tie.Need-put-number-requires
+put-number-requires c κs = search needs
+
+put-listed-requires : tie.Need-put-listed-requires
+put-listed-requires c κs =
+    let w = c .before .before .before .before .before in
+    let a = w .before .args in
+    let e = w .window-of .ensures in
+    ((omega arith, rw e (window-size (a .c) (a .n))), rw e (length-padded 9 (windowOf (a .c) (a .n))))
+
+returns-2 : tie.Need-returns-2
+returns-2 c =
+    let t = c .before .before .before .before in
+    let w = t .before .before in
+    let a = w .before .args in
+    let e = w .window-of .ensures in
+    let h : 0 < w .window-of .result .size = omega arith in
+    alone (a .c) (a .n) (c .put-listed .result)
+    (rw (c .put-listed .ensures, c .before .put-number .ensures, c .before .before .empty2 .ensures, e)
+    (added-window (paged []) (windowOf (a .c) (a .n)) (rw e at h) (window-size (a .c) (a .n))))
+
+pub k-text-spec : {M : Type 1} → statement M
+k-text-spec =
+    tie.close
+    (tie.spec
+    window-of-requires
+    empty-requires
+    put-requires
+    returns
+    empty-requires-2
+    array-read-put-number
+    put-number-requires
+    put-listed-requires
+    returns-2)

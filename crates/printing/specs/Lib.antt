@@ -1,0 +1,2 @@
+pub mod Put
+pub mod Text
