@@ -1,7 +1,7 @@
 // Ten numbers below 16, one for each subframe, as the hexadecimal digits of one number: subframe n has digit n, counted from the
 // lowest, which is 0. A lookup is a shift.
 ghost use mathlib.Core.Path.{_≡_};
-ghost use Prim.Native.Nat.{_<_, _%_};
+ghost use Prim.Native.Nat.{_%_};
 ghost use lib.ListN.{getD};
 ghost use Rattle.frame.specs.Coded.{digits, five, digitAt};
 
@@ -25,9 +25,12 @@ pub fn packed(l: [u8; 10]) -> u64
     half(l[0], l[1], l[2], l[3], l[4]) + 0x100000 * half(l[5], l[6], l[7], l[8], l[9])
 }
 
+// A number of 64 bits has 16 digits, and 0 after them.
 pub fn digit_at(digits: u64, n: u16) -> u16
-    requires { ⌜ n < 10 ⌝ }
     ensures { λ r. ⌜ r ≡ digitAt digits n ⌝ }
 {
+    if 15 < n {
+        return 0;
+    }
     ((digits >> (4 * n)) % 16) as u16
 }

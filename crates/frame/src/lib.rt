@@ -20,7 +20,8 @@ pub struct Settings {
     pub blocks: u16,
 }
 
-// The window of an uplink subframe: M, then K in the print's order, and its positions in time order, earliest first.
+// The window of an uplink subframe: M, then K in the print's order, and its positions in time order, earliest first. Zeros stand
+// after the M entries of both.
 pub struct Window {
     pub size: u16,
     pub k: [u16; 9],

@@ -69,7 +69,7 @@ pub fn window_refusal(s: Settings, n: u16) -> u16
     0
 }
 
-// A window of `size` positions is answered by the bundled reply; else it is multiplexed.
+// True if a window of `size` positions is answered by the bundled reply; else the reply is multiplexed.
 pub fn is_bundled(s: Settings, size: u16) -> bool
     ensures { λ r. ⌜ r ≡ bundles s size ⌝ }
 {

@@ -63,12 +63,3 @@ region-only nrb c (suc (suc (suc zero))) i =
     rw
     (le-ltb c (edge nrb 1) (omega (arith, i .low)), le-ltb c (edge nrb 2) (omega (arith, i .low)), le-ltb c (edge nrb 3) (i .low))
 region-only nrb c (suc (suc (suc (suc p)))) i = absurd (omega (arith, i .region))
-
--- A CCE that no region up to p holds leaves a next region.
-pub next-region : (nrb c p : ℕ) → p ≤ 3 → c < edge nrb 4 → edge nrb (p + 1) ≤ c → p + 1 ≤ 3
-unfolding edge
-next-region nrb c zero h top e = omega arith
-next-region nrb c (suc zero) h top e = omega arith
-next-region nrb c (suc (suc zero)) h top e = omega arith
-next-region nrb c (suc (suc (suc zero))) h top e = omega arith
-next-region nrb c (suc (suc (suc (suc p)))) h top e = absurd (omega arith)

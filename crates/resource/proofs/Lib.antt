@@ -5,4 +5,5 @@ pub mod Layers
 pub mod OneToOne
 pub mod Refused
 pub mod Room
+pub mod Search
 pub mod Sized

@@ -1,4 +1,4 @@
--- What accepted settings and a window give the formula's code.
+-- The bounds that the code of the formula works within. They hold of accepted settings (N_RB, N1) and of a window's M.
 -- Assumes nothing.
 use Prim.Native.Nat.{ℕ, _≤_}
 

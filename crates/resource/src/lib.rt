@@ -1,11 +1,12 @@
 // The PUCCH resource of a grant, and the grant's place back from a resource (document 01, "Resources").
 use frame::Settings;
 ghost use mathlib.Core.Path.{_≡_};
-ghost use Prim.Native.Nat.{_<_, _≤_};
+ghost use Prim.Native.Nat.{_≤_};
 ghost use lib.Dec.{ltb};
-ghost use Rattle.resource.specs.Formula.{edge, regionOf};
+ghost use Rattle.resource.specs.Formula.{edge};
 ghost use Rattle.resource.specs.Calls.{ccesOf, resourceIn, inverseIn, resourceOf, resourceSized, inverseOf};
 ghost use Rattle.resource.specs.Cell.{Cell};
+ghost use Rattle.resource.specs.Search.{Searched};
 
 // The number of a grant's first CCE. CCEs and PUCCH resources are counted apart: only the map and its
 // inverse lead from one count to the other.
@@ -121,18 +122,33 @@ fn edge_of(nrb: u16, p: u16) -> u16
     nrb * (12 * p - 4) / 36
 }
 
-// The region of a CCE: the search ends with the first region whose upper edge lies above it.
-fn region_of(nrb: u16, c: u16) -> u16
-    requires { ⌜ (nrb ≤ 110) × (c < edge nrb 4) ⌝ }
-    ensures { λ p. ⌜ p ≡ regionOf nrb c ⌝ }
+// A region of CCEs: its number p and its edges N_p and N_(p+1). Number 4 is no region: all four lie below.
+struct Region {
+    number: u16,
+    low: u16,
+    high: u16,
+}
+
+// The region of t / size: the search ends with the first region whose upper edge lies above it, that is with t < size × N_(p+1).
+fn region_of(nrb: u16, size: u16, t: u16) -> Region
+    requires { ⌜ (nrb ≤ 110) × (1 ≤ size) × (size ≤ 9) ⌝ }
+    ensures { λ r. ⌜ Searched nrb size t r ⌝ }
 {
+    let mut low = 0;
+    let mut high = 0;
     let mut p = 0;
-    loop {
-        if c < edge_of(nrb, p + 1) {
+    let number = loop {
+        if p == 4 {
+            break p;
+        }
+        low = high;
+        high = edge_of(nrb, p + 1);
+        if t < size * high {
             break p;
         }
         p += 1;
-    }
+    };
+    Region { number, low, high }
 }
 
 // True if c is below N_4; any N_RB is taken.
@@ -153,12 +169,12 @@ fn resource_in(s: Settings, size: u16, m: u16, cce: Cce) -> Mapped
     if size <= m {
         return Mapped::Refused(11);
     }
-    if edge_of(s.nrb, 4) <= c {
+    let region = region_of(s.nrb, 1, c);
+    if region.number == 4 {
         return Mapped::Refused(11);
     }
-    let p = region_of(s.nrb, c);
-    let low = edge_of(s.nrb, p);
-    let high = edge_of(s.nrb, p + 1);
+    let low = region.low;
+    let high = region.high;
     Mapped::At(Resource((size - m - 1) * low + m * high + c + s.n1))
 }
 
@@ -172,12 +188,12 @@ fn inverse_in(s: Settings, size: u16, resource: Resource) -> Inverted
         return Inverted::Refused(13);
     }
     let t = r - s.n1;
-    if size * edge_of(s.nrb, 4) <= t {
+    let region = region_of(s.nrb, size, t);
+    if region.number == 4 {
         return Inverted::Refused(13);
     }
-    let p = region_of(s.nrb, t / size);
-    let low = edge_of(s.nrb, p);
-    let width = edge_of(s.nrb, p + 1) - low;
+    let low = region.low;
+    let width = region.high - low;
     let x = t - size * low;
     Inverted::At(x / width, Cce(low + x % width))
 }

@@ -41,6 +41,9 @@ struct Row3(u16, u16, u16, u16, u16, u16);
 
 struct Row4(u16, u16, u16, u16, u16, u16, u16);
 
+// Tables 10.1-2 to 10.1-4 are read a row at a time by `table_row`, for print. Replies and readings use lookups derived from the
+// same rows, and proved equal to them.
+
 // Table 10.1-2: M = 2.
 const TABLE2: [Row2; 6] = [
     Row2(ACK, ACK, 1, 1, 1),

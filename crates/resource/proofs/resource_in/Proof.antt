@@ -1,9 +1,7 @@
 -- `resource::resource_in` meets its contract: 11, or the formula's number, which fits. Assumes nothing.
-use Prim.Native.Nat.{_≤_, _<_}
+use native.Mathlib.Nat.{div-one}
 use native.Mathlib.Omega.{arith}
 use borrow.Author.Needs.{needs}
-use Rattle.resource.specs.Formula.{edge}
-use Rattle.resource.proofs.Edges.{region-in}
 use Rattle.resource.proofs.Refused.{position-refused, cce-refused, resource-given}
 use Rattle.resource.proofs.Room.{Computed, computed}
 use Rattle.resource.proofs.resource_in.Statement.{statement}
@@ -12,40 +10,21 @@ use Rattle.resource.proofs.resource_in.Tie as tie
 returns : tie.Need-returns
 returns c = position-refused _ _ _ _ _ (c .if1 .taken)
 
-edge-of-requires : tie.Need-edge-of-requires
-edge-of-requires c κs = search needs
-
-returns-2 : tie.Need-returns-2
-returns-2 c = cce-refused _ _ _ _ _ (c .before .before .if1 .left) (omega (arith, c .before .edge-of .ensures))
-
 region-of-requires : tie.Need-region-of-requires
 region-of-requires c κs = search needs
 
--- the region that was found
-region : (c : tie.After-region-of) → c .region-of .result ≤ 3
-region c =
-    let a = c .before .before .before .before .args in
-    let top : a .cce .0 < edge (a .s .nrb) 4 = omega (arith, c .before .before .edge-of .ensures) in
-    omega (arith, region-in (a .s .nrb) (a .cce .0) top .region, c .region-of .ensures)
-
-edge-of-requires-2 : tie.Need-edge-of-requires-2
-edge-of-requires-2 c κs = omega (arith, region c)
-
-add-edge-of : tie.Need-add-edge-of
-add-edge-of c = omega (arith, region (c .before))
-
-edge-of-requires-3 : tie.Need-edge-of-requires-3
-edge-of-requires-3 c κs = omega (arith, region (c .before))
+returns-2 : tie.Need-returns-2
+returns-2 c =
+    cce-refused _ _ _ _ _ (c .before .before .before .if1 .left) (omega (arith, c .before .before .region-of .ensures .above (c .if2 .taken)))
 
 -- the numbers of the formula
-all : (c : tie.After-edge-of3) →
-    let a = c .before .before .before .before .before .before in
-    Computed (a .args .s .nrb) (a .args .s .n1) (a .args .size) (a .pre) (a .args .m) (a .args .cce .0)
-    (c .before .before .region-of .result) (c .before .edge-of2 .result) (c .edge-of3 .result)
+all : (c : tie.Else2) →
+    let a = c .before .before .before .before in
+    let r = c .before .before .region-of .result in
+    Computed (a .args .s .nrb) (a .args .s .n1) (a .args .size) (a .pre) (a .args .m) (a .args .cce .0) (r .number) (r .low) (r .high)
 all c =
-    let a = c .before .before .before .before .before .before in
-    computed _ _ _ (a .pre) _ _ _ _ _ (omega arith) (omega (arith, c .before .before .before .before .edge-of .ensures))
-    (c .before .before .region-of .ensures) (c .before .edge-of2 .ensures) (c .edge-of3 .ensures)
+    let h = c .before .before .region-of .ensures .held (c .if2 .left) in
+    computed _ _ _ _ _ _ _ _ _ (omega arith) (omega (arith, h .below)) (rw div-one at (h .number)) (h .low) (h .high)
 
 sub-t10 : tie.Need-sub-t10
 sub-t10 c = search needs
@@ -70,20 +49,16 @@ add-t16 c = omega (arith, all (c .before) .most)
 
 returns-3 : tie.Need-returns-3
 returns-3 c =
-    resource-given _ _ _ _ _ _ (omega arith) (omega (arith, c .before .before .before .before .before .edge-of .ensures))
-    (all (c .before) .number)
+    let h = c .before .before .before .region-of .ensures .held (c .before .if2 .left) in
+    resource-given _ _ _ _ _ _ (omega arith) (omega (arith, h .below)) (all (c .before) .number)
 
 pub resource-in-spec : {M : Type 1} → statement M
 resource-in-spec =
     tie.close
     (tie.spec
     returns
-    edge-of-requires
-    returns-2
     region-of-requires
-    edge-of-requires-2
-    add-edge-of
-    edge-of-requires-3
+    returns-2
     sub-t10
     sub-t11
     mul-t12
