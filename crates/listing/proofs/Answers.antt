@@ -4,7 +4,7 @@
 use Prim.Native.Nat.{ℕ, _-_, _≤_}
 use mathlib.Core.Bool.{Bool, true, false, _&&_}
 use mathlib.Core.List.{List, []}
-use mathlib.Core.Path.{_≡_, refl, _∙_}
+use mathlib.Core.Path.{_≡_, refl}
 use native.Mathlib.Omega.{arith}
 use lib.Dec.{T, eqb, leb, lit≤}
 use lib.ListN.{length, getD}
@@ -12,26 +12,28 @@ use borrow.Author.Tests.{eqb-true, leb-true, eq-eqb, le-leb}
 use Rattle.frame.proofs.Below.{below, below-at}
 use Rattle.frame.specs.Table.{table, windowOf}
 use Rattle.io.specs.Counts.{Counts}
-use Rattle.listing.specs.declared.Page.{Page}
-use Rattle.listing.specs.Page.{decimal, spaced, line, lineOf, linesBelow, refusal, accepted, pageOf, paged}
-use Rattle.listing.specs.Put.{added}
-use Rattle.listing.proofs.Paged.{added-paged, counted}
+use Rattle.line.proofs.Paged.{alone}
+use Rattle.line.specs.Decimal.{decimal}
+use Rattle.line.specs.Put.{paged, added}
+use Rattle.line.specs.declared.Line.{Line}
+use Rattle.listing.specs.Page.{spaced, line, lineOf, linesBelow, refusal, accepted, pageOf}
 
 -- the lines of configuration c have room on a page
 abbrev roomFor : ℕ → Bool
-roomFor c = leb (length (linesBelow 10 c)) 40
+roomFor c = leb (length (linesBelow 10 c)) 100
 
 room-tested : T (below 7 roomFor)
 unfolding table windowOf decimal spaced line lineOf linesBelow
 room-tested = tt
 
 -- what `page_for` promises of its result r
-abbrev Answered : List ℕ → Page → Type 0
+abbrev Answered : List ℕ → Line → Type 0
 Answered input r = (r ≡ paged (pageOf input)) × Counts (r .size) (r .text)
 
 -- The page that holds the text for an input, where that has room.
-answered : (input text : List ℕ) (r : Page) → pageOf input ≡ text → length text ≤ 40 → r ≡ paged text → Answered input r
-answered input text r e h p = rw (e, p) (refl, counted text h)
+answered : (input text : List ℕ) (r : Line) → pageOf input ≡ text → length text ≤ 100 → r ≡ added (paged []) text
+    → Answered input r
+answered input text r e h p = rw e (alone text r h p)
 
 -- what an input that is accepted meets
 abbrev Meets : List ℕ → Type 0
@@ -52,18 +54,17 @@ not-accepted input h =
     go false b c d p q r s = refl
 
 -- The answer to an input that is refused.
-pub refused : (input : List ℕ) (r : Page) → (Meets input → ⊥) → r ≡ paged refusal → Answered input r
+pub refused : (input : List ℕ) (r : Line) → (Meets input → ⊥) → r ≡ added (paged []) refusal → Answered input r
 unfolding pageOf
 refused input r h p = answered input refusal r (rw (not-accepted input h)) (lit≤ tt) p
 
 -- The answer to an input that is accepted.
-pub listed : (input : List ℕ) (r : Page) → Meets input
+pub listed : (input : List ℕ) (r : Line) → Meets input
     → r ≡ added (paged []) (linesBelow 10 (getD input 0 0 - 48)) → Answered input r
 unfolding pageOf accepted
 listed input r h p =
     let c = getD input 0 0 - 48 in
-    let fits : length (linesBelow 10 c) ≤ 40 = lit≤ (below-at 7 roomFor room-tested c (omega arith)) in
     answered input (linesBelow 10 c) r
     (simp (eq-eqb _ _ (h .0), le-leb _ _ (h .1), le-leb _ _ (h .2), eq-eqb _ _ (h .3)))
-    fits
-    (p ∙ added-paged (linesBelow 10 c) fits)
+    (lit≤ (below-at 7 roomFor room-tested c (omega arith)))
+    p

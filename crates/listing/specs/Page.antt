@@ -1,21 +1,12 @@
 -- What the program `windows` prints, as bytes: document 01, "Buyers' access".
 -- Assumes nothing.
-use Prim.Native.Nat.{ℕ, zero, suc, _+_, _-_, _/_, _%_}
+use Prim.Native.Nat.{ℕ, zero, suc, _-_}
 use mathlib.Core.Bool.{Bool, cond, _&&_}
 use mathlib.Core.List.{List, [], _∷_, _++_}
-use lib.Dec.{eqb, leb, ltb}
+use lib.Dec.{eqb, leb}
 use lib.ListN.{length, getD}
-use Rattle.frame.specs.Coded.{padded}
 use Rattle.frame.specs.Table.{windowOf}
-use Rattle.listing.specs.declared.Page.{Page}
-
--- The last decimal digit of a number, in ASCII: 48 is `0`.
-abbrev pub digitOf : ℕ → ℕ
-digitOf x = 48 + x % 10
-
--- A number up to 99 in decimal: one digit below 10, else two.
-unfoldable pub decimal : ℕ → List ℕ
-decimal x = cond (ltb x 10) (digitOf x ∷ []) (digitOf (x / 10) ∷ digitOf x ∷ [])
+use Rattle.line.specs.Decimal.{decimal}
 
 -- Numbers in decimal, a space (32) before each.
 unfoldable pub spaced : List ℕ → List ℕ
@@ -46,7 +37,3 @@ accepted input = eqb (length input) 2 && leb 48 (getD input 0 0) && leb (getD in
 -- The text for an input: the lines of the configuration that its digit names, subframes 0 to 9, or the refusal.
 unfoldable pub pageOf : List ℕ → List ℕ
 pageOf input = cond (accepted input) (linesBelow 10 (getD input 0 0 - 48)) refusal
-
--- The page that holds a text: its length and its bytes, zeros after them.
-abbrev pub paged : List ℕ → Page
-paged text = record { size = length text; text = padded 40 text }

@@ -1,71 +1,28 @@
-// The text that the program `windows` prints (document 01, "Buyers' access").
+// The text that the program `windows` prints (document 01, "Buyers' access"). A page is a `Line` that holds all lines of the text.
 use frame::Window;
+use line::Line;
+use line::empty;
+use line::put;
+use line::put_number;
+use line::put_text;
 ghost use Prim.Native.Nat.{_≤_};
 ghost use mathlib.Core.Path.{_≡_};
 ghost use mathlib.Core.List.{[], _∷_};
 ghost use lib.ListN.{length, take};
 ghost use Rattle.io.specs.Counts.{Counts};
-ghost use Rattle.listing.specs.Page.{digitOf, decimal, spaced, lineOf, linesBelow, refusal, pageOf, paged};
-ghost use Rattle.listing.specs.Put.{putOf, added};
-
-// A text of at most 40 bytes, its length and its bytes; the bytes after it are 0.
-pub struct Page {
-    pub size: usize,
-    pub text: [u8; 40],
-}
-
-// A page with no text.
-fn empty() -> Page
-    ensures { λ r. ⌜ r ≡ paged [] ⌝ }
-{
-    Page {
-        size: 0,
-        text: [0; 40],
-    }
-}
-
-// The page with one more byte; a full page stays as it is.
-fn put(p: Page, b: u8) -> Page
-    ensures { λ r. ⌜ r ≡ putOf p b ⌝ }
-{
-    let size = p.size;
-    if 40 <= size {
-        return p;
-    }
-    let mut text = p.text;
-    text[size] = b;
-    Page {
-        size: size + 1,
-        text,
-    }
-}
-
-// The last decimal digit of a number, in ASCII: 48 is `0`.
-fn digit(x: u16) -> u8
-    ensures { λ r. ⌜ r ≡ digitOf x ⌝ }
-{
-    (48 + x % 10) as u8
-}
-
-// The page with a number up to 99 in decimal.
-fn put_number(p: Page, x: u16) -> Page
-    ensures { λ r. ⌜ r ≡ added p (decimal x) ⌝ }
-{
-    if x < 10 {
-        return put(p, digit(x));
-    }
-    put(put(p, digit(x / 10)), digit(x))
-}
+ghost use Rattle.line.specs.Decimal.{decimal};
+ghost use Rattle.line.specs.Put.{paged, added};
+ghost use Rattle.listing.specs.Page.{spaced, lineOf, linesBelow, refusal, pageOf};
 
 // The page with a space and a number.
-fn put_spaced(p: Page, x: u16) -> Page
+fn put_spaced(p: Line, x: u16) -> Line
     ensures { λ r. ⌜ r ≡ added p (32 ∷ decimal x) ⌝ }
 {
     put_number(put(p, b' '), x)
 }
 
 // The page with the K of a window in the print's order, a space before each.
-fn put_window(p: Page, w: Window) -> Page
+fn put_window(p: Line, w: Window) -> Line
     requires { ⌜ w .size ≤ 9 ⌝ }
     requires { ⌜ length (w .k) ≡ 9 ⌝ }
     ensures { λ r. ⌜ r ≡ added p (spaced (take (w .size) (w .k))) ⌝ }
@@ -82,7 +39,7 @@ fn put_window(p: Page, w: Window) -> Page
 }
 
 // The page with the line of subframe n in configuration c; the page as it is where n has no window.
-fn put_line(p: Page, c: u16, n: u16) -> Page
+fn put_line(p: Line, c: u16, n: u16) -> Line
     ensures { λ r. ⌜ r ≡ added p (lineOf c n) ⌝ }
 {
     let w = frame::window_of(c, n);
@@ -94,7 +51,7 @@ fn put_line(p: Page, c: u16, n: u16) -> Page
 }
 
 // The lines of configuration c, subframes 0 to 9 in order.
-fn lines_of(c: u16) -> Page
+fn lines_of(c: u16) -> Line
     ensures { λ r. ⌜ r ≡ added (paged []) (linesBelow 10 c) ⌝ }
 {
     let mut page = empty();
@@ -107,18 +64,15 @@ fn lines_of(c: u16) -> Page
 }
 
 // The page of every input that is refused.
-fn refused() -> Page
-    ensures { λ r. ⌜ r ≡ paged refusal ⌝ }
+fn refused() -> Line
+    ensures { λ r. ⌜ r ≡ added (paged []) refusal ⌝ }
 {
-    Page {
-        size: 10,
-        text: *b"refused 1\n\0\0\0\0\0\0\0\0\0\0\0\0\0\0\0\0\0\0\0\0\0\0\0\0\0\0\0\0\0\0",
-    }
+    put_text(empty(), b"refused 1\n")
 }
 
 // The text for an input: the lines of a configuration where it is one digit 0 to 6 and a newline, else the refusal.
 // The second promise follows from the first; with it a caller may lend `&text[..size]`.
-pub fn page_for(input: &[u8]) -> Page
+pub fn page_for(input: &[u8]) -> Line
     ensures { λ r. ⌜ r ≡ paged (pageOf (now (input .entry))) ⌝ }
     ensures { λ r. ⌜ Counts (r .size) (r .text) ⌝ }
 {

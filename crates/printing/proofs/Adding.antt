@@ -1,4 +1,4 @@
--- Bytes put on a line in parts are the bytes put on it together.
+-- A column put on a line as its text and its spaces, a list number by number, and a row column by column.
 -- Assumes nothing.
 use Prim.Native.Nat.{ℕ, zero, suc, _+_, _-_, _<_, _≤_}
 use mathlib.Core.List.{List, [], _∷_, _++_, append-nil, append-assoc}
@@ -8,16 +8,11 @@ use native.Mathlib.Numerals.{add-one}
 use lib.ListN.{length, getD}
 use lib.Seq.{slice, slice-cons}
 use Rattle.frame.specs.Table.{windowOf}
-use Rattle.listing.specs.Page.{decimal}
-use Rattle.printing.specs.declared.Line.{Line}
-use Rattle.printing.specs.Put.{putOf, added}
+use Rattle.line.proofs.Adding.{added-append}
+use Rattle.line.specs.Decimal.{decimal}
+use Rattle.line.specs.Put.{added}
+use Rattle.line.specs.declared.Line.{Line}
 use Rattle.printing.specs.Text.{bytes, cell, listed, kText, widths, cellsBelow}
-
--- Two texts, one after the other.
-pub added-append : (p : Line) (a b : List ℕ) → added (added p a) b ≡ added p (a ++ b)
-unfolding added
-added-append p [] b = refl
-added-append p (x ∷ a) b = added-append (putOf p x) a b
 
 -- A text, then the spaces of its column.
 cell-spaces : (w : ℕ) (t : List ℕ) → t ++ cell (w - length t) [] ≡ cell w t

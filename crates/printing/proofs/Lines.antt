@@ -2,7 +2,7 @@
 -- Assumes nothing.
 use Prim.Native.Nat.{ℕ, zero, suc, _+_, _-_, _<_, _≤_}
 use mathlib.Core.List.{List, [], _∷_, _++_, map}
-use mathlib.Core.Path.{_≡_, refl, ap, _∙_}
+use mathlib.Core.Path.{_≡_, ap, _∙_}
 use native.Mathlib.Decide.{decLt}
 use native.Mathlib.Nat.{not-suc-le-zero}
 use native.Mathlib.Omega.{arith}
@@ -13,15 +13,15 @@ use Rattle.frame.proofs.Below.{below-at}
 use Rattle.frame.proofs.Lists.{entry}
 use Rattle.frame.specs.Table.{table, windowOf}
 use Rattle.io.specs.Counts.{Counts}
-use Rattle.listing.specs.Page.{decimal}
+use Rattle.line.proofs.Paged.{alone}
+use Rattle.line.specs.Decimal.{decimal}
+use Rattle.line.specs.Put.{paged, added}
+use Rattle.line.specs.declared.Line.{Line}
 use Rattle.symbols.specs.Coded.{noRow}
 use Rattle.symbols.specs.Selection.{table2, table3, table4, tableOf}
-use Rattle.printing.specs.declared.Line.{Line}
-use Rattle.printing.specs.Put.{paged, added}
 use Rattle.printing.specs.Text.{cell, listed, kText, cellsBelow, windowRow, windowTable}
 use Rattle.printing.specs.Text.{words, said, symbolRow, title, heading, symbolTable, allLines, ended, lineText}
 use Rattle.printing.proofs.Every.{every, every-at}
-use Rattle.printing.proofs.Paged.{added-paged, counted}
 
 -- A row of the table for M = size.
 pub row-line : (size i : ℕ) → 3 ≤ i → i < length (symbolTable size)
@@ -122,4 +122,4 @@ room i = lit≤ (every-at (λ l. leb (length l) 100) (map ended allLines) [] roo
 
 -- What `table_line` promises of its result, where line i was put on an empty line.
 pub promised : (i : ℕ) (r : Line) → r ≡ added (paged []) (lineText i) → (r ≡ paged (lineText i)) × Counts (r .size) (r .text)
-promised i r e = rw (e, added-paged (lineText i) (room i)) (refl, counted (lineText i) (room i))
+promised i r = alone (lineText i) r (room i)

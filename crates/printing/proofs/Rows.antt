@@ -8,12 +8,13 @@ use mathlib.Core.Path.{_≡_, refl}
 use native.Mathlib.Omega.{arith}
 use lib.Dec.{T, eqb, leb, lit≤}
 use lib.ListN.{length, getD}
+use Rattle.line.proofs.Adding.{added-append}
+use Rattle.line.specs.Put.{added}
+use Rattle.line.specs.declared.Line.{Line}
 use Rattle.symbols.specs.Coded.{cellOf, noRow}
 use Rattle.symbols.specs.Selection.{Mark, ACK, NACK, DTX, NACK/DTX, Row, table2, table3, table4, tableOf}
-use Rattle.printing.specs.declared.Line.{Line}
-use Rattle.printing.specs.Put.{added, columnOf}
+use Rattle.printing.specs.Column.{columnOf}
 use Rattle.printing.specs.Text.{cell, word, words, said, symbolRow}
-use Rattle.printing.proofs.Adding.{added-append}
 use Rattle.printing.proofs.Every.{every, every-at}
 
 -- the row has at most four cells

@@ -13,13 +13,12 @@ use Rattle.frame.proofs.Windows.{everyRow, window-passes}
 use Rattle.frame.specs.Coded.{padded}
 use Rattle.frame.specs.Table.{table, windowOf}
 use Rattle.io.specs.Counts.{Counts}
-use Rattle.listing.proofs.Paged.{take-padded}
-use Rattle.listing.specs.Page.{decimal}
-use Rattle.printing.specs.declared.Line.{Line}
-use Rattle.printing.specs.Put.{paged, putOf, added}
+use Rattle.line.proofs.Adding.{added-append}
+use Rattle.line.proofs.Paged.{alone, take-padded}
+use Rattle.line.specs.Decimal.{decimal}
+use Rattle.line.specs.Put.{paged, putOf, added}
+use Rattle.line.specs.declared.Line.{Line}
 use Rattle.printing.specs.Text.{listed, kText}
-use Rattle.printing.proofs.Adding.{added-append}
-use Rattle.printing.proofs.Paged.{added-paged, counted}
 
 -- No window: the dash (45).
 pub added-none : (p : Line) (ks : List ℕ) → length ks ≡ 0 → putOf p 45 ≡ added p (kText ks)
@@ -43,11 +42,9 @@ unfolding kText
 room c n = lit≤ (window-passes _ room-tested c n tt)
 
 -- K as printed, alone on a line.
-pub alone : (c n : ℕ) (r : Line) → r ≡ added (paged []) (kText (windowOf c n))
+pub k-alone : (c n : ℕ) (r : Line) → r ≡ added (paged []) (kText (windowOf c n))
     → (r ≡ paged (kText (windowOf c n))) × Counts (r .size) (r .text)
-alone c n r e =
-    let t = kText (windowOf c n) in
-    rw (e, added-paged t (room c n)) (refl, counted t (room c n))
+k-alone c n r = alone (kText (windowOf c n)) r (room c n)
 
 -- What is read from that line is K as printed.
 pub read : (c n : ℕ) → take (length (kText (windowOf c n))) (padded 100 (kText (windowOf c n))) ≡ kText (windowOf c n)

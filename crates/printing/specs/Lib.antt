@@ -1,2 +1,2 @@
-pub mod Put
+pub mod Column
 pub mod Text

@@ -7,10 +7,10 @@ use Prim.Native.String.{String, [] as []ˢ, _∷_ as _∷ˢ_}
 use mathlib.Core.List.{List, [], _∷_, _++_, map}
 use lib.ListN.{getD, take}
 use Rattle.frame.specs.Table.{windowOf}
-use Rattle.listing.specs.Page.{digitOf, decimal}
+use Rattle.line.specs.Decimal.{digitOf, decimal}
 use Rattle.symbols.specs.Selection.{Mark, ACK, NACK, DTX, NACK/DTX, Row, tableOf}
-use Rattle.symbols.specs.declared.Symbol.{Symbol}
 use Rattle.symbols.specs.declared.Symbol.the-variants.{Sent, Silent}
+use Rattle.symbols.specs.declared.Symbol.{Symbol}
 
 -- The bytes of an ASCII text.
 abbrev pub bytes : String → List ℕ

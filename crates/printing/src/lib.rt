@@ -1,5 +1,11 @@
 // The text that the program `tables` prints: Tables 10.1-1 to 10.1-4 of TS 36.213 from the data that the engine uses.
 use frame::Window;
+use line::Line;
+use line::digit;
+use line::empty;
+use line::put;
+use line::put_number;
+use line::put_text;
 use symbols::Symbol;
 ghost use Prim.Native.Nat.{_≤_, _<_};
 ghost use mathlib.Core.Path.{_≡_};
@@ -8,57 +14,13 @@ ghost use lib.ListN.{length, getD};
 ghost use lib.Seq.{slice};
 ghost use Rattle.frame.specs.Table.{windowOf};
 ghost use Rattle.io.specs.Counts.{Counts};
-ghost use Rattle.listing.specs.Page.{digitOf, decimal};
+ghost use Rattle.line.specs.Decimal.{decimal};
+ghost use Rattle.line.specs.Put.{paged, added};
 ghost use Rattle.symbols.specs.Coded.{noRow};
 ghost use Rattle.symbols.specs.Selection.{tableOf};
-ghost use Rattle.printing.specs.Put.{paged, putOf, added, columnOf};
+ghost use Rattle.printing.specs.Column.{columnOf};
 ghost use Rattle.printing.specs.Text.{cell, listed, kText, widths, windowRow, windowTable};
 ghost use Rattle.printing.specs.Text.{said, symbolRow, title, heading, symbolTable, allLines, lineText};
-
-// A line of at most 100 bytes, its length and its bytes; the bytes after it are 0.
-pub struct Line {
-    pub size: usize,
-    pub text: [u8; 100],
-}
-
-// A line with no text.
-fn empty() -> Line
-    ensures { λ r. ⌜ r ≡ paged [] ⌝ }
-{
-    Line {
-        size: 0,
-        text: [0; 100],
-    }
-}
-
-// The line with one more byte; a full line stays as it is.
-fn put(p: Line, b: u8) -> Line
-    ensures { λ r. ⌜ r ≡ putOf p b ⌝ }
-{
-    let size = p.size;
-    if 100 <= size {
-        return p;
-    }
-    let mut text = p.text;
-    text[size] = b;
-    Line {
-        size: size + 1,
-        text,
-    }
-}
-
-// The line with a text.
-fn put_text(p: Line, text: &[u8]) -> Line
-    ensures { λ r. ⌜ r ≡ added p (now (text .entry)) ⌝ }
-{
-    let mut line = p;
-    let mut m: usize = 0;
-    while m < text.len() {
-        line = put(line, text[m]);
-        m += 1;
-    }
-    line
-}
 
 // The line with a text in a column, spaces after it up to the column's width.
 fn put_cell(p: Line, text: &[u8], width: usize) -> Line
@@ -71,23 +33,6 @@ fn put_cell(p: Line, text: &[u8], width: usize) -> Line
         m += 1;
     }
     line
-}
-
-// The last decimal digit of a number, in ASCII: 48 is `0`.
-fn digit(x: u16) -> u8
-    ensures { λ r. ⌜ r ≡ digitOf x ⌝ }
-{
-    (48 + x % 10) as u8
-}
-
-// The line with a number up to 99 in decimal.
-fn put_number(p: Line, x: u16) -> Line
-    ensures { λ r. ⌜ r ≡ added p (decimal x) ⌝ }
-{
-    if x < 10 {
-        return put(p, digit(x));
-    }
-    put(put(p, digit(x / 10)), digit(x))
 }
 
 // The line with a text, then a number.

@@ -5,8 +5,8 @@ use mathlib.Core.Path.{_≡_}
 use native.Mathlib.Omega.{arith}
 use borrow.Author.Needs.{needs}
 use mathlib.Core.List.{[]}
-use Rattle.listing.specs.Page.{linesBelow, paged}
-use Rattle.listing.specs.Put.{added}
+use Rattle.line.specs.Put.{paged, added}
+use Rattle.listing.specs.Page.{linesBelow}
 use Rattle.listing.proofs.Adding.{added-lines}
 use Rattle.listing.proofs.lines_of.Statement.{statement}
 use Rattle.listing.proofs.lines_of.Tie as tie
@@ -21,7 +21,7 @@ empty-requires : tie.Need-empty-requires Inv-loop μ-loop
 empty-requires c κs = search needs
 
 loop-holds : tie.Need-loop-holds Inv-loop μ-loop
-unfolding linesBelow
+unfolding linesBelow added
 loop-holds c = (omega arith, c .empty .ensures)
 
 put-line-requires : tie.Need-put-line-requires Inv-loop μ-loop

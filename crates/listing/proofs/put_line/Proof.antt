@@ -6,9 +6,10 @@ use borrow.Author.Tests.{eq-eqb, ne-eqb}
 use Rattle.frame.proofs.Windows.{window-size}
 use Rattle.frame.specs.Table.{windowOf}
 use Rattle.frame.specs.declared.Window.{Window}
+use Rattle.line.proofs.Paged.{length-padded, take-padded}
+use Rattle.line.specs.Put.{added}
 use Rattle.listing.specs.Page.{lineOf}
 use Rattle.listing.proofs.Adding.{added-line}
-use Rattle.listing.proofs.Paged.{length-padded, take-padded}
 use Rattle.listing.proofs.put_line.Statement.{statement}
 use Rattle.listing.proofs.put_line.Tie as tie
 
@@ -16,7 +17,7 @@ window-of-requires : tie.Need-window-of-requires
 window-of-requires c κs = search needs
 
 returns : tie.Need-returns
-unfolding lineOf
+unfolding lineOf added
 returns c =
     let e = c .before .before .window-of .ensures in
     rw (eq-eqb _ _ (ap (λ (w : Window). w .size) (sym e) ∙ c .if1 .taken))
@@ -40,7 +41,7 @@ put-requires : tie.Need-put-requires
 put-requires c κs = search needs
 
 returns-2 : tie.Need-returns-2
-unfolding lineOf
+unfolding lineOf added
 returns-2 c =
     let s = c .before .before in
     let t = s .before .before .before in

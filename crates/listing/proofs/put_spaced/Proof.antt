@@ -1,6 +1,7 @@
 -- `listing::put_spaced` meets its contract: a space, then the number.
 -- Assumes nothing.
 use borrow.Author.Needs.{needs}
+use Rattle.line.specs.Put.{added}
 use Rattle.listing.proofs.put_spaced.Statement.{statement}
 use Rattle.listing.proofs.put_spaced.Tie as tie
 
@@ -11,6 +12,7 @@ put-number-requires : tie.Need-put-number-requires
 put-number-requires c κs = search needs
 
 returns : tie.Need-returns
+unfolding added
 returns c = rw (c .put-number .ensures, c .before .put .ensures)
 
 pub put-spaced-spec : {M : Type 1} → statement M

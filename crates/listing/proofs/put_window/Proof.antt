@@ -5,8 +5,8 @@ use mathlib.Core.Path.{_≡_, refl, _∙_}
 use native.Mathlib.Omega.{arith}
 use borrow.Author.Needs.{needs}
 use lib.Seq.{slice, slice-empty}
+use Rattle.line.specs.Put.{added}
 use Rattle.listing.specs.Page.{spaced}
-use Rattle.listing.specs.Put.{added}
 use Rattle.listing.proofs.Adding.{added-k}
 use Rattle.listing.proofs.put_window.Statement.{statement}
 use Rattle.listing.proofs.put_window.Tie as tie
@@ -48,7 +48,7 @@ loop-again c =
     )
 
 returns : tie.Need-returns Inv-loop μ-loop
-unfolding spaced
+unfolding spaced added
 returns c =
     let e : c .before .loop .m ≡ c .before .before .before .before .args .w .size = omega arith in
     rw (e, slice-empty) at (c .before .loop .inv .1)

@@ -4,8 +4,8 @@ use mathlib.Core.Path.{sym}
 use native.Mathlib.Omega.{arith}
 use lib.Seq.{length-take-le}
 use borrow.Author.Needs.{needs}
+use Rattle.line.proofs.Adding.{added-append}
 use Rattle.printing.specs.Text.{heading}
-use Rattle.printing.proofs.Adding.{added-append}
 use Rattle.printing.proofs.heading_line.Statement.{statement}
 use Rattle.printing.proofs.heading_line.Tie as tie
 

@@ -8,9 +8,9 @@ use borrow.Author.Needs.{needs}
 use Rattle.frame.proofs.Windows.{window-size}
 use Rattle.frame.specs.Table.{windowOf}
 use Rattle.frame.specs.declared.Window.{Window}
-use Rattle.listing.proofs.Paged.{length-padded}
-use Rattle.printing.specs.Put.{paged}
-use Rattle.printing.proofs.Windows.{added-none, added-window, alone}
+use Rattle.line.proofs.Paged.{length-padded}
+use Rattle.line.specs.Put.{paged}
+use Rattle.printing.proofs.Windows.{added-none, added-window, k-alone}
 use Rattle.printing.proofs.k_text.Statement.{statement}
 use Rattle.printing.proofs.k_text.Tie as tie
 
@@ -28,7 +28,7 @@ returns c =
     let w = c .before .before .before .before in
     let a = w .before .args in
     let e = ap (λ (w : Window). w .size) (sym (w .window-of .ensures)) ∙ c .before .before .if1 .taken in
-    alone (a .c) (a .n) (c .put .result)
+    k-alone (a .c) (a .n) (c .put .result)
     (rw (c .put .ensures, c .before .empty .ensures) (added-none (paged []) (windowOf (a .c) (a .n)) e))
 
 empty-requires-2 : tie.Need-empty-requires-2
@@ -54,7 +54,7 @@ returns-2 c =
     let a = w .before .args in
     let e = w .window-of .ensures in
     let h : 0 < w .window-of .result .size = omega arith in
-    alone (a .c) (a .n) (c .put-listed .result)
+    k-alone (a .c) (a .n) (c .put-listed .result)
     (rw (c .put-listed .ensures, c .before .put-number .ensures, c .before .before .empty2 .ensures, e)
     (added-window (paged []) (windowOf (a .c) (a .n)) (rw e at h) (window-size (a .c) (a .n))))
 

@@ -6,7 +6,7 @@ use mathlib.Core.List.{[]}
 use mathlib.Core.Path.{_≡_, refl, _∙_}
 use native.Mathlib.Omega.{arith}
 use borrow.Author.Needs.{needs}
-use Rattle.printing.specs.Put.{added}
+use Rattle.line.specs.Put.{added}
 use Rattle.printing.specs.Text.{cell}
 use Rattle.printing.proofs.Adding.{added-cell}
 use Rattle.printing.proofs.put_cell.Statement.{statement}

@@ -1,7 +1,7 @@
 -- `printing::put_labelled` meets its contract: the text, then the number.
 -- Assumes nothing.
 use borrow.Author.Needs.{needs}
-use Rattle.printing.proofs.Adding.{added-append}
+use Rattle.line.proofs.Adding.{added-append}
 use Rattle.printing.proofs.put_labelled.Statement.{statement}
 use Rattle.printing.proofs.put_labelled.Tie as tie
 

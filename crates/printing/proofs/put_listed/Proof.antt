@@ -5,7 +5,7 @@ use mathlib.Core.Path.{_≡_, refl, _∙_}
 use native.Mathlib.Omega.{arith}
 use lib.Seq.{slice, slice-empty}
 use borrow.Author.Needs.{needs}
-use Rattle.printing.specs.Put.{added}
+use Rattle.line.specs.Put.{added}
 use Rattle.printing.specs.Text.{bytes, listed}
 use Rattle.printing.proofs.Adding.{added-listed}
 use Rattle.printing.proofs.put_listed.Statement.{statement}

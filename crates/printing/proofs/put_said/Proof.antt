@@ -1,8 +1,8 @@
 -- `printing::put_said` meets its contract, by what the row says.
 -- Assumes nothing.
 use borrow.Author.Needs.{needs}
+use Rattle.line.proofs.Adding.{added-append}
 use Rattle.printing.specs.Text.{said}
-use Rattle.printing.proofs.Adding.{added-append}
 use Rattle.printing.proofs.put_said.Statement.{statement}
 use Rattle.printing.proofs.put_said.Tie as tie
 

@@ -2,7 +2,8 @@
 -- Assumes nothing.
 use borrow.Author.Needs.{needs}
 use borrow.Author.Tests.{ne-eqb}
-use Rattle.printing.specs.Put.{added, columnOf}
+use Rattle.line.specs.Put.{added}
+use Rattle.printing.specs.Column.{columnOf}
 use Rattle.printing.proofs.put_word.Statement.{statement}
 use Rattle.printing.proofs.put_word.Tie as tie
 

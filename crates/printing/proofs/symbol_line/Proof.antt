@@ -2,7 +2,7 @@
 -- Assumes nothing.
 use native.Mathlib.Omega.{arith}
 use borrow.Author.Needs.{needs}
-use Rattle.printing.specs.Put.{added}
+use Rattle.line.specs.Put.{added}
 use Rattle.printing.specs.Text.{symbolTable}
 use Rattle.printing.proofs.Lines.{row-line}
 use Rattle.printing.proofs.symbol_line.Statement.{statement}

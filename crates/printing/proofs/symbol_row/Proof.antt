@@ -2,7 +2,7 @@
 -- Assumes nothing.
 use mathlib.Core.List.{[]}
 use borrow.Author.Needs.{needs}
-use Rattle.printing.specs.Put.{paged}
+use Rattle.line.specs.Put.{paged}
 use Rattle.printing.proofs.Rows.{added-row}
 use Rattle.printing.proofs.symbol_row.Statement.{statement}
 use Rattle.printing.proofs.symbol_row.Tie as tie

@@ -4,9 +4,9 @@ use mathlib.Core.List.{[], _∷_}
 use native.Mathlib.Omega.{arith}
 use lib.ListN.{getD}
 use borrow.Author.Needs.{needs}
-use Rattle.printing.specs.Put.{paged, added}
+use Rattle.line.proofs.Adding.{added-append}
+use Rattle.line.specs.Put.{paged, added}
 use Rattle.printing.specs.Text.{allLines}
-use Rattle.printing.proofs.Adding.{added-append}
 use Rattle.printing.proofs.Lines.{line-ended, past-last, promised}
 use Rattle.printing.proofs.table_line.Statement.{statement}
 use Rattle.printing.proofs.table_line.Tie as tie

@@ -1,8 +1,8 @@
 -- `printing::title_line` meets its contract: the text in two parts.
 -- Assumes nothing.
 use borrow.Author.Needs.{needs}
+use Rattle.line.proofs.Adding.{added-append}
 use Rattle.printing.specs.Text.{title}
-use Rattle.printing.proofs.Adding.{added-append}
 use Rattle.printing.proofs.title_line.Statement.{statement}
 use Rattle.printing.proofs.title_line.Tie as tie
 

@@ -5,8 +5,8 @@ use mathlib.Core.List.{[], _∷_, _++_, append-nil}
 use mathlib.Core.Path.{_≡_, refl}
 use native.Mathlib.Omega.{arith}
 use borrow.Author.Needs.{needs}
-use Rattle.listing.specs.Page.{digitOf}
-use Rattle.printing.specs.Put.{paged, added}
+use Rattle.line.specs.Decimal.{digitOf}
+use Rattle.line.specs.Put.{paged, added}
 use Rattle.printing.specs.Text.{cell, cellsBelow, windowRow}
 use Rattle.printing.proofs.Adding.{added-cells}
 use Rattle.printing.proofs.window_row.Statement.{statement}

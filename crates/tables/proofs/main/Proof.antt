@@ -5,8 +5,8 @@ use mathlib.Core.Path.{_≡_}
 use native.Mathlib.Omega.{arith}
 use borrow.Author.Needs.{needs}
 use Rattle.io.specs.Counts.{Counts}
+use Rattle.line.specs.Put.{paged}
 use Rattle.printing.proofs.Lines.{within}
-use Rattle.printing.specs.Put.{paged}
 use Rattle.printing.specs.Text.{lineText}
 use Rattle.tables.proofs.main.Statement.{statement}
 use Rattle.tables.proofs.main.Tie as tie

@@ -1,4 +1,4 @@
--- `printing::put_text` meets its contract. The invariant: the line with the bytes from m on is what the result is to be.
+-- `line::put_text` meets its contract. The invariant: the line with the bytes from m on is what the result is to be.
 -- Assumes nothing.
 use Prim.Native.Nat.{_≤_, _<_, _-_}
 use mathlib.Core.Path.{_≡_, refl}
@@ -7,9 +7,9 @@ use native.Mathlib.Omega.{arith}
 use lib.ListN.{length, drop}
 use lib.Seq.{drop-cons, drop-length}
 use borrow.Author.Needs.{needs}
-use Rattle.printing.specs.Put.{added}
-use Rattle.printing.proofs.put_text.Statement.{statement}
-use Rattle.printing.proofs.put_text.Tie as tie
+use Rattle.line.specs.Put.{added}
+use Rattle.line.proofs.put_text.Statement.{statement}
+use Rattle.line.proofs.put_text.Tie as tie
 
 abbrev Inv-loop : tie.InvT-loop
 Inv-loop text line₀ m₀ line m = (m ≤ length text) × (added line (drop m text) ≡ added line₀ text)

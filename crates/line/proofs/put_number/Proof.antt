@@ -1,10 +1,11 @@
--- `listing::put_number` meets its contract: one digit below 10, else two.
+-- `line::put_number` meets its contract: one digit below 10, else two.
 -- Assumes nothing.
 use borrow.Author.Needs.{needs}
 use borrow.Author.Tests.{le-ltb, lt-ltb}
-use Rattle.listing.specs.Page.{decimal}
-use Rattle.listing.proofs.put_number.Statement.{statement}
-use Rattle.listing.proofs.put_number.Tie as tie
+use Rattle.line.specs.Decimal.{decimal}
+use Rattle.line.specs.Put.{added}
+use Rattle.line.proofs.put_number.Statement.{statement}
+use Rattle.line.proofs.put_number.Tie as tie
 
 digit-requires : tie.Need-digit-requires
 digit-requires c κs = search needs
@@ -13,7 +14,7 @@ put-requires : tie.Need-put-requires
 put-requires c κs = search needs
 
 returns : tie.Need-returns
-unfolding decimal
+unfolding decimal added
 returns c = rw (c .put .ensures, c .before .digit .ensures, lt-ltb _ _ (c .before .before .if1 .taken))
 
 digit-requires-2 : tie.Need-digit-requires-2
@@ -29,7 +30,7 @@ put-requires-3 : tie.Need-put-requires-3
 put-requires-3 c κs = search needs
 
 returns-2 : tie.Need-returns-2
-unfolding decimal
+unfolding decimal added
 returns-2 c =
     rw (
       c .put3 .ensures,

@@ -1,10 +1,10 @@
--- `printing::put` meets its contract: it tests for room as `putOf` does.
+-- `line::put` meets its contract: it tests for room as `putOf` does.
 -- Assumes nothing.
 use borrow.Author.Needs.{needs}
 use borrow.Author.Tests.{le-ltb, lt-ltb}
-use Rattle.printing.specs.Put.{putOf}
-use Rattle.printing.proofs.put.Statement.{statement}
-use Rattle.printing.proofs.put.Tie as tie
+use Rattle.line.specs.Put.{putOf}
+use Rattle.line.proofs.put.Statement.{statement}
+use Rattle.line.proofs.put.Tie as tie
 
 returns : tie.Need-returns
 unfolding putOf

@@ -1,0 +1,2 @@
+pub mod Adding
+pub mod Paged

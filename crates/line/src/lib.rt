@@ -1,0 +1,67 @@
+// A text of at most 100 bytes, filled byte by byte, and numbers in decimal: what `listing` and `printing` write with.
+ghost use mathlib.Core.Path.{_≡_};
+ghost use mathlib.Core.List.{[]};
+ghost use Rattle.line.specs.Decimal.{digitOf, decimal};
+ghost use Rattle.line.specs.Put.{paged, putOf, added};
+
+// A text of at most 100 bytes, its length and its bytes; the bytes after it are 0.
+pub struct Line {
+    pub size: usize,
+    pub text: [u8; 100],
+}
+
+// A line with no text.
+pub fn empty() -> Line
+    ensures { λ r. ⌜ r ≡ paged [] ⌝ }
+{
+    Line {
+        size: 0,
+        text: [0; 100],
+    }
+}
+
+// The line with one more byte; a full line stays as it is.
+pub fn put(p: Line, b: u8) -> Line
+    ensures { λ r. ⌜ r ≡ putOf p b ⌝ }
+{
+    let size = p.size;
+    if 100 <= size {
+        return p;
+    }
+    let mut text = p.text;
+    text[size] = b;
+    Line {
+        size: size + 1,
+        text,
+    }
+}
+
+// The line with a text.
+pub fn put_text(p: Line, text: &[u8]) -> Line
+    ensures { λ r. ⌜ r ≡ added p (now (text .entry)) ⌝ }
+{
+    let mut line = p;
+    let mut m: usize = 0;
+    while m < text.len() {
+        line = put(line, text[m]);
+        m += 1;
+    }
+    line
+}
+
+// The last decimal digit of a number, in ASCII: 48 is `0`.
+pub fn digit(x: u16) -> u8
+    ensures { λ r. ⌜ r ≡ digitOf x ⌝ }
+{
+    (48 + x % 10) as u8
+}
+
+// The line with a number up to 99 in decimal; of a greater one its last two digits.
+pub fn put_number(p: Line, x: u16) -> Line
+    ensures { λ r. ⌜ r ≡ added p (decimal x) ⌝ }
+{
+    if x < 10 {
+        return put(p, digit(x));
+    }
+    put(put(p, digit(x / 10)), digit(x))
+}
