@@ -11,7 +11,7 @@ use Rattle.resource.specs.declared.Resource.{Resource}
 use Rattle.resource.specs.Calls.{resourceSized}
 use Rattle.resource.proofs.Counts.{resources-least}
 use Rattle.resource.proofs.OneToOne.{resource-range}
-use Rattle.resource.proofs.Sized.{resource-sized}
+use Rattle.resource.proofs.Sized.{resource-told}
 use Rattle.claims.specs.declared.Cell.{Cell}
 use Rattle.claims.specs.Claims.{positionIn, cceIn, claimed, resourcesOf, isResource}
 use Rattle.claims.specs.Marking.{Has, Accepted, Byte}
@@ -22,7 +22,7 @@ module _ (cell : Cell) (known : Accepted cell) (claim c : ℕ) (a : Mapped) (cce
     (asked : a ≡ resourceSized (cell .s) (cell .size) (claim / 256) c) where
   answer : claimed (cell .s) (cell .n) claim ≡ a
   answer =
-      sym (resource-sized (cell .s) (cell .n) (known .accepted) (positionIn claim) (cceIn claim))
+      sym (resource-told (cell .s) (cell .n) _ refl (positionIn claim) (cceIn claim))
       ∙ rw (← known .positions, ← cce) (sym asked)
 
   module _ (x : Resource) (r : ℕ) (at : a ≡ mapped.At x) (number : r ≡ x .0) where

@@ -69,21 +69,6 @@ pub struct FedAnswer {
     pub handset: Handset,
 }
 
-fn resource_numbers(x: Mapped) -> ResourceAnswer
-    ensures { λ r. ⌜ r ≡ resourceAnswer x ⌝ }
-{
-    match x {
-        Mapped::At(r) => ResourceAnswer {
-            refusal: 0,
-            resource: r.number(),
-        },
-        Mapped::Refused(k) => ResourceAnswer {
-            refusal: k,
-            resource: 0,
-        },
-    }
-}
-
 fn inverse_numbers(x: Inverted) -> InverseAnswer
     ensures { λ r. ⌜ r ≡ inverseAnswer x ⌝ }
 {
@@ -209,7 +194,16 @@ pub extern "C" fn feedback_resource(
 ) -> ResourceAnswer
     ensures { λ r. ⌜ r ≡ resourceAnswer (resourceOf settings n position cce) ⌝ }
 {
-    resource_numbers(resource::resource_of(settings, n, position, Cce::new(cce)))
+    match resource::resource_of(settings, n, position, Cce::new(cce)) {
+        Mapped::At(r) => ResourceAnswer {
+            refusal: 0,
+            resource: r.number(),
+        },
+        Mapped::Refused(k) => ResourceAnswer {
+            refusal: k,
+            resource: 0,
+        },
+    }
 }
 
 #[no_mangle]

@@ -1,4 +1,3 @@
-pub mod Called
 pub mod Counts
 pub mod Edges
 pub mod Layers

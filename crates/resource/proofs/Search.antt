@@ -21,12 +21,16 @@ module _ (nrb size t p low high : ℕ) where
   pub found : 0 < size → p ≤ 3 → low ≡ edge nrb p → size * low ≤ t → high ≡ edge nrb (p + 1) → t < size * high
       → Searched nrb size t (record { number = p; low = low; high = high })
   found some h el from eh to =
-      let least : edge nrb p ≤ t / size = le-div-iff-mul-le {k = size} {x = edge nrb p} {y = t} some .1 (omega (arith, mul-comm (edge nrb p) size, rw el at from)) in
-      let most : t / size < edge nrb (p + 1) = div-lt-iff-lt-mul {k = size} {x = t} {y = edge nrb (p + 1)} some .1 (omega (arith, mul-comm (edge nrb (p + 1)) size, rw eh at to)) in
+      let lo : ℕ = edge nrb p in
+      let hi : ℕ = edge nrb (p + 1) in
+      let from : size * lo ≤ t = rw el at from in
+      let to : t < size * hi = rw eh at to in
+      let least : lo ≤ t / size = le-div-iff-mul-le {k = size} {x = lo} {y = t} some .1 (omega (arith, mul-comm lo size)) in
+      let most : t / size < hi = div-lt-iff-lt-mul {k = size} {x = t} {y = hi} some .1 (omega (arith, mul-comm hi size)) in
       record {
         above = λ last. absurd (omega arith);
         held = λ _. record {
-          below = omega (arith, rw eh at to, mul-le-mul-left size (edge-top nrb p h));
+          below = omega (arith, mul-le-mul-left size (edge-top nrb p h));
           number = region-only nrb (t / size) p (record { region = h; low = least; high = most });
           low = el;
           high = eh;

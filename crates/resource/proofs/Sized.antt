@@ -1,17 +1,27 @@
--- The resource call where M is told: its refusals, and that it is the resource call of each window with that M.
+-- The calls where M is told: their refusals, and that they are the map and the inverse of a window of that size.
 -- Assumes nothing.
-use Prim.Native.Nat.{ℕ, _≤_}
-use mathlib.Core.Bool.{true}
+use Prim.Native.Nat.{ℕ, zero, suc, _≤_}
+use mathlib.Core.Bool.{true, cond}
 use mathlib.Core.Path.{_≡_, refl, sym, _∙_}
+use native.Mathlib.Omega.{arith}
+use borrow.Author.Tests.{le-ltb, ne-eqb}
 use Rattle.frame.specs.declared.Settings.{Settings}
-use Rattle.frame.specs.Settings.{outside, settingsRefusal, windowRefusal}
-use Rattle.frame.proofs.Accepted.{accepted, accepting, answered, not-outside}
+use Rattle.frame.specs.Settings.{orElse, outside, settingsRefusal, noWindowRefusal, windowRefusal}
+use Rattle.frame.proofs.Accepted.{accepted, not-outside}
 use Rattle.frame.proofs.Windows.{window-size}
 use Rattle.resource.specs.declared.Mapped.the-variants as mapped
-use Rattle.resource.specs.Calls.{resourceIn, sizeOf, resourceOf, resourceSized}
+use Rattle.resource.specs.declared.Inverted.the-variants as inverted
+use Rattle.resource.specs.Calls.{mappedAs, invertedAs, pairRefusal, rangeRefusal, resourceIn, inverseIn, sizeOf, resourceOf, resourceSized, inverseOf, inverseSized}
 use Rattle.resource.specs.Cell.{Cell}
-use Rattle.resource.proofs.Called.{mapped-first}
-use Rattle.resource.proofs.OneToOne.{resource-call}
+
+-- A refusal that is met comes before the next one.
+mapped-first : (k w next r : ℕ) → k ≡ w → (k ≡ 0 → ⊥) → mapped.Refused k ≡ mappedAs (orElse w next) r
+mapped-first k zero next r e h = absurd (h e)
+mapped-first k (suc w) next r e h = rw e
+
+inverted-first : (k w next m c : ℕ) → k ≡ w → (k ≡ 0 → ⊥) → inverted.Refused k ≡ invertedAs (orElse w next) m c
+inverted-first k zero next m c e h = absurd (h e)
+inverted-first k (suc w) next m c e h = rw e
 
 module _ (s : Settings) (size : ℕ) where
   -- 1 to 6
@@ -19,11 +29,19 @@ module _ (s : Settings) (size : ℕ) where
   unfolding resourceSized
   settings-refused k m c e h = mapped-first k (settingsRefusal s) _ _ e h
 
+  pub settings-refused-back : (k r : ℕ) → k ≡ settingsRefusal s → (k ≡ 0 → ⊥) → inverted.Refused k ≡ inverseSized s size r
+  unfolding inverseSized
+  settings-refused-back k r e h = inverted-first k (settingsRefusal s) _ _ _ e h
+
   module _ (k : ℕ) (asked : k ≡ settingsRefusal s) (none : k ≡ 0) where
     -- 7
     pub size-refused : (m c : ℕ) → outside 1 9 size ≡ true → mapped.Refused 7 ≡ resourceSized s size m c
     unfolding resourceSized
     size-refused m c out = rw (sym asked ∙ none, out)
+
+    pub size-refused-back : (r : ℕ) → outside 1 9 size ≡ true → inverted.Refused 7 ≡ inverseSized s size r
+    unfolding inverseSized
+    size-refused-back r out = rw (sym asked ∙ none, out)
 
     module _ (least : 1 ≤ size) (most : size ≤ 9) where
       pub sized-cell : Cell (s .nrb) (s .n1) size
@@ -35,9 +53,36 @@ module _ (s : Settings) (size : ℕ) where
       unfolding resourceSized resourceIn
       sized-answered m c = rw (sym asked ∙ none, not-outside 1 9 size least most)
 
--- Where 1 to 7 are not met, the call with M told is the resource call.
-pub resource-sized : (s : Settings) (n : ℕ) → windowRefusal s n ≡ 0 → (m c : ℕ) → resourceSized s (sizeOf s n) m c ≡ resourceOf s n m c
-resource-sized s n e m c =
-    let a = answered s n e in
-    sym (sized-answered s (sizeOf s n) 0 (sym (accepting s (a .0))) refl (a .1) (window-size (s .config) n) m c)
-    ∙ sym (resource-call s n e m c)
+      pub sized-answered-back : (r : ℕ) → inverseIn (s .nrb) (s .n1) size r ≡ inverseSized s size r
+      unfolding inverseSized inverseIn
+      sized-answered-back r = rw (sym asked ∙ none, not-outside 1 9 size least most)
+
+in-turn : (a b c : ℕ) → orElse a (orElse b c) ≡ orElse (orElse a b) c
+in-turn zero b c = refl
+in-turn (suc a) b c = refl
+
+-- A size up to 9 is one of a window where it is not 0.
+size-asked : (size : ℕ) → size ≤ 9 → cond (outside 1 9 size) 7 0 ≡ noWindowRefusal size
+unfolding noWindowRefusal
+size-asked zero h = refl
+size-asked (suc k) h = rw (le-ltb (suc k) 1 (omega arith), le-ltb 9 (suc k) h, ne-eqb (suc k) 0 (λ e. omega arith))
+
+-- The calls with M told, at the M of a window, are the two calls.
+module _ (s : Settings) (n size : ℕ) (read : size ≡ sizeOf s n) where
+  pub resource-told : (m c : ℕ) → resourceSized s size m c ≡ resourceOf s n m c
+  unfolding resourceSized resourceOf windowRefusal
+  resource-told m c =
+      rw (
+        read,
+        size-asked (sizeOf s n) (window-size (s .config) n),
+        in-turn (settingsRefusal s) (noWindowRefusal (sizeOf s n)) (pairRefusal (s .nrb) (sizeOf s n) m c),
+      )
+
+  pub inverse-told : (r : ℕ) → inverseSized s size r ≡ inverseOf s n r
+  unfolding inverseSized inverseOf windowRefusal
+  inverse-told r =
+      rw (
+        read,
+        size-asked (sizeOf s n) (window-size (s .config) n),
+        in-turn (settingsRefusal s) (noWindowRefusal (sizeOf s n)) (rangeRefusal (s .nrb) (s .n1) (sizeOf s n) r),
+      )

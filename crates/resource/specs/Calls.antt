@@ -64,3 +64,9 @@ unfoldable pub inverseOf : Settings → ℕ → ℕ → Inverted
 inverseOf s n r =
     invertedAs (orElse (windowRefusal s n) (rangeRefusal (s .nrb) (s .n1) (sizeOf s n) r))
     (positionBack (s .nrb) (sizeOf s n) (r - s .n1)) (cceBack (s .nrb) (sizeOf s n) (r - s .n1))
+
+-- The inverse where M is told.
+unfoldable pub inverseSized : Settings → ℕ → ℕ → Inverted
+inverseSized s size r =
+    invertedAs (orElse (settingsRefusal s) (orElse (cond (outside 1 9 size) 7 0) (rangeRefusal (s .nrb) (s .n1) size r)))
+    (positionBack (s .nrb) size (r - s .n1)) (cceBack (s .nrb) size (r - s .n1))

@@ -4,7 +4,7 @@ ghost use mathlib.Core.Path.{_≡_};
 ghost use Prim.Native.Nat.{_≤_};
 ghost use lib.Dec.{ltb};
 ghost use Rattle.resource.specs.Formula.{edge};
-ghost use Rattle.resource.specs.Calls.{ccesOf, resourceIn, inverseIn, resourceOf, resourceSized, inverseOf};
+ghost use Rattle.resource.specs.Calls.{ccesOf, resourceIn, inverseIn, resourceOf, resourceSized, inverseOf, inverseSized};
 ghost use Rattle.resource.specs.Cell.{Cell};
 ghost use Rattle.resource.specs.Search.{Searched};
 
@@ -61,15 +61,10 @@ pub enum Inverted {
 pub fn resource_of(s: Settings, n: u16, m: u16, c: Cce) -> Mapped
     ensures { λ r. ⌜ r ≡ resourceOf s n m (c .0) ⌝ }
 {
-    let refusal = frame::window_refusal(s, n);
-    if refusal != 0 {
-        return Mapped::Refused(refusal);
-    }
-    let size = frame::size_of(s.config, n);
-    resource_in(s, size, m, c)
+    resource_sized(s, frame::size_of(s.config, n), m, c)
 }
 
-// The same where the window's size M is told, for a caller that asks for many grants of one window; 7 where M is not 1 to 9.
+// The same where the window's size M is told, for a caller that has looked it up; 7 where M is not 1 to 9.
 pub fn resource_sized(s: Settings, size: u16, m: u16, c: Cce) -> Mapped
     ensures { λ r. ⌜ r ≡ resourceSized s size m (c .0) ⌝ }
 {
@@ -90,11 +85,23 @@ pub fn resource_sized(s: Settings, size: u16, m: u16, c: Cce) -> Mapped
 pub fn inverse_of(s: Settings, n: u16, r: Resource) -> Inverted
     ensures { λ p. ⌜ p ≡ inverseOf s n (r .0) ⌝ }
 {
-    let refusal = frame::window_refusal(s, n);
+    inverse_sized(s, frame::size_of(s.config, n), r)
+}
+
+// The same where the window's size M is told; 7 where M is not 1 to 9.
+pub fn inverse_sized(s: Settings, size: u16, r: Resource) -> Inverted
+    ensures { λ p. ⌜ p ≡ inverseSized s size (r .0) ⌝ }
+{
+    let refusal = frame::settings_refusal(s);
     if refusal != 0 {
         return Inverted::Refused(refusal);
     }
-    let size = frame::size_of(s.config, n);
+    if size < 1 {
+        return Inverted::Refused(7);
+    }
+    if 9 < size {
+        return Inverted::Refused(7);
+    }
     inverse_in(s, size, r)
 }
 
@@ -130,6 +137,7 @@ struct Region {
 }
 
 // The region of t / size: the search ends with the first region whose upper edge lies above it, that is with t < size × N_(p+1).
+// Before each turn `high` is N_p; N_0 is 0.
 fn region_of(nrb: u16, size: u16, t: u16) -> Region
     requires { ⌜ (nrb ≤ 110) × (1 ≤ size) × (size ≤ 9) ⌝ }
     ensures { λ r. ⌜ Searched nrb size t r ⌝ }

@@ -50,11 +50,9 @@ fn read_at(s: Settings, size: u16, m: u16, c: Cce, b0: u16, b1: u16) -> Reading
 pub fn read(s: Settings, n: u16, r: Resource, b0: u16, b1: u16) -> Reading
     ensures { λ x. ⌜ x ≡ readOf s n (r .0) b0 b1 ⌝ }
 {
-    match resource::inverse_of(s, n, r) {
+    let size = frame::size_of(s.config, n);
+    match resource::inverse_sized(s, size, r) {
         Inverted::Refused(k) => Reading::Refused(k),
-        Inverted::At(m, c) => {
-            let size = frame::size_of(s.config, n);
-            read_at(s, size, m, c, b0, b1)
-        }
+        Inverted::At(m, c) => read_at(s, size, m, c, b0, b1),
     }
 }

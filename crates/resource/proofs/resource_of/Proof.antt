@@ -1,28 +1,18 @@
--- `resource::resource_of` meets its contract: 1 to 7 first, then the window's own answer. Assumes nothing.
+-- `resource::resource_of` meets its contract: it is the call with M told, at the M of the window. Assumes nothing.
 use mathlib.Core.Path.{_∙_}
 use borrow.Author.Needs.{needs}
-use Rattle.resource.proofs.Called.{resource-refused, cell, resource-answered}
+use Rattle.resource.proofs.Sized.{resource-told}
 use Rattle.resource.proofs.resource_of.Statement.{statement}
 use Rattle.resource.proofs.resource_of.Tie as tie
-
-window-refusal-requires : tie.Need-window-refusal-requires
-window-refusal-requires c κs = search needs
-
-returns : tie.Need-returns
-returns c = resource-refused _ _ _ _ _ (c .before .window-refusal .ensures) (c .if1 .taken)
 
 size-of-requires : tie.Need-size-of-requires
 size-of-requires c κs = search needs
 
-resource-in-requires : tie.Need-resource-in-requires
-resource-in-requires c κs =
-    cell _ _ _ (c .before .before .window-refusal .ensures) (c .before .if1 .left) _ (c .size-of .ensures)
+resource-sized-requires : tie.Need-resource-sized-requires
+resource-sized-requires c κs = search needs
 
-returns-2 : tie.Need-returns-2
-returns-2 c =
-    c .resource-in .ensures
-    ∙ resource-answered _ _ _ (c .before .before .before .window-refusal .ensures) (c .before .before .if1 .left) _
-    (c .before .size-of .ensures) _ _
+returns : tie.Need-returns
+returns c = c .resource-sized .ensures ∙ resource-told _ _ _ (c .before .size-of .ensures) _ _
 
 pub resource-of-spec : {M : Type 1} → statement M
-resource-of-spec = tie.close (tie.spec window-refusal-requires returns size-of-requires resource-in-requires returns-2)
+resource-of-spec = tie.close (tie.spec size-of-requires resource-sized-requires returns)
