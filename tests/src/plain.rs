@@ -74,7 +74,11 @@ fn resource(settings: &Settings, n: u16, position: u16, cce: u16) -> Result<u16,
 
 fn inverse(settings: &Settings, n: u16, resource: u16) -> Result<(u16, u16), u16> {
     check(settings)?;
-    let size = window_size(settings.config, n)?;
+    pair(settings, window_size(settings.config, n)?, resource)
+}
+
+/// The position and first CCE of a resource in a window of `size` subframes.
+fn pair(settings: &Settings, size: u16, resource: u16) -> Result<(u16, u16), u16> {
     let place = resource.checked_sub(settings.n1).ok_or(13u16)?;
     let (lower, upper) = region(settings.nrb, size, place).ok_or(13u16)?;
     let within = place - size * lower;

@@ -89,20 +89,25 @@ impl Random {
             config: self.unless_once_in(times, config),
             nrb: self.unless_once_in(times, nrb),
             n1: self.unless_once_in(times, n1),
-            mode: self.unless_once_in(times, mode),
+            mode: if self.once_in(8) { self.below16(2) } else { self.unless_once_in(times, mode) },
             blocks: self.unless_once_in(times, blocks),
         }
     }
 
     /// A window of a configuration.
     pub fn window<'a>(&mut self, model: &'a Model, config: u16) -> &'a Window {
-        let windows: Vec<_> = model.windows().iter().filter(|w| w.config == config).collect();
-        windows[self.below(windows.len())]
+        let of_config = |window: &&Window| window.config == config;
+        let number = model.windows().iter().filter(of_config).count();
+        let at = self.below(number);
+        model.windows().iter().filter(of_config).nth(at).expect("a window")
     }
 
-    /// Mostly a subframe in which some configuration has a window, else any number.
-    pub fn wild_n(&mut self) -> u16 {
-        let n = self.one_of(&[2, 2, 2, 3, 4, 7, 8, 9]);
+    /// Mostly a subframe in which the configuration has a window, else any number.
+    pub fn wild_n(&mut self, model: &Model, config: u16) -> u16 {
+        let n = match config {
+            0..=6 => self.window(model, config).n,
+            _ => 2,
+        };
         self.unless_once_in(16, n)
     }
 

@@ -1,7 +1,10 @@
 //! The cases that the papers print, as numbers, through the C calls. The model
 //! has no part here.
 
-use feedback_tests::{inverse, resource, InverseAnswer, ResourceAnswer, Settings};
+use feedback_tests::{
+    claims, feed, inverse, make, reading, resource, ClaimsAnswer, Fed, Grant, InverseAnswer,
+    ReadingAnswer, ResourceAnswer, Settings,
+};
 
 /// Configuration 1, N_RB 50, N1 10; its window of n = 2 has M = 2.
 const CELL: Settings = Settings { config: 1, nrb: 50, n1: 10, mode: 0, blocks: 1 };
@@ -92,4 +95,120 @@ fn mode_and_blocks_do_not_move_a_resource() {
         assert_eq!(resource(settings, 2, 0, 11), ResourceAnswer::of(32));
         assert_eq!(inverse(settings, 2, 32), InverseAnswer::of(0, 11));
     }
+}
+
+/// A one-block grant.
+fn grant(cce: u16, dai: u16, decoded: bool) -> Grant {
+    Grant { blocks: 1, first: decoded.into(), second: 0, cce, dai }
+}
+
+/// The answer in subframe `last` of a run from a fresh handset, with what is
+/// heard on the way: kind, resource and bits.
+fn answer(settings: Settings, heard: &[(u16, Grant)], last: u16) -> (u16, u16, (u16, u16)) {
+    let mut handset = make(settings).handset;
+    for s in 0.. {
+        let here = heard.iter().find(|(at, _)| *at == s);
+        let fed = feed(handset, here.map(|(_, grant)| *grant));
+        assert_eq!(fed.refusal, 0, "{settings:?}, s {s}");
+        if s == last {
+            return (fed.kind, fed.resource, (fed.b0, fed.b1));
+        }
+        handset = fed.handset;
+    }
+    unreachable!("the last subframe is answered")
+}
+
+const SILENT: (u16, u16, (u16, u16)) = (Fed::SILENT, 0, (0, 0));
+
+/// Configuration 2, n = 7, mode 0: DAI 1 heard in 9 and DAI 3 in 3 is silent.
+/// With DAI 2 there it is answered, on the resource of subframe 3 (m = 2, c 5).
+#[test]
+fn a_miss_is_silent() {
+    let settings = Settings { config: 2, ..CELL };
+    let heard = |dai| [(9, grant(0, 1, true)), (13, grant(5, dai, true))];
+    assert_eq!(answer(settings, &heard(3), 17), SILENT);
+    assert_eq!(answer(settings, &heard(2), 17), (Fed::BUNDLED, 37, (1, 0)));
+    assert_eq!(reading(settings, 7, 37, 1, 0), ReadingAnswer::bundled(2, 5, 1, 0));
+}
+
+/// In 8,7,4,6 the latest subframe is m = 2, not the last position.
+#[test]
+fn the_last_position_is_not_the_latest() {
+    let settings = Settings { config: 2, blocks: 2, ..CELL };
+    let heard = [(11, grant(20, 1, true)), (13, grant(5, 2, false))];
+    assert_eq!(answer(settings, &heard, 17), (Fed::BUNDLED, 37, (0, 0)));
+    let heard = [(11, grant(20, 2, true)), (13, grant(5, 1, true))];
+    assert_eq!(answer(settings, &heard, 17), SILENT);
+}
+
+/// Configuration 0 does not read the DAI; configuration 6 does, in both modes.
+#[test]
+fn windows_of_one() {
+    for mode in [0, 1] {
+        for (config, sent, uplink) in [(0, 6, 12), (6, 5, 12)] {
+            let settings = Settings { config, mode, ..CELL };
+            let heard = |dai| [(sent, grant(5, dai, true))];
+            let reply = (Fed::BUNDLED, 15, (1, 0));
+            assert_eq!(answer(settings, &heard(1), uplink), reply);
+            let other = if config == 0 { reply } else { SILENT };
+            assert_eq!(answer(settings, &heard(2), uplink), other, "configuration {config}");
+        }
+    }
+}
+
+/// D is not N: D,D is silent and D,N is not; N,D has another symbol than N,N.
+#[test]
+fn unheard_is_not_undecoded() {
+    let settings = Settings { mode: 1, ..CELL };
+    // The window of s = 12 is 5 and 6.
+    let first = (5, grant(0, 1, false));
+    let second = (6, grant(10, 2, false));
+    assert_eq!(answer(settings, &[], 12), SILENT);
+    assert_eq!(answer(settings, &[second], 12), (Fed::MULTIPLEXED, 31, (1, 0)));
+    assert_eq!(answer(settings, &[first], 12), (Fed::MULTIPLEXED, 10, (1, 0)));
+    assert_eq!(answer(settings, &[first, second], 12), (Fed::MULTIPLEXED, 31, (1, 0)));
+    assert_eq!(reading(settings, 2, 31, 1, 0), ReadingAnswer::multiplexed(1, 10, 0));
+}
+
+/// AAA-, AA-A and AA-- share a symbol, so only the first two are delivered.
+#[test]
+fn rows_that_share_a_symbol() {
+    let settings = Settings { config: 2, mode: 1, ..CELL };
+    // The window of s = 17 is 9, 10, 13 and 11.
+    let (first, second) = ((9, grant(0, 1, true)), (10, grant(5, 2, true)));
+    let (third, fourth) = ((13, grant(3, 4, true)), (11, grant(60, 3, true)));
+    let shared = (Fed::MULTIPLEXED, 10 + 11 + 5, (1, 0));
+    assert_eq!(answer(settings, &[first, second], 17), shared);
+    assert_eq!(answer(settings, &[first, second, third], 17), shared);
+    assert_eq!(answer(settings, &[first, second, fourth], 17), shared);
+    assert_eq!(reading(settings, 7, shared.1, 1, 0), ReadingAnswer::multiplexed(1, 5, 0b0011));
+    let all = (Fed::MULTIPLEXED, shared.1, (1, 1));
+    assert_eq!(answer(settings, &[first, second, third, fourth], 17), all);
+    assert_eq!(reading(settings, 7, shared.1, 1, 1), ReadingAnswer::multiplexed(1, 5, 0b1111));
+}
+
+/// Claims of configuration 1, whose resources are printed: 10, 20, 21, 31, 32, 131.
+#[test]
+fn claims_of_configuration_1() {
+    let list = [0, 10, 256, 266, 11, 316];
+    let marked = |scratch: &[u8]| -> Vec<usize> {
+        assert!(scratch[..122].iter().all(|byte| *byte < 2) && scratch[122..] == [9; 3]);
+        (0..122).filter(|at| scratch[*at] == 1).collect()
+    };
+    let mut scratch = [9; 125];
+    assert_eq!(claims(CELL, 2, &list, &mut scratch), ClaimsAnswer::CLEAN);
+    assert_eq!(marked(&scratch), [0, 10, 11, 21, 22, 121]);
+
+    let clash = [316, 10, 256, 10, 0, 316];
+    assert_eq!(claims(CELL, 2, &clash, &mut scratch), ClaimsAnswer::clash(3));
+    assert_eq!(marked(&scratch), [10, 11, 121]);
+
+    assert_eq!(claims(CELL, 2, &[], &mut scratch), ClaimsAnswer::CLEAN);
+    assert_eq!(marked(&scratch), []);
+
+    let bad = [316, 10, 256, 10, 0, 317];
+    let mut dirty = [9; 125];
+    assert_eq!(claims(CELL, 2, &bad, &mut dirty), ClaimsAnswer::refused(16, 5));
+    assert_eq!(claims(CELL, 2, &list, &mut dirty[..121]), ClaimsAnswer::refused(15, 0));
+    assert_eq!(dirty, [9; 125]);
 }

@@ -287,9 +287,12 @@ fn overlapping_list_and_scratch() {
             all[list_at + 2 * at..][..2].copy_from_slice(&claim.to_ne_bytes());
         }
         let before = all.to_vec();
-        let (list, scratch) = (all[list_at..].as_ptr(), all[scratch_at..].as_mut_ptr());
+        let start = all.as_mut_ptr();
         // SAFETY: both lie within the memory, which nothing else uses meanwhile.
-        unsafe { feedback_claims(settings, window.n, list.cast(), count, scratch, room) };
+        unsafe {
+            let (list, scratch) = (start.add(list_at).cast(), start.add(scratch_at));
+            feedback_claims(settings, window.n, list, count, scratch, room);
+        }
 
         let all = memory.all();
         let may_change = scratch_at..scratch_at + need;

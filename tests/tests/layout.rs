@@ -1,6 +1,9 @@
 //! The structs of the C calls, byte by byte, and how they are passed.
 
-use feedback_tests::{InverseAnswer, ResourceAnswer, Settings};
+use feedback_tests::{
+    feed, ClaimsAnswer, Fed, Grant, Handset, InverseAnswer, Made, ReadingAnswer, ResourceAnswer,
+    Settings, Slot,
+};
 use std::mem::{align_of, offset_of, size_of};
 
 #[test]
@@ -28,12 +31,85 @@ fn an_inverse_answer_is_three_16_bit_numbers() {
     assert_eq!(offset_of!(InverseAnswer, cce), 4);
 }
 
+#[test]
+fn a_reading_answer_is_seven_16_bit_numbers() {
+    assert_eq!((size_of::<ReadingAnswer>(), align_of::<ReadingAnswer>()), (14, 2));
+    assert_eq!(offset_of!(ReadingAnswer, refusal), 0);
+    assert_eq!(offset_of!(ReadingAnswer, kind), 2);
+    assert_eq!(offset_of!(ReadingAnswer, position), 4);
+    assert_eq!(offset_of!(ReadingAnswer, cce), 6);
+    assert_eq!(offset_of!(ReadingAnswer, b0), 8);
+    assert_eq!(offset_of!(ReadingAnswer, b1), 10);
+    assert_eq!(offset_of!(ReadingAnswer, delivered), 12);
+}
+
+#[test]
+fn a_claims_answer_is_two_16_bit_numbers_and_one_of_64() {
+    assert_eq!((size_of::<ClaimsAnswer>(), align_of::<ClaimsAnswer>()), (16, 8));
+    assert_eq!(offset_of!(ClaimsAnswer, kind), 0);
+    assert_eq!(offset_of!(ClaimsAnswer, refusal), 2);
+    assert_eq!(offset_of!(ClaimsAnswer, index), 8);
+}
+
+#[test]
+fn a_slot_is_four_bytes() {
+    assert_eq!((size_of::<Slot>(), align_of::<Slot>()), (4, 1));
+    assert_eq!(offset_of!(Slot, kind), 0);
+    assert_eq!(offset_of!(Slot, cce), 1);
+    assert_eq!(offset_of!(Slot, dai), 2);
+    assert_eq!(offset_of!(Slot, results), 3);
+}
+
+#[test]
+fn a_handset_is_64_bytes() {
+    assert_eq!((size_of::<Handset>(), align_of::<Handset>()), (64, 2));
+    assert_eq!(offset_of!(Handset, settings), 0);
+    assert_eq!(offset_of!(Handset, next), 10);
+    assert_eq!(offset_of!(Handset, past), 12);
+}
+
+#[test]
+fn answers_with_a_handset_have_it_last() {
+    assert_eq!((size_of::<Made>(), align_of::<Made>()), (66, 2));
+    assert_eq!(offset_of!(Made, refusal), 0);
+    assert_eq!(offset_of!(Made, handset), 2);
+
+    assert_eq!((size_of::<Fed>(), align_of::<Fed>()), (74, 2));
+    assert_eq!(offset_of!(Fed, refusal), 0);
+    assert_eq!(offset_of!(Fed, kind), 2);
+    assert_eq!(offset_of!(Fed, resource), 4);
+    assert_eq!(offset_of!(Fed, b0), 6);
+    assert_eq!(offset_of!(Fed, b1), 8);
+    assert_eq!(offset_of!(Fed, handset), 10);
+}
+
+/// Every byte of a handset that is not refused comes back where it was, each
+/// slot one later: each has a value of its own here.
+#[test]
+fn every_byte_of_a_handset_comes_back() {
+    let settings = Settings { config: 5, nrb: 110, n1: 2047, mode: 0, blocks: 2 };
+    let mut handset = Handset { next: 3, ..Handset::fresh(settings) };
+    for (at, slot) in handset.past.iter_mut().enumerate() {
+        // Subframe 2, the only uplink one, is 1 and 11 before; a slot of nothing
+        // may hold anything.
+        let kind = u8::from(at != 0 && at != 10);
+        let at = at as u8;
+        *slot = Slot { kind, cce: 100 + at, dai: 1 + at % 4, results: 16 * at + at % 8 };
+    }
+    let fed = feed(handset, Some(Grant { blocks: 1, first: 0, second: 9, cce: 90, dai: 4 }));
+    let mut after = handset;
+    after.next = 4;
+    after.past.rotate_right(1);
+    after.past[0] = Slot { kind: 1, cce: 90, dai: 4, results: 2 };
+    assert_eq!(fed, Fed::answer(Fed::TAKEN, after));
+}
+
 /// Settings take ten bytes of the sixteen in two registers. A C caller may leave
 /// anything in the other six, and here it does.
 #[cfg(all(target_arch = "x86_64", unix))]
 #[test]
 fn what_lies_beyond_the_settings_is_not_read() {
-    use feedback_tests::{c, inverse, resource};
+    use feedback_tests::{c, claims, inverse, make, reading, resource};
     use std::mem::transmute;
 
     #[repr(C)]
@@ -42,29 +118,51 @@ fn what_lies_beyond_the_settings_is_not_read() {
         settings: Settings,
         beyond: [u16; 3],
     }
-    type Resource = unsafe extern "C" fn(Settings, u16, u16, u16) -> ResourceAnswer;
-    type Inverse = unsafe extern "C" fn(Settings, u16, u16) -> InverseAnswer;
-    type WideResource = unsafe extern "C" fn(TwoRegisters, u16, u16, u16) -> ResourceAnswer;
-    type WideInverse = unsafe extern "C" fn(TwoRegisters, u16, u16) -> InverseAnswer;
+    type Resource<S> = unsafe extern "C" fn(S, u16, u16, u16) -> ResourceAnswer;
+    type Inverse<S> = unsafe extern "C" fn(S, u16, u16) -> InverseAnswer;
+    type Reading<S> = unsafe extern "C" fn(S, u16, u16, u16, u16) -> ReadingAnswer;
+    type Claims<S> =
+        unsafe extern "C" fn(S, u16, *const u16, usize, *mut u8, usize) -> ClaimsAnswer;
+    type Make<S> = unsafe extern "C" fn(S) -> Made;
 
+    // SAFETY: on this platform both kinds of struct are passed in the same two
+    // registers.
+    let (wide_resource, wide_inverse, wide_reading, wide_claims, wide_make) = unsafe {
+        (
+            transmute::<Resource<Settings>, Resource<TwoRegisters>>(c::feedback_resource),
+            transmute::<Inverse<Settings>, Inverse<TwoRegisters>>(c::feedback_inverse),
+            transmute::<Reading<Settings>, Reading<TwoRegisters>>(c::feedback_reading),
+            transmute::<Claims<Settings>, Claims<TwoRegisters>>(c::feedback_claims),
+            transmute::<Make<Settings>, Make<TwoRegisters>>(c::feedback_make),
+        )
+    };
     let mut compared = 0;
     for blocks in 0..=3 {
         let settings = Settings { config: 1, nrb: 50, n1: 10, mode: 0, blocks };
         for beyond in [[0; 3], [1; 3], [65535; 3], [2, 0, 0], [0, 0, 32768]] {
             let wide = TwoRegisters { settings, beyond };
-            // SAFETY: on this platform both kinds of struct are passed in the
-            // same two registers, and the calls are lent no memory.
-            let (there, back) = unsafe {
-                let wide_resource: WideResource =
-                    transmute::<Resource, WideResource>(c::feedback_resource);
-                let wide_inverse: WideInverse =
-                    transmute::<Inverse, WideInverse>(c::feedback_inverse);
-                (wide_resource(wide, 2, 0, 11), wide_inverse(wide, 2, 32))
+            let (list, mut scratch, mut wide_scratch) = ([256, 0, 256], [7; 130], [7; 130]);
+            let (marks, room) = (wide_scratch.as_mut_ptr(), wide_scratch.len());
+            // SAFETY: list and scratch are lent with their lengths, and apart from
+            // them the calls are lent no memory.
+            let (there, back, read, judged, made) = unsafe {
+                (
+                    wide_resource(wide, 2, 0, 11),
+                    wide_inverse(wide, 2, 32),
+                    wide_reading(wide, 2, 32, 1, 0),
+                    wide_claims(wide, 2, list.as_ptr(), list.len(), marks, room),
+                    wide_make(wide),
+                )
             };
-            assert_eq!(there, resource(settings, 2, 0, 11), "blocks {blocks}, {beyond:?}");
-            assert_eq!(back, inverse(settings, 2, 32), "blocks {blocks}, {beyond:?}");
-            compared += 2;
+            let context = format!("blocks {blocks}, {beyond:?}");
+            assert_eq!(there, resource(settings, 2, 0, 11), "{context}");
+            assert_eq!(back, inverse(settings, 2, 32), "{context}");
+            assert_eq!(read, reading(settings, 2, 32, 1, 0), "{context}");
+            assert_eq!(judged, claims(settings, 2, &list, &mut scratch), "{context}");
+            assert_eq!(wide_scratch, scratch, "{context}");
+            assert_eq!(made, make(settings), "{context}");
+            compared += 5;
         }
     }
-    assert_eq!(compared, 4 * 5 * 2);
+    assert_eq!(compared, 4 * 5 * 5);
 }

@@ -1,12 +1,13 @@
 //! However the losses fall, the station hears the truth: runs of a handset in
 //! which every window meets every pattern of grants not sent, lost and heard.
 //! Each reply is read, and the reading is held to what was sent, heard and
-//! decoded, in the words of the demand. The model gives the windows, the symbol
+//! decoded, in the words of the papers. The model gives the windows, the symbol
 //! of a state and the positions that are A in every state with one symbol.
 
 use feedback_tests::model::{bundles, edge, frame, Model, Window};
 use feedback_tests::random::Random;
 use feedback_tests::{feed, make, reading, resource, Fed, Grant, Handset, ReadingAnswer, Settings};
+use std::cmp::Reverse;
 
 /// N_RB and N1 of the cells.
 const CELLS: [(u16, u16); 3] = [(6, 0), (50, 10), (110, 2047)];
@@ -134,20 +135,25 @@ impl<'a> Run<'a> {
         let digits: Vec<u64> = (0..u32::from(size)).map(digit).collect();
         match self.patterns {
             Patterns::Whole => digits,
-            Patterns::Thirds { .. } => {
-                digits.into_iter().map(|digit| self.any_fate(digit)).collect()
-            }
+            Patterns::Thirds { .. } => self.with_any_results(digits),
         }
     }
 
-    /// Nothing, lost, or heard in any way.
-    fn any_fate(&mut self, third: u64) -> u64 {
+    /// Nothing, lost, or heard in any way. Every other time all is decoded but at
+    /// one position, or else hardly any reply would say ACK.
+    fn with_any_results(&mut self, mut thirds: Vec<u64>) -> Vec<u64> {
         let heard = (fates(self.settings.blocks) - 2) as usize;
-        if third < 2 {
-            third
-        } else {
-            2 + self.random.below(heard) as u64
+        let size = thirds.len();
+        let any_at = self.random.below(2 * size);
+        for (position, fate) in thirds.iter_mut().enumerate().filter(|(_, third)| **third == 2) {
+            let results = self.random.below(heard);
+            let all_decoded = any_at < size && position != any_at;
+            *fate = 2 + results as u64;
+            if all_decoded {
+                *fate |= if *fate < 4 { 1 } else { 3 };
+            }
         }
+        thirds
     }
 
     /// Sends the grants of the window of a frame, in time order: the j-th of them
@@ -156,7 +162,7 @@ impl<'a> Run<'a> {
     fn send(&mut self, window: &Window, frame_start: usize, fates: &[u64]) {
         let mut in_time_order: Vec<(u16, u64)> =
             window.k.iter().copied().zip(fates.iter().copied()).collect();
-        in_time_order.sort_by_key(|(k, _)| std::cmp::Reverse(*k));
+        in_time_order.sort_by_key(|(k, _)| Reverse(*k));
         let mut j = 0;
         for (k, fate) in in_time_order {
             let uplink = frame_start + usize::from(window.n);
@@ -262,7 +268,7 @@ impl<'a> Run<'a> {
         }
     }
 
-    /// What the demand says of a bundled window, and is not so.
+    /// What the papers say of a bundled window and is not so here.
     fn bundled(
         &self,
         window: &Window,
@@ -277,7 +283,7 @@ impl<'a> Run<'a> {
                 grants.push((position, *k, *sent));
             }
         }
-        grants.sort_by_key(|(_, k, _)| std::cmp::Reverse(*k));
+        grants.sort_by_key(|(_, k, _)| Reverse(*k));
         let last = grants.iter().rposition(|(_, _, sent)| sent.heard().is_some());
         let lost_before_last = last.map(|last| {
             let before = grants[..last].iter();
@@ -312,7 +318,7 @@ impl<'a> Run<'a> {
         (blocks == 1 && fed.b1 != 0).then_some("a second bit in a one-bit reply")
     }
 
-    /// What the demand says of a multiplexed window, and is not so.
+    /// What the papers say of a multiplexed window and is not so here.
     fn multiplexed(
         &self,
         window: &Window,
@@ -412,10 +418,10 @@ fn every_pattern_of_one_block_in_configuration_5() {
     assert_eq!(checked, (2 + 262_144) * 3);
 }
 
-/// Configuration 5, two blocks: 3^9 patterns of nothing, lost and heard, five
+/// Configuration 5, two blocks: 3^9 patterns of nothing, lost and heard, ten
 /// times over, with other results each time.
 #[test]
 fn every_pattern_of_two_blocks_in_configuration_5() {
-    let checked = hold(&[5], 2, Patterns::Thirds { times: 5 });
-    assert_eq!(checked, (2 + 5 * 19_683) * 3);
+    let checked = hold(&[5], 2, Patterns::Thirds { times: 10 });
+    assert_eq!(checked, (2 + 10 * 19_683) * 3);
 }

@@ -272,13 +272,12 @@ fn claims_with_all_arguments_special() {
     let model = Model::new();
     let mut comparison = Comparison::with(&model);
     let mut lent = Lent::new(3);
-    // One number beyond each limit and one within it.
-    let call = [&CONFIG[3..5], &NRB[4..6], &N1[2..4], &MODE[1..3], &BLOCKS[2..4]];
-    let [config, nrb, n1, mode, blocks] = call;
-    let call = [config, nrb, n1, mode, blocks, &N[1..6], &CLAIM[4..7], ROOM];
+    let settings: [&[u16]; 5] = [&[1, 5, 7], &[50, 111], &[10, 2048], &[0, 1, 2], &[2, 3]];
+    let [config, nrb, n1, mode, blocks] = settings;
+    let call = [config, nrb, n1, mode, blocks, &[2, 3, 10], &[6, 256, 65535], ROOM];
     all_together(call, |arguments| compare_claims(&mut comparison, &mut lent, arguments));
-    let compared = 32 * 5 * 3 * 8 * 2;
-    comparison.finish_with(compared, &[1, 2, 3, 4, 5, 6], &[2]);
+    let compared = 3 * 2 * 2 * 3 * 2 * 3 * 3 * 8 * 2;
+    comparison.finish_with(compared, &[0, 1, 2, 3, 4, 5, 6, 7, 15, 16], &[1, 2]);
 }
 
 #[test]

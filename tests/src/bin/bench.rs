@@ -1,14 +1,22 @@
 //! Measures the engine's C calls beside the plain implementation, on the same
 //! inputs and in one run: `cargo run --release --offline --locked --bin bench`.
+//! What it prints is a page of Markdown.
 //!
 //! Batches of the two alternate, so that both meet the same disturbances, and
 //! the median batch counts. Nothing here is a test: the figures depend on the
 //! machine, and no figure fails.
 
-use feedback_tests::c::{feedback_inverse, feedback_resource};
-use feedback_tests::model::{edge, Model, NRB};
-use feedback_tests::plain::{plain_inverse, plain_resource};
-use feedback_tests::Settings;
+use feedback_tests::c::{
+    feedback_claims, feedback_feed_grant, feedback_feed_nothing, feedback_inverse, feedback_make,
+    feedback_reading, feedback_resource,
+};
+use feedback_tests::model::{bundles, edge, is_uplink, Model, Window};
+use feedback_tests::plain::{
+    plain_claims, plain_feed_grant, plain_feed_nothing, plain_inverse, plain_make, plain_reading,
+    plain_resource,
+};
+use feedback_tests::random::Random;
+use feedback_tests::{ClaimsAnswer, Fed, Grant, Handset, Settings};
 use std::hint::black_box;
 use std::time::Instant;
 
@@ -16,91 +24,249 @@ use std::time::Instant;
 const INPUTS: usize = 8192;
 
 /// The batches of each implementation; odd, so that one is the median.
-const BATCHES: usize = 2001;
+const BATCHES: usize = 1001;
 
-/// One allowed input of both calls: the resource is that of the pair.
+/// The runs of feeds.
+const RUNS: usize = 200;
+
+/// One allowed input of the calls on numbers: the resource is that of the pair,
+/// and the bits are a reply that is read.
 struct Input {
     settings: Settings,
     n: u16,
     position: u16,
     cce: u16,
     resource: u16,
+    bits: (u16, u16),
 }
 
-/// Pseudo-random numbers (xorshift) from a fixed seed, the same in every run.
-struct Random(u64);
+/// One feed of a run, on the handset that the feeds before it left.
+#[derive(Clone, Copy)]
+struct Feed {
+    handset: Handset,
+    heard: Option<Grant>,
+}
 
-impl Random {
-    fn below(&mut self, end: u16) -> u16 {
-        self.0 ^= self.0 << 13;
-        self.0 ^= self.0 >> 7;
-        self.0 ^= self.0 << 17;
-        ((self.0 >> 32) % u64::from(end)) as u16
-    }
+/// Which feeds of the runs belong to a row.
+type Fits<'a> = &'a dyn Fn(&Feed) -> bool;
+
+/// A whole run: its settings, and what each subframe hears.
+struct Run {
+    settings: Settings,
+    heard: Vec<Option<Grant>>,
+}
+
+/// A list of claims for a window.
+struct List {
+    settings: Settings,
+    n: u16,
+    claims: Vec<u16>,
 }
 
 fn main() {
-    let inputs = inputs();
-    println!("{INPUTS} allowed inputs a batch, {BATCHES} batches each, median");
-    println!("{:<10} {:>9} {:>15} {:>7}", "call", "ours ns", "plain Rust ns", "ratio");
-    report("resource", measure(&inputs, engine_resource, plain_rust_resource));
-    report("inverse", measure(&inputs, engine_inverse, plain_rust_inverse));
-}
+    println!(
+        "# Performance
 
-fn report(call: &str, (ours, plain): (f64, f64)) {
-    println!("{call:<10} {ours:>9.2} {plain:>15.2} {:>7.2}", ours / plain);
-}
+The C calls beside the same calls in plain Rust, in nanoseconds for one call, and
+for the claims for one claim. Printed by `cargo run --release --offline --locked
+--bin bench` in `tests`. Both sides are `extern \"C\"` functions of one signature
+and are not inlined; they get the same inputs, in batches that alternate, and the
+median of {BATCHES} batches counts. The figures depend on the machine; the ratios
+do so less.
 
-/// Allowed inputs over all configurations, bandwidths, modes and block numbers.
-fn inputs() -> Vec<Input> {
+The numbers are allowed ones over all configurations, bandwidths, modes and blocks.
+The feeds are those of {RUNS} runs of 20 frames: a grant in seven of ten downlink
+subframes, one in twenty of them lost, nine of ten blocks decoded. A feed checks
+the whole state that it is lent, and a list of claims clears its scratch.
+
+| call | ours, ns | plain Rust, ns | ratio |
+|---|---:|---:|---:|"
+    );
     let model = Model::new();
-    let mut random = Random(0x9e37_79b9_7f4a_7c15);
-    (0..INPUTS).map(|_| input(&model, &mut random)).collect()
+    let mut random = Random::new(0);
+    numbers(&model, &mut random);
+    feeds(&model, &mut random);
+    claims(&model, &mut random);
 }
 
-fn input(model: &Model, random: &mut Random) -> Input {
-    let config = random.below(7);
-    let windows: Vec<_> = model.windows().iter().filter(|w| w.config == config).collect();
-    let window = windows[usize::from(random.below(windows.len() as u16))];
-    let nrb = NRB.start() + random.below(NRB.count() as u16);
-    let mode = if config == 5 { 0 } else { random.below(2) };
-    let (n1, blocks) = (random.below(2048), 1 + random.below(2));
-    let settings = Settings { config, nrb, n1, mode, blocks };
-    let (position, cce) = (random.below(window.size()), random.below(edge(nrb, 4)));
-    let resource = model.resource(settings, window.n, position, cce).resource;
-    Input { settings, n: window.n, position, cce, resource }
+fn numbers(model: &Model, random: &mut Random) {
+    let inputs: Vec<Input> = (0..INPUTS).map(|_| input(model, random, |_| true)).collect();
+    row("resource", &inputs, inputs.len(), engine_resource, plain_rust_resource);
+    row("inverse", &inputs, inputs.len(), engine_inverse, plain_rust_inverse);
+    for (name, bundled) in [("reading, bundled", true), ("reading, multiplexed", false)] {
+        let fits = |input: &Input| bundles(input.settings, size(model, input)) == bundled;
+        let inputs: Vec<Input> = (0..INPUTS).map(|_| input(model, random, fits)).collect();
+        row(name, &inputs, inputs.len(), engine_reading, plain_rust_reading);
+    }
+    row("make", &inputs, inputs.len(), engine_make, plain_rust_make);
 }
 
-/// The nanoseconds of one call, for two implementations whose batches alternate.
-fn measure(
-    inputs: &[Input],
-    ours: impl Fn(&Input) -> u16,
-    plain: impl Fn(&Input) -> u16,
-) -> (f64, f64) {
-    assert!(inputs.iter().all(|input| ours(input) == plain(input)), "the answers differ");
+fn size(model: &Model, input: &Input) -> u16 {
+    model.window(input.settings.config, input.n).expect("a window").size()
+}
+
+/// An allowed input over all configurations, bandwidths, modes and block numbers.
+fn input(model: &Model, random: &mut Random, fits: impl Fn(&Input) -> bool) -> Input {
+    loop {
+        let settings = random.settings();
+        let window = random.window(model, settings.config);
+        let (position, cce) =
+            (random.below16(window.size()), random.below16(edge(settings.nrb, 4)));
+        let resource = model.resource(settings, window.n, position, cce).resource;
+        let bits = (random.below16(2), random.below16(2));
+        let input = Input { settings, n: window.n, position, cce, resource, bits };
+        let read = model.reading(settings, window.n, resource, bits.0, bits.1);
+        if read.refusal == 0 && fits(&input) {
+            return input;
+        }
+    }
+}
+
+fn feeds(model: &Model, random: &mut Random) {
+    let runs: Vec<Run> = (0..RUNS).map(|_| run(model, random)).collect();
+    let feeds: Vec<Feed> = runs.iter().flat_map(|run| feeds_of(model, run)).collect();
+    let window = |feed: &Feed| model.window(feed.handset.settings.config, feed.handset.next);
+    let rows: [(&str, Fits); 4] = [
+        ("feed, downlink, grant", &|feed| feed.heard.is_some()),
+        ("feed, downlink, nothing", &|feed| {
+            let Handset { settings, next, .. } = feed.handset;
+            feed.heard.is_none() && !is_uplink(settings.config, next)
+        }),
+        ("feed, uplink, bundled window", &|feed| {
+            window(feed).is_some_and(|window| bundles(feed.handset.settings, window.size()))
+        }),
+        ("feed, uplink, multiplexed window", &|feed| {
+            window(feed).is_some_and(|window| !bundles(feed.handset.settings, window.size()))
+        }),
+    ];
+    for (name, fits) in rows {
+        let inputs: Vec<Feed> = feeds.iter().copied().filter(fits).take(INPUTS / 4).collect();
+        row(name, &inputs, inputs.len(), engine_feed, plain_rust_feed);
+    }
+    // Few enough that a batch is short, as the others are.
+    let runs = &runs[..10];
+    let number = runs.iter().map(|run| run.heard.len()).sum();
+    row("feed, one after another in a run", runs, number, engine_run, plain_rust_run);
+}
+
+/// A realistic run of 20 frames: most subframes have a grant, by the DAI rule,
+/// few are lost, and most blocks are decoded.
+fn run(model: &Model, random: &mut Random) -> Run {
+    let settings = random.settings();
+    let mut heard = vec![None; 200];
+    for window in model.windows().iter().filter(|window| window.config == settings.config) {
+        for frame in 0..20 {
+            let uplink = 10 * frame + usize::from(window.n);
+            let mut ks = window.k.clone();
+            ks.sort();
+            let mut dai = 0;
+            for k in ks.into_iter().rev() {
+                if random.below(10) < 7 {
+                    let mut flag = || u16::from(!random.once_in(10));
+                    let (first, second) = (flag(), flag());
+                    let grant = Grant { dai: dai % 4 + 1, first, second, ..random.grant(settings) };
+                    let at = uplink.checked_sub(usize::from(k));
+                    if let (Some(at), false) = (at, random.once_in(20)) {
+                        heard[at] = Some(grant);
+                    }
+                    dai += 1;
+                }
+            }
+        }
+    }
+    Run { settings, heard }
+}
+
+fn feeds_of(model: &Model, run: &Run) -> Vec<Feed> {
+    let mut handset = model.make(run.settings).handset;
+    let mut feeds = Vec::new();
+    for heard in &run.heard {
+        feeds.push(Feed { handset, heard: *heard });
+        handset = model.feed(handset, *heard).handset;
+    }
+    feeds
+}
+
+fn claims(model: &Model, random: &mut Random) {
+    let cells: Vec<List> = (0..INPUTS / 8).map(|_| list_of_ten(model, random)).collect();
+    claims_row("claims, list of 10", &cells);
+    let widest = Settings { config: 5, nrb: 110, n1: 10, mode: 0, blocks: 1 };
+    let window = model.window(5, 2).expect("a window");
+    let of_widest = |claims| List { settings: widest, n: 2, claims };
+    let thousands: Vec<List> =
+        (0..8).map(|_| of_widest(distinct(widest, window, 1000, random))).collect();
+    claims_row("claims, list of 1,000", &thousands);
+    let all = distinct(widest, window, 1206, random);
+    let many = all.into_iter().cycle().take(100_000).collect();
+    claims_row("claims, list of 100,000, of which 1,206 differ", &[of_widest(many)]);
+}
+
+/// A clean list of ten claims for a window of a cell of 3 MHz or more.
+fn list_of_ten(model: &Model, random: &mut Random) -> List {
+    let mut settings = random.settings();
+    settings.nrb = settings.nrb.max(15);
+    let window = random.window(model, settings.config);
+    List { settings, n: window.n, claims: distinct(settings, window, 10, random) }
+}
+
+/// Some of the allowed claims of a window, each once, in random order.
+fn distinct(settings: Settings, window: &Window, length: usize, random: &mut Random) -> Vec<u16> {
+    let cces = edge(settings.nrb, 4);
+    let at = |m: u16| (0..cces).map(move |cce| m * 256 + cce);
+    let mut claims: Vec<u16> = (0..window.size()).flat_map(at).collect();
+    for end in (1..claims.len()).rev() {
+        claims.swap(end, random.below(end + 1));
+    }
+    claims.truncate(length);
+    claims
+}
+
+fn claims_row(name: &str, lists: &[List]) {
+    let number = lists.iter().map(|list| list.claims.len()).sum();
+    let (mut our_scratch, mut plain_scratch) = ([0; 1206], [0; 1206]);
+    row(
+        name,
+        lists,
+        number,
+        |list| engine_claims(list, &mut our_scratch),
+        |list| plain_rust_claims(list, &mut plain_scratch),
+    );
+}
+
+/// Measures two implementations whose batches alternate, each over all inputs,
+/// and prints the nanoseconds of one of the `number` things that are in them.
+fn row<T>(
+    name: &str,
+    inputs: &[T],
+    number: usize,
+    mut ours: impl FnMut(&T) -> u64,
+    mut plain: impl FnMut(&T) -> u64,
+) {
+    assert!(!inputs.is_empty() && inputs.iter().all(|input| ours(input) == plain(input)), "{name}");
     let (mut our_times, mut plain_times) = (Vec::new(), Vec::new());
     for batch in 0..BATCHES {
         if batch % 2 == 0 {
-            our_times.push(time(inputs, &ours));
-            plain_times.push(time(inputs, &plain));
+            our_times.push(time(inputs, &mut ours));
+            plain_times.push(time(inputs, &mut plain));
         } else {
-            plain_times.push(time(inputs, &plain));
-            our_times.push(time(inputs, &ours));
+            plain_times.push(time(inputs, &mut plain));
+            our_times.push(time(inputs, &mut ours));
         }
     }
-    (median(our_times), median(plain_times))
+    let (ours, plain) = (median(our_times) / number as f64, median(plain_times) / number as f64);
+    println!("| {name} | {ours:.2} | {plain:.2} | {:.2} |", ours / plain);
 }
 
-/// The nanoseconds of one call, on average over one batch.
+/// The nanoseconds of one batch.
 #[inline(never)]
-fn time(inputs: &[Input], call: &impl Fn(&Input) -> u16) -> f64 {
+fn time<T>(inputs: &[T], call: &mut impl FnMut(&T) -> u64) -> f64 {
     let start = Instant::now();
-    let mut sum = 0u16;
+    let mut sum = 0u64;
     for input in inputs {
         sum = sum.wrapping_add(call(input));
     }
     black_box(sum);
-    start.elapsed().as_nanos() as f64 / inputs.len() as f64
+    start.elapsed().as_nanos() as f64
 }
 
 fn median(mut times: Vec<f64>) -> f64 {
@@ -108,22 +274,124 @@ fn median(mut times: Vec<f64>) -> f64 {
     times[times.len() / 2]
 }
 
-fn engine_resource(input: &Input) -> u16 {
+fn engine_resource(input: &Input) -> u64 {
     // SAFETY: the call takes numbers and gives numbers, and is lent no memory.
-    unsafe { feedback_resource(input.settings, input.n, input.position, input.cce) }.resource
+    let answer = unsafe { feedback_resource(input.settings, input.n, input.position, input.cce) };
+    answer.resource.into()
 }
 
-fn plain_rust_resource(input: &Input) -> u16 {
-    plain_resource(input.settings, input.n, input.position, input.cce).resource
+fn plain_rust_resource(input: &Input) -> u64 {
+    plain_resource(input.settings, input.n, input.position, input.cce).resource.into()
 }
 
-fn engine_inverse(input: &Input) -> u16 {
+fn engine_inverse(input: &Input) -> u64 {
     // SAFETY: the call takes numbers and gives numbers, and is lent no memory.
     let answer = unsafe { feedback_inverse(input.settings, input.n, input.resource) };
-    answer.position.wrapping_mul(256).wrapping_add(answer.cce)
+    u64::from(answer.position) << 16 | u64::from(answer.cce)
 }
 
-fn plain_rust_inverse(input: &Input) -> u16 {
+fn plain_rust_inverse(input: &Input) -> u64 {
     let answer = plain_inverse(input.settings, input.n, input.resource);
-    answer.position.wrapping_mul(256).wrapping_add(answer.cce)
+    u64::from(answer.position) << 16 | u64::from(answer.cce)
+}
+
+fn engine_reading(input: &Input) -> u64 {
+    let (b0, b1) = input.bits;
+    // SAFETY: the call takes numbers and gives numbers, and is lent no memory.
+    let answer = unsafe { feedback_reading(input.settings, input.n, input.resource, b0, b1) };
+    u64::from(answer.delivered) << 16 | u64::from(answer.cce)
+}
+
+fn plain_rust_reading(input: &Input) -> u64 {
+    let (b0, b1) = input.bits;
+    let answer = plain_reading(input.settings, input.n, input.resource, b0, b1);
+    u64::from(answer.delivered) << 16 | u64::from(answer.cce)
+}
+
+fn engine_make(input: &Input) -> u64 {
+    // SAFETY: the call takes numbers and gives numbers, and is lent no memory.
+    let made = unsafe { feedback_make(input.settings) };
+    black_box(&made).handset.settings.n1.into()
+}
+
+fn plain_rust_make(input: &Input) -> u64 {
+    let made = plain_make(input.settings);
+    black_box(&made).handset.settings.n1.into()
+}
+
+fn engine_feed(feed: &Feed) -> u64 {
+    value(engine_fed(feed.handset, feed.heard))
+}
+
+fn plain_rust_feed(feed: &Feed) -> u64 {
+    value(plain_rust_fed(feed.handset, feed.heard))
+}
+
+fn value(fed: Fed) -> u64 {
+    let fed = black_box(&fed);
+    let bits = fed.b0 << 1 | fed.b1;
+    u64::from(fed.resource) << 32 | u64::from(fed.kind) << 16 | u64::from(bits)
+}
+
+fn engine_fed(handset: Handset, heard: Option<Grant>) -> Fed {
+    // SAFETY: the calls take numbers and give numbers, and are lent no memory.
+    unsafe {
+        match heard {
+            None => feedback_feed_nothing(handset),
+            Some(Grant { blocks, first, second, cce, dai }) => {
+                feedback_feed_grant(handset, blocks, first, second, cce, dai)
+            }
+        }
+    }
+}
+
+fn plain_rust_fed(handset: Handset, heard: Option<Grant>) -> Fed {
+    match heard {
+        None => plain_feed_nothing(handset),
+        Some(Grant { blocks, first, second, cce, dai }) => {
+            plain_feed_grant(handset, blocks, first, second, cce, dai)
+        }
+    }
+}
+
+fn engine_run(run: &Run) -> u64 {
+    // SAFETY: the call takes numbers and gives numbers, and is lent no memory.
+    let handset = unsafe { feedback_make(run.settings) }.handset;
+    whole_run(run, handset, engine_fed)
+}
+
+fn plain_rust_run(run: &Run) -> u64 {
+    whole_run(run, plain_make(run.settings).handset, plain_rust_fed)
+}
+
+/// Each feed gets the handset that the one before returned.
+#[inline(always)]
+fn whole_run(run: &Run, mut handset: Handset, feed: impl Fn(Handset, Option<Grant>) -> Fed) -> u64 {
+    let mut sum = 0u64;
+    for heard in &run.heard {
+        let fed = feed(handset, *heard);
+        sum = sum.wrapping_add(u64::from(fed.resource));
+        handset = fed.handset;
+    }
+    sum
+}
+
+fn engine_claims(list: &List, scratch: &mut [u8]) -> u64 {
+    let (claims, count) = (list.claims.as_ptr(), list.claims.len());
+    let (marks, room) = (scratch.as_mut_ptr(), scratch.len());
+    // SAFETY: list and scratch are lent with their lengths and do not overlap.
+    let answer = unsafe { feedback_claims(list.settings, list.n, claims, count, marks, room) };
+    verdict(answer)
+}
+
+fn plain_rust_claims(list: &List, scratch: &mut [u8]) -> u64 {
+    let (claims, count) = (list.claims.as_ptr(), list.claims.len());
+    let (marks, room) = (scratch.as_mut_ptr(), scratch.len());
+    // SAFETY: list and scratch are lent with their lengths and do not overlap.
+    let answer = unsafe { plain_claims(list.settings, list.n, claims, count, marks, room) };
+    verdict(answer)
+}
+
+fn verdict(answer: ClaimsAnswer) -> u64 {
+    u64::from(answer.kind) << 32 | answer.index
 }

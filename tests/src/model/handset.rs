@@ -2,6 +2,7 @@
 
 use super::{bundles, edge, is_uplink, lowest, settings_refusal, Model, Window};
 use crate::{Fed, Grant, Handset, Made, Settings, Slot};
+use std::cmp::Reverse;
 
 /// A grant that was heard in a window.
 struct Heard {
@@ -61,7 +62,7 @@ impl Model {
         window: &Window,
         mut heard: Vec<Heard>,
     ) -> Option<(u16, u16, (u16, u16))> {
-        heard.sort_by(|one, other| other.k.cmp(&one.k));
+        heard.sort_by_key(|heard| Reverse(heard.k));
         let last = heard.last()?;
         let dais = [1, 2, 3, 4].into_iter().cycle();
         let if_none_was_lost = dais.take(heard.len()).last();
@@ -91,7 +92,7 @@ impl Model {
 }
 
 /// The letter of a position where a grant was heard.
-pub fn letter_of(grant: Grant) -> char {
+fn letter_of(grant: Grant) -> char {
     if decoded(grant) == [true, true] {
         'A'
     } else {
@@ -100,13 +101,13 @@ pub fn letter_of(grant: Grant) -> char {
 }
 
 /// Whether each block was decoded; the result of a sole block stands for both.
-pub fn decoded(grant: Grant) -> [bool; 2] {
+fn decoded(grant: Grant) -> [bool; 2] {
     let (first, second) = (grant.first != 0, grant.second != 0);
     [first, if grant.blocks == 1 { first } else { second }]
 }
 
 /// The lowest number among the causes that a grant meets in a subframe.
-pub fn grant_refusal(settings: Settings, subframe: u16, grant: Grant) -> Option<u16> {
+fn grant_refusal(settings: Settings, subframe: u16, grant: Grant) -> Option<u16> {
     lowest([
         (9, is_uplink(settings.config, subframe)),
         (10, !(1..=settings.blocks).contains(&grant.blocks)),

@@ -1,6 +1,6 @@
 //! The station's side: the reading of a reply and the claims of a cell.
 
-use super::{bundles, check, inverse, window_size};
+use super::{bundles, check, pair, window_size};
 use crate::{ClaimsAnswer, ReadingAnswer, Settings};
 use std::slice;
 
@@ -72,11 +72,12 @@ fn reading(
     b0: u16,
     b1: u16,
 ) -> Result<ReadingAnswer, u16> {
-    let (position, cce) = inverse(settings, n, resource)?;
+    check(settings)?;
+    let size = window_size(settings.config, n)?;
+    let (position, cce) = pair(settings, size, resource)?;
     if b0 > 1 || b1 > 1 {
         return Err(14);
     }
-    let size = window_size(settings.config, n)?;
     if bundles(settings, size) {
         if settings.blocks == 1 && b1 == 1 {
             return Err(14);

@@ -1,0 +1,276 @@
+//! Fuzzing: every call with numbers, states and buffers of any kind, from fixed
+//! seeds. Every answer is compared with the plain implementation, and one in 64
+//! with the model too. Memory that is lent lies flush with pages that fault when
+//! they are touched, once at its start and once at its end.
+//!
+//! The calls counted below are those of a normal run. With FEEDBACK_FUZZ set to
+//! a number, as many times more are made, from further seeds.
+
+use feedback_tests::compare::{plain_claims_on, plain_feed, Comparison, Lent, Shown};
+use feedback_tests::guarded::BOTH;
+use feedback_tests::model::{edge, is_uplink, Model, NRB};
+use feedback_tests::plain::{plain_inverse, plain_make, plain_reading, plain_resource};
+use feedback_tests::random::Random;
+use feedback_tests::{feed, inverse, make, reading, resource, Handset, Settings};
+use std::env;
+
+const RESOURCE_CALLS: u64 = 2_000_000;
+const INVERSE_CALLS: u64 = 2_000_000;
+const READING_CALLS: u64 = 4_000_000;
+const MAKE_CALLS: u64 = 1_000_000;
+const FEED_CALLS: u64 = 8_000_000;
+const CLAIMS_CALLS: u64 = 2_000_000;
+
+const _: () = assert!(
+    RESOURCE_CALLS + INVERSE_CALLS + READING_CALLS + MAKE_CALLS + FEED_CALLS + CLAIMS_CALLS
+        >= 10_000_000
+);
+
+/// One answer in as many is compared with the model too.
+const SAMPLE: u64 = 64;
+
+/// How many times a normal run is made.
+fn times() -> u64 {
+    match env::var("FEEDBACK_FUZZ") {
+        Ok(times) => times.parse().expect("FEEDBACK_FUZZ is a number"),
+        Err(_) => 1,
+    }
+}
+
+/// Makes `calls` calls, from a seed of their own for each thousand, and shows how
+/// many they were. `each` is told when to ask the model, and says how many calls
+/// it made.
+fn fuzz(first_seed: u64, calls: u64, mut each: impl FnMut(&mut Random, bool) -> u64) -> u64 {
+    let (mut made, mut inputs, mut seed) = (0, 0, first_seed << 32);
+    while made < calls * times() {
+        let mut random = Random::new(seed);
+        let end = made + 1000;
+        while made < end {
+            made += each(&mut random, inputs % SAMPLE == 0);
+            inputs += 1;
+        }
+        seed += 1;
+    }
+    println!("{made} calls");
+    made
+}
+
+/// A number near an edge, or any.
+fn near(edge: u16, random: &mut Random) -> u16 {
+    match random.below(8) {
+        0 => random.any(),
+        1 => edge.wrapping_add(random.below16(8)).wrapping_sub(4),
+        _ => random.below16(edge.max(1)),
+    }
+}
+
+/// N_4, also of a bandwidth that is not allowed.
+fn cces(settings: Settings) -> u16 {
+    edge(settings.nrb.clamp(*NRB.start(), *NRB.end()), 4)
+}
+
+/// M, or 1 where there is no window.
+fn size(model: &Model, settings: Settings, n: u16) -> u16 {
+    model.window(settings.config, n).map_or(1, |window| window.size())
+}
+
+#[test]
+fn resources() {
+    let model = Model::new();
+    let mut comparison = Comparison::with(&model);
+    let calls = fuzz(1, RESOURCE_CALLS, |random, ask_model| {
+        let settings = random.wild_settings(24);
+        let n = random.wild_n(&model, settings.config);
+        let position = near(size(&model, settings, n), random);
+        let cce = near(cces(settings), random);
+        let given = resource(settings, n, position, cce);
+        let plain = plain_resource(settings, n, position, cce);
+        assert!(
+            given == plain,
+            "feedback_resource({settings:?}, n {n}, position {position}, cce {cce}): the engine \
+             gives {given:?}, the plain implementation {plain:?}"
+        );
+        if ask_model {
+            comparison.resource(settings, n, position, cce);
+        }
+        1
+    });
+    assert_eq!(calls, RESOURCE_CALLS * times());
+    comparison.finish_with(calls / SAMPLE, &[0, 1, 2, 3, 4, 5, 6, 7, 11], &[]);
+}
+
+#[test]
+fn inverses() {
+    let model = Model::new();
+    let mut comparison = Comparison::with(&model);
+    let calls = fuzz(2, INVERSE_CALLS, |random, ask_model| {
+        let settings = random.wild_settings(24);
+        let n = random.wild_n(&model, settings.config);
+        let place = near(size(&model, settings, n) * cces(settings), random);
+        let resource = settings.n1.wrapping_add(place);
+        let given = inverse(settings, n, resource);
+        let plain = plain_inverse(settings, n, resource);
+        assert!(
+            given == plain,
+            "feedback_inverse({settings:?}, n {n}, resource {resource}): the engine gives \
+             {given:?}, the plain implementation {plain:?}"
+        );
+        if ask_model {
+            comparison.inverse(settings, n, resource);
+        }
+        1
+    });
+    assert_eq!(calls, INVERSE_CALLS * times());
+    comparison.finish_with(calls / SAMPLE, &[0, 1, 2, 3, 4, 5, 6, 7, 13], &[]);
+}
+
+#[test]
+fn readings() {
+    let model = Model::new();
+    let mut comparison = Comparison::with(&model);
+    let calls = fuzz(3, READING_CALLS, |random, ask_model| {
+        let settings = random.wild_settings(24);
+        let n = random.wild_n(&model, settings.config);
+        let place = near(size(&model, settings, n) * cces(settings), random);
+        let resource = settings.n1.wrapping_add(place);
+        let [b0, b1] =
+            [0; 2].map(|_| if random.once_in(16) { random.any() } else { random.below16(2) });
+        let given = reading(settings, n, resource, b0, b1);
+        let plain = plain_reading(settings, n, resource, b0, b1);
+        assert!(
+            given == plain,
+            "feedback_reading({settings:?}, n {n}, resource {resource}, b0 {b0}, b1 {b1}): the \
+             engine gives {given:?}, the plain implementation {plain:?}"
+        );
+        if ask_model {
+            comparison.reading(settings, n, resource, b0, b1);
+        }
+        1
+    });
+    assert_eq!(calls, READING_CALLS * times());
+    let refusals = [0, 1, 2, 3, 4, 5, 6, 7, 13, 14];
+    comparison.finish_with(calls / SAMPLE, &refusals, &[0, 1, 2]);
+}
+
+#[test]
+fn makings() {
+    let model = Model::new();
+    let mut comparison = Comparison::with(&model);
+    let calls = fuzz(4, MAKE_CALLS, |random, ask_model| {
+        let settings = random.wild_settings(8);
+        let (given, plain) = (make(settings), plain_make(settings));
+        assert!(
+            given == plain,
+            "feedback_make({settings:?}): the engine gives {given:?}, the plain implementation \
+             {plain:?}"
+        );
+        if ask_model {
+            comparison.make(settings);
+        }
+        1
+    });
+    assert_eq!(calls, MAKE_CALLS * times());
+    comparison.finish_with(calls / SAMPLE, &[0, 1, 2, 3, 4, 5, 6], &[]);
+}
+
+/// A handset that goes from feed to feed; sometimes another takes its place,
+/// fresh, damaged or of any numbers. In the uplink a grant is rare.
+#[test]
+fn feeds() {
+    let model = Model::new();
+    let mut comparison = Comparison::with(&model);
+    let mut handset = Handset::NONE;
+    let calls = fuzz(5, FEED_CALLS, |random, ask_model| {
+        let lent = match random.below(64) {
+            0 => random.noise(),
+            1..=5 => random.damage(handset),
+            6 => Handset::fresh(random.settings()),
+            _ => handset,
+        };
+        let Handset { settings, next, .. } = lent;
+        let uplink = settings.config < 7 && next < 10 && is_uplink(settings.config, next);
+        let is_grant = if uplink { random.once_in(8) } else { !random.once_in(3) };
+        let heard = is_grant.then(|| random.wild_grant(settings, 12));
+        let given = feed(lent, heard);
+        let plain = plain_feed(lent, heard);
+        assert!(
+            given == plain,
+            "a feed of {heard:?} to {lent:?}: the engine gives {given:?}, the plain \
+             implementation {plain:?}"
+        );
+        if ask_model {
+            comparison.feed(lent, heard);
+        }
+        handset = match given.refusal {
+            8 if random.once_in(2) => Handset::fresh(random.settings()),
+            8 => handset,
+            _ => given.handset,
+        };
+        1
+    });
+    assert_eq!(calls, FEED_CALLS * times());
+    let refusals = [0, 8, 9, 10, 11, 12];
+    comparison.finish_with(calls / SAMPLE, &refusals, &[0, 1, 2, 3, 4, 5]);
+}
+
+/// Claims: mostly allowed ones, and any others.
+fn list(size: u16, cces: u16, random: &mut Random) -> Vec<u16> {
+    let longest = random.one_of(&[1, 2, 4, 8, 8, 16, 16, 32, 64, 1500]);
+    let wild = random.one_of(&[2, 20, 500, 5000]);
+    let claim = |_| match random.once_in(wild) {
+        true => random.any(),
+        false => random.below16(size) * 256 + random.below16(cces),
+    };
+    let mut claims: Vec<u16> = (0..longest).map(claim).collect();
+    claims.truncate(random.below(longest + 1));
+    claims
+}
+
+#[test]
+fn lists_of_claims() {
+    let model = Model::new();
+    let mut comparison = Comparison::with(&model);
+    let mut lent = Lent::new(1500);
+    let mut random = Random::new(0);
+    let dirt: Vec<u8> = (0..8192).map(|_| random.any_byte()).collect();
+    let calls = fuzz(6, CLAIMS_CALLS, |random, ask_model| {
+        let settings = random.wild_settings(48);
+        let n = random.wild_n(&model, settings.config);
+        let (size, cces) = (size(&model, settings, n), cces(settings));
+        let list = list(size, cces, random);
+        let need = usize::from(size * cces);
+        let room = match random.below(8) {
+            0 => random.below(need + 64),
+            1 => need - 1,
+            2..=4 => need,
+            _ => need + random.below(64),
+        };
+        let mut scratch = vec![random.one_of(&[0, 1, 2, 255]); room];
+        if random.once_in(2) {
+            scratch.copy_from_slice(&dirt[random.below(dirt.len() - room)..][..room]);
+        }
+        let mut plain_left = scratch.clone();
+        let plain = plain_claims_on(settings, n, &list, &mut plain_left);
+        for flush in BOTH {
+            let (given, list_left, left) = lent.call(settings, n, &list, &scratch, flush);
+            assert!(
+                given == plain && left == plain_left && list_left == list,
+                "feedback_claims({settings:?}, n {n}, {}, room {room}), flush at the {flush:?}: \
+                 the scratch was {}; the engine gives {given:?} and leaves {} and the list {}, \
+                 the plain implementation {plain:?} and {}",
+                Shown(&list),
+                Shown(&scratch),
+                Shown(left),
+                Shown(list_left),
+                Shown(&plain_left)
+            );
+        }
+        if ask_model {
+            comparison.claims(&mut lent, settings, n, &list, &scratch);
+        }
+        2
+    });
+    assert_eq!(calls, CLAIMS_CALLS * times());
+    let refusals = [0, 1, 2, 3, 4, 5, 6, 7, 15, 16];
+    comparison.finish_with(calls / 2 / SAMPLE * 2, &refusals, &[0, 1, 2]);
+}

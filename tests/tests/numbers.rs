@@ -1,0 +1,190 @@
+//! Every refusal number, 1 to 16, from every call that can give it. What is due
+//! is written out by hand; the model has no part here.
+
+use feedback_tests::{
+    claims, feed_grant, feed_nothing, inverse, make, reading, resource, ClaimsAnswer, Fed, Grant,
+    Handset, InverseAnswer, Made, ReadingAnswer, ResourceAnswer, Settings, Slot,
+};
+use std::fmt::Debug;
+
+/// Configuration 1, N_RB 50, N1 10: N_4 is 61, and the window of n = 2 has M = 2.
+const CELL: Settings = Settings { config: 1, nrb: 50, n1: 10, mode: 0, blocks: 1 };
+
+const GRANT: Grant = Grant { blocks: 1, first: 1, second: 0, cce: 0, dai: 1 };
+
+/// Settings that meet the causes 1 to 6, and no other.
+const REFUSED: [(u16, Settings); 9] = [
+    (1, Settings { config: 7, ..CELL }),
+    (2, Settings { nrb: 5, ..CELL }),
+    (2, Settings { nrb: 111, ..CELL }),
+    (3, Settings { n1: 2048, ..CELL }),
+    (4, Settings { mode: 2, ..CELL }),
+    (5, Settings { mode: 1, config: 5, ..CELL }),
+    (6, Settings { blocks: 0, ..CELL }),
+    (6, Settings { blocks: 3, ..CELL }),
+    (6, Settings { blocks: 65535, ..CELL }),
+];
+
+/// Counts the refusals that came as they were due.
+struct Count([u64; 17]);
+
+impl Count {
+    fn due<T: Debug + PartialEq>(&mut self, number: u16, given: T, due: T) {
+        assert_eq!(given, due, "refusal {number}");
+        self.0[usize::from(number)] += 1;
+    }
+
+    fn resource(&mut self, number: u16, settings: Settings, n: u16, position: u16, cce: u16) {
+        let given = resource(settings, n, position, cce);
+        self.due(number, given, ResourceAnswer::refused(number));
+    }
+
+    fn inverse(&mut self, number: u16, settings: Settings, n: u16, resource: u16) {
+        self.due(number, inverse(settings, n, resource), InverseAnswer::refused(number));
+    }
+
+    fn reading(&mut self, number: u16, settings: Settings, n: u16, reply: (u16, u16, u16)) {
+        let (resource, b0, b1) = reply;
+        let given = reading(settings, n, resource, b0, b1);
+        self.due(number, given, ReadingAnswer::refused(number));
+    }
+
+    /// The scratch is left as it was.
+    fn claims(&mut self, number: u16, settings: Settings, n: u16, list: &[u16], room: usize) {
+        let mut scratch = vec![5; room];
+        let given = claims(settings, n, list, &mut scratch);
+        // Where a list below has a bad claim, it is the last.
+        let index = if number == 16 { list.len() - 1 } else { 0 };
+        let due = (ClaimsAnswer::refused(number, index), vec![5; room]);
+        self.due(number, (given, scratch), due);
+    }
+
+    fn make(&mut self, number: u16, settings: Settings) {
+        let handset = Handset::NONE;
+        self.due(number, make(settings), Made { refusal: number, handset });
+    }
+
+    /// The handset is left as it was.
+    fn feed_grant(&mut self, number: u16, handset: Handset, grant: Grant) {
+        self.due(number, feed_grant(handset, grant), Fed::refused(number, handset));
+    }
+
+    /// The handset is left as it was, whatever it is fed.
+    fn bad_state(&mut self, handset: Handset) {
+        self.due(8, feed_nothing(handset), Fed::refused(8, handset));
+        self.feed_grant(8, handset, GRANT);
+        self.feed_grant(8, handset, Grant { blocks: 0, cce: 61, dai: 0, ..GRANT });
+    }
+}
+
+#[test]
+fn every_number_occurs() {
+    let mut count = Count([0; 17]);
+    let fresh = make(CELL).handset;
+    assert_eq!(fresh, Handset::fresh(CELL));
+
+    for (number, settings) in REFUSED {
+        count.resource(number, settings, 2, 0, 0);
+        count.inverse(number, settings, 2, 10);
+        count.reading(number, settings, 2, (10, 0, 0));
+        count.claims(number, settings, 2, &[0], 122);
+        count.make(number, settings);
+        count.bad_state(Handset { settings, ..fresh });
+    }
+
+    for n in [0, 4, 10, 258, 65535] {
+        count.resource(7, CELL, n, 0, 0);
+        count.inverse(7, CELL, n, 10);
+        count.reading(7, CELL, n, (10, 0, 0));
+        count.claims(7, CELL, n, &[0], 122);
+    }
+
+    // In configuration 1 the subframes 2, 3, 7 and 8 are uplink. A handset that
+    // expects 2 remembers 1, 0, 9, 8 and so on: the uplink ones are 3, 4, 8 and 9.
+    let good = Slot { kind: 1, cce: 60, dai: 4, results: 1 };
+    let expecting = Handset { next: 2, ..fresh };
+    for at in [0, 1, 2, 5, 6, 7, 10, 11, 12] {
+        let with = |slot| {
+            let mut handset = expecting;
+            handset.past[at] = slot;
+            handset
+        };
+        assert_eq!(feed_nothing(with(good)).refusal, 0, "{at}");
+        count.bad_state(with(Slot { kind: 2, ..good }));
+        count.bad_state(with(Slot { kind: 255, ..good }));
+        count.bad_state(with(Slot { results: 4, ..good }));
+        count.bad_state(with(Slot { cce: 61, ..good }));
+        count.bad_state(with(Slot { dai: 0, ..good }));
+        count.bad_state(with(Slot { dai: 5, ..good }));
+    }
+    for at in [3, 4, 8, 9] {
+        let mut handset = expecting;
+        handset.past[at] = good;
+        count.bad_state(handset);
+    }
+    count.bad_state(Handset { next: 10, ..fresh });
+    count.bad_state(Handset { next: 65535, ..fresh });
+    count.bad_state(Handset::NONE);
+
+    // One cause after another is put right, and the next number is answered.
+    let grant = Grant { blocks: 2, cce: 61, dai: 5, ..GRANT };
+    count.feed_grant(8, Handset { next: 12, ..fresh }, grant);
+    count.feed_grant(9, expecting, grant);
+    count.feed_grant(9, expecting, GRANT);
+    count.feed_grant(10, fresh, grant);
+    count.feed_grant(10, fresh, Grant { blocks: 0, ..grant });
+    count.feed_grant(11, fresh, Grant { blocks: 1, ..grant });
+    count.feed_grant(12, fresh, Grant { blocks: 1, cce: 60, ..grant });
+    count.feed_grant(12, fresh, Grant { blocks: 1, cce: 60, dai: 0, ..grant });
+    let taken = feed_grant(fresh, Grant { blocks: 1, cce: 60, dai: 4, ..grant });
+    assert_eq!((taken.refusal, taken.kind, taken.handset.next), (0, Fed::TAKEN, 1));
+
+    count.resource(11, CELL, 2, 0, 61);
+    count.resource(11, CELL, 2, 2, 0);
+    for resource in [0, 9, 132, 65535] {
+        count.inverse(13, CELL, 2, resource);
+        count.reading(13, CELL, 2, (resource, 2, 2));
+    }
+    // A bit over 1; a second bit in a one-bit reply, also of a window of one in
+    // mode 1; a symbol in no row.
+    let multiplexing = Settings { mode: 1, ..CELL };
+    count.reading(14, CELL, 2, (10, 2, 0));
+    count.reading(14, CELL, 2, (10, 0, 2));
+    count.reading(14, CELL, 2, (10, 0, 1));
+    count.reading(14, multiplexing, 3, (10, 0, 1));
+    count.reading(14, multiplexing, 2, (10, 0, 0));
+    count.reading(14, multiplexing, 2, (10, 1, 1));
+    count.reading(14, multiplexing, 2, (21, 0, 1));
+
+    count.claims(15, CELL, 2, &[], 121);
+    count.claims(15, CELL, 2, &[65535], 121);
+    count.claims(15, CELL, 2, &[0, 0], 0);
+    count.claims(16, CELL, 2, &[61], 122);
+    count.claims(16, CELL, 2, &[0, 512], 122);
+    count.claims(16, CELL, 2, &[7, 7, 65535], 200);
+
+    println!("refusals by number: {:?}", count.0);
+    let of_settings = |causes: u64| 5 * causes;
+    let states = 3 * (9 + 9 * 6 + 4 + 3) + 1;
+    let counts = [
+        0,
+        of_settings(1),
+        of_settings(2),
+        of_settings(1),
+        of_settings(1),
+        of_settings(1),
+        of_settings(3),
+        5 * 4,
+        states,
+        2,
+        2,
+        3,
+        2,
+        8,
+        7,
+        3,
+        3,
+    ];
+    assert_eq!(count.0, counts);
+    assert!(count.0[1..].iter().all(|number| *number > 0));
+}
