@@ -74,7 +74,8 @@ fn bundled_answer(s: Settings, n: u16, seen: Seen) -> Answer
         return Answer::Silent;
     }
     let cce = seen.cce;
-    let mapped = resource::resource_of(s, n, seen.position, cce);
+    let size = frame::size_of(s.config, n);
+    let mapped = resource::resource_sized(s, size, seen.position, cce);
     let b0 = bit_of(seen.first);
     let b1 = second_bit(s, seen);
     reply_on(1, mapped, b0, b1)
@@ -135,7 +136,7 @@ fn multiplexed_answer(s: Settings, n: u16, past: [Slot; 13], w: Window) -> Answe
         Symbol::Sent(i, b0, b1) => {
             let k = w.k;
             let x = view_ago(past, k[i as usize]);
-            let mapped = resource::resource_of(s, n, i, cce_of(x));
+            let mapped = resource::resource_sized(s, w.size, i, cce_of(x));
             reply_on(2, mapped, b0, b1)
         }
     }

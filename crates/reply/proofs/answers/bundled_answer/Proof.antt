@@ -7,6 +7,7 @@ use borrow.Author.Tests.{eq-eqb, ne-eqb}
 use Rattle.frame.specs.declared.Settings.{Settings}
 use Rattle.resource.specs.declared.Mapped.{Mapped}
 use Rattle.resource.specs.Calls.{resourceOf}
+use Rattle.resource.proofs.Sized.{resource-told}
 use Rattle.reply.specs.declared.Answer.{Answer}
 use Rattle.reply.specs.declared.Answer.the-variants.{Silent}
 use Rattle.reply.specs.declared.Seen.{Seen}
@@ -39,8 +40,11 @@ miss-shown-requires c κs = search needs
 returns-2 : tie.Need-returns-2
 returns-2 c = missed _ _ _ (c .before .before .if1 .left) (sym (c .before .miss-shown .ensures) ∙ c .if2 .taken)
 
-resource-of-requires : tie.Need-resource-of-requires
-resource-of-requires c κs = search needs
+size-of-requires : tie.Need-size-of-requires
+size-of-requires c κs = search needs
+
+resource-sized-requires : tie.Need-resource-sized-requires
+resource-sized-requires c κs = search needs
 
 bit-of-requires : tie.Need-bit-of-requires
 bit-of-requires c κs = search needs
@@ -54,8 +58,9 @@ reply-on-requires c κs = search needs
 returns-3 : tie.Need-returns-3
 returns-3 c =
     let mapped = c .before .before .before in
-    let branch = mapped .before .before in
-    sent _ _ _ (branch .before .before .if1 .left) (sym (branch .before .miss-shown .ensures) ∙ branch .if2 .left) _ (mapped .resource-of .ensures)
+    let branch = mapped .before .before .before in
+    sent _ _ _ (branch .before .before .if1 .left) (sym (branch .before .miss-shown .ensures) ∙ branch .if2 .left) _
+    (mapped .resource-sized .ensures ∙ resource-told _ _ _ (mapped .before .size-of .ensures) _ _)
     _ (c .before .before .bit-of .ensures) _ (c .before .second-bit .ensures) _ (c .reply-on .ensures)
 
 pub bundled-answer-spec : {M : Type 1} → statement M
@@ -65,7 +70,8 @@ bundled-answer-spec =
     returns
     miss-shown-requires
     returns-2
-    resource-of-requires
+    size-of-requires
+    resource-sized-requires
     bit-of-requires
     second-bit-requires
     reply-on-requires

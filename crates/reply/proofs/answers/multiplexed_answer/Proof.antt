@@ -1,7 +1,10 @@
 -- `reply::answers::multiplexed_answer` meets its contract. Assumes nothing.
 use Prim.Native.Nat.{_<_}
+use mathlib.Core.Path.{ap, _∙_}
 use native.Mathlib.Omega.{arith}
 use borrow.Author.Needs.{needs}
+use Rattle.frame.specs.declared.Window.{Window}
+use Rattle.resource.proofs.Sized.{resource-told}
 use Rattle.reply.proofs.Folding.{size-small}
 use Rattle.reply.proofs.Multiplexing.{k-range, index-small, symbol-silent, symbol-sent}
 use Rattle.reply.proofs.answers.multiplexed_answer.Statement.{statement}
@@ -42,8 +45,8 @@ view-ago-requires c κs = k-range _ _ _ (c .before .before .before .before .befo
 cce-of-requires : tie.Need-cce-of-requires
 cce-of-requires c κs = search needs
 
-resource-of-requires : tie.Need-resource-of-requires
-resource-of-requires c κs = search needs
+resource-sized-requires : tie.Need-resource-sized-requires
+resource-sized-requires c κs = search needs
 
 reply-on-requires : tie.Need-reply-on-requires
 reply-on-requires c κs = search needs
@@ -58,7 +61,7 @@ returns-2 c =
     let heard = c .before .before .before in
     let arm = heard .before .before .before in
     symbol-sent _ _ _ _ (arm .before .before .before .before .pre) _ (arm .before .before .before .code-of .ensures) _ (arm .before .before .symbol-of .ensures) _ _ _
-    (arm .y .given .1) _ (heard .view-ago .ensures) _ (c .before .before .cce-of .ensures) _ (c .before .resource-of .ensures) _ (c .reply-on .ensures)
+    (arm .y .given .1) _ (heard .view-ago .ensures) _ (c .before .before .cce-of .ensures) _ (c .before .resource-sized .ensures ∙ resource-told _ _ _ (ap (λ (w : Window). w .size) (arm .before .before .before .before .pre)) _ _) _ (c .reply-on .ensures)
 
 pub multiplexed-answer-spec : {M : Type 1} → statement M
 multiplexed-answer-spec =
@@ -73,7 +76,7 @@ multiplexed-answer-spec =
     array-read-view-ago
     view-ago-requires
     cce-of-requires
-    resource-of-requires
+    resource-sized-requires
     reply-on-requires
     returns
     returns-2)
