@@ -185,6 +185,7 @@ fn fed_numbers(f: Fed) -> FedAnswer
     answer_numbers(answer, handset)
 }
 
+// The answer is set out here and not in a function of its own: the compiler then makes one function of the whole call.
 #[no_mangle]
 pub extern "C" fn feedback_resource(
     settings: Settings,
