@@ -18,6 +18,10 @@ pub const WINDOWS: u64 = 21;
 /// The number of positions in all windows, the sum of M.
 pub const POSITIONS: u64 = 47;
 
+/// For each window the windows of its configuration, itself among them: how many
+/// they are for all windows together.
+pub const NEIGHBOURS: u64 = 4 * 4 + 4 * 4 + 2 * 2 + 3 * 3 + 2 * 2 + 1 + 5 * 5;
+
 /// The number of bandwidths, 6 to 110 resource blocks.
 pub const BANDWIDTHS: u64 = 105;
 

@@ -1,19 +1,32 @@
-//! Memory to lend between two stretches that fault when they are touched, so
-//! that a call which reads or writes beyond what it was lent ends the test.
+//! Memory to lend between two stretches where nothing is mapped, so that a call
+//! which reads or writes beyond what it was lent ends the test.
+//!
+//! A hole among other mappings might not stay one: a thread that asks for memory
+//! can be given the hole, and a touch there no longer faults. So this memory lies
+//! far below all addresses that Linux chooses by itself, and is no neighbour of
+//! any other. Still its guards are checked, before it is lent and when it is given
+//! back, and a page that came to lie in them fails the test.
 
 use std::ffi::{c_int, c_long, c_void};
-use std::ptr::null_mut;
+use std::io::Error;
 use std::slice;
+use std::sync::atomic::{AtomicUsize, Ordering};
+use std::thread;
 
-const NO_ACCESS: c_int = 0;
 const READ: c_int = 1;
 const READ_AND_WRITE: c_int = 3;
 /// MAP_PRIVATE and MAP_ANONYMOUS, as Linux numbers them.
 const PRIVATE_AND_ANONYMOUS: c_int = 0x22;
+/// ENOMEM, which mincore answers where nothing is mapped.
+const NOT_MAPPED: c_int = 12;
 
 /// The length of a guard: whole pages of any size in use, so that each of its
 /// ends lies on a page's edge.
-const GUARD: usize = 65536;
+pub const GUARD: usize = 65536;
+
+/// From the start of one memory to that of the next, and where the next one starts.
+const STRETCH: usize = 1 << 30;
+static NEXT: AtomicUsize = AtomicUsize::new(64 * STRETCH);
 
 extern "C" {
     fn mmap(
@@ -26,6 +39,8 @@ extern "C" {
     ) -> *mut c_void;
     fn mprotect(address: *mut c_void, length: usize, access: c_int) -> c_int;
     fn munmap(address: *mut c_void, length: usize) -> c_int;
+    fn mincore(address: *mut c_void, length: usize, resident: *mut u8) -> c_int;
+    fn getpagesize() -> c_int;
 }
 
 /// On which side lent memory is flush with a guard.
@@ -38,6 +53,21 @@ pub enum Flush {
 /// Both sides.
 pub const BOTH: [Flush; 2] = [Flush::Start, Flush::End];
 
+/// The length of a page.
+pub fn page() -> usize {
+    // SAFETY: the call takes nothing and touches no memory.
+    unsafe { getpagesize() as usize }
+}
+
+/// Maps new memory, all 0, at an address where there is none.
+pub fn map(address: usize, length: usize) -> *mut u8 {
+    let wanted = address as *mut c_void;
+    // SAFETY: where memory is already, the system maps elsewhere and leaves it.
+    let mapped = unsafe { mmap(wanted, length, READ_AND_WRITE, PRIVATE_AND_ANONYMOUS, -1, 0) };
+    assert_eq!(mapped, wanted, "no memory to be had at this address");
+    mapped.cast()
+}
+
 /// Memory between two guards, all 0 at first.
 pub struct Guarded {
     start: *mut u8,
@@ -49,15 +79,21 @@ impl Guarded {
     /// At least `length` bytes.
     pub fn new(length: usize) -> Self {
         let length = length.next_multiple_of(GUARD).max(GUARD);
-        // SAFETY: the system finds room for a new mapping, so no other memory is
-        // touched, and the part between the guards lies within that mapping.
-        unsafe {
-            let whole =
-                mmap(null_mut(), length + 2 * GUARD, NO_ACCESS, PRIVATE_AND_ANONYMOUS, -1, 0);
-            assert!(whole as isize != -1, "no memory to be had");
-            let start = whole.cast::<u8>().add(GUARD);
-            assert_eq!(mprotect(start.cast(), length, READ_AND_WRITE), 0, "memory not opened");
-            Self { start, length, read_only: false }
+        let start = map(NEXT.fetch_add(STRETCH, Ordering::Relaxed), length);
+        let memory = Self { start, length, read_only: false };
+        memory.check_guards();
+        memory
+    }
+
+    /// No page of a guard is mapped.
+    fn check_guards(&self) {
+        let (below, beyond) = (self.start as usize - GUARD, self.start as usize + self.length);
+        for at in (0..GUARD).step_by(page()).flat_map(|at| [below + at, beyond + at]) {
+            let mut resident = 0;
+            // SAFETY: asked of one page, the call writes one byte at most.
+            let answer = unsafe { mincore(at as *mut c_void, 1, &mut resident) };
+            let error = Error::last_os_error().raw_os_error();
+            assert_eq!((answer, error), (-1, Some(NOT_MAPPED)), "a page in a guard, {at:#x}");
         }
     }
 
@@ -121,7 +157,10 @@ impl Guarded {
 
 impl Drop for Guarded {
     fn drop(&mut self) {
+        if !thread::panicking() {
+            self.check_guards();
+        }
         // SAFETY: the mapping is the one that was made, and nothing borrows it now.
-        unsafe { munmap(self.start.sub(GUARD).cast(), self.length + 2 * GUARD) };
+        unsafe { munmap(self.start.cast(), self.length) };
     }
 }

@@ -4,9 +4,12 @@
 //! wraps them for Rust; [`types`] has their structs. [`model`] is a second
 //! implementation of the same rules, made to be plainly right; [`plain`] is a
 //! third, made to be fast, the measure in the benchmark and in the fuzzing.
-//! [`compare`] holds the engine to the model, answer by answer.
+//! [`compare`] holds the engine to the model, answer by answer, on inputs in every
+//! combination ([`every`]) or at random ([`random`]), and on memory that is lent
+//! from [`guarded`].
 
 pub mod compare;
+pub mod every;
 pub mod guarded;
 pub mod model;
 pub mod plain;

@@ -1,5 +1,5 @@
 //! feedback_claims beside the model, on memory that lies flush with pages that
-//! fault when they are touched.
+//! are not mapped.
 
 use feedback_tests::c::feedback_claims;
 use feedback_tests::compare::{Comparison, Lent, Shown, POSITIONS, WINDOWS};
@@ -7,9 +7,6 @@ use feedback_tests::guarded::{Flush, Guarded, BOTH};
 use feedback_tests::model::{edge, Model, Window};
 use feedback_tests::random::Random;
 use feedback_tests::{claims, ClaimsAnswer, Settings};
-use std::env;
-use std::os::unix::process::ExitStatusExt;
-use std::process::{Command, Stdio};
 use std::ptr::{null, null_mut};
 
 const LONG: usize = 100_000;
@@ -309,39 +306,4 @@ fn overlapping_list_and_scratch() {
     println!("{calls} calls, {written} of them wrote");
     assert_eq!(calls, 20_000);
     assert!(written > 5_000);
-}
-
-/// The guards do their work: a child that reads one byte beyond the memory, on
-/// either side, or writes what was lent to be read, does not come back.
-#[test]
-fn guards_fault() {
-    const TOUCH: &str = "FEEDBACK_TOUCH";
-    if let Ok(touch) = env::var(TOUCH) {
-        let mut memory = Guarded::new(1);
-        let (start, end) = (memory.place(0, Flush::Start), memory.place(0, Flush::End));
-        memory.numbers_to_read(&[1, 2, 3], Flush::Start);
-        // SAFETY: none; this is to end the process.
-        unsafe {
-            match touch.as_str() {
-                "none" => _ = start.read_volatile(),
-                "below" => _ = start.sub(1).read_volatile(),
-                "beyond" => _ = end.read_volatile(),
-                _ => start.write_volatile(1),
-            }
-        }
-        return;
-    }
-    for (touch, comes_back) in
-        [("none", true), ("below", false), ("beyond", false), ("write", false)]
-    {
-        let status = Command::new(env::current_exe().expect("this test"))
-            .args(["--exact", "guards_fault"])
-            .env(TOUCH, touch)
-            .stdout(Stdio::null())
-            .stderr(Stdio::null())
-            .status()
-            .expect("a child");
-        assert_eq!(status.success(), comes_back, "{touch}: {status}");
-        assert_eq!(status.signal().is_none(), comes_back, "{touch}: {status}");
-    }
 }

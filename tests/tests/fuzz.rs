@@ -1,7 +1,7 @@
 //! Fuzzing: every call with numbers, states and buffers of any kind, from fixed
 //! seeds. Every answer is compared with the plain implementation, and one in 64
-//! with the model too. Memory that is lent lies flush with pages that fault when
-//! they are touched, once at its start and once at its end.
+//! with the model too. Memory that is lent lies flush with pages that are not
+//! mapped, once at its start and once at its end.
 //!
 //! The calls counted below are those of a normal run. With FEEDBACK_FUZZ set to
 //! a number, as many times more are made, from further seeds.

@@ -1,31 +1,20 @@
 //! feedback_inverse beside the model.
 
-use feedback_tests::compare::{Comparison, BANDWIDTHS, CCES, POSITIONS, WINDOWS};
+use feedback_tests::compare::{Comparison, BANDWIDTHS, CCES, NEIGHBOURS, POSITIONS, WINDOWS};
+use feedback_tests::every::{self, MODE_AND_BLOCKS};
 use feedback_tests::model::{edge, Model, NRB};
-use feedback_tests::Settings;
 
 const N1: [u16; 5] = [0, 1, 10, 2046, 2047];
-
-/// The four ways to set mode and blocks; one of the modes is not for configuration 5.
-const MODE_AND_BLOCKS: [(u16, u16); 4] = [(0, 1), (0, 2), (1, 1), (1, 2)];
 
 /// Every window, bandwidth and resource, and those around them.
 #[test]
 fn every_resource_of_every_window() {
     let model = Model::new();
     let mut comparison = Comparison::with(&model);
-    for window in model.windows() {
-        for nrb in NRB {
-            for n1 in N1 {
-                for (mode, blocks) in MODE_AND_BLOCKS {
-                    let config = window.config;
-                    let settings = Settings { config, nrb, n1, mode, blocks };
-                    let past_last = n1 + window.size() * edge(nrb, 4);
-                    for resource in (0..=past_last + 3).chain([32767, 65535]) {
-                        comparison.inverse(settings, window.n, resource);
-                    }
-                }
-            }
+    for (settings, window) in every::window(&model, NRB, &N1, &MODE_AND_BLOCKS) {
+        let past_last = settings.n1 + window.size() * edge(settings.nrb, 4);
+        for resource in (0..=past_last + 3).chain([32767, 65535]) {
+            comparison.inverse(settings, window.n, resource);
         }
     }
     // Beside the M × N_4 resources of a window, all below N1 and six above are
@@ -42,17 +31,10 @@ fn every_resource_of_every_window() {
 fn every_subframe_and_bandwidth() {
     let model = Model::new();
     let mut comparison = Comparison::with(&model);
-    for config in (0..=7).chain([255, 65535]) {
-        for n in (0..=255).chain([1000, 32768, 65535]) {
-            for nrb in (0..=255).chain([1000, 65535]) {
-                for n1 in [0, 2047] {
-                    let (mode, blocks) = (0, 1);
-                    let settings = Settings { config, nrb, n1, mode, blocks };
-                    for resource in [0, 6, 1205, 1206, 2046, 2047, 2053, 3252, 3253, 65535] {
-                        comparison.inverse(settings, n, resource);
-                    }
-                }
-            }
+    let bandwidths = (0..=255).chain([1000, 65535]);
+    for (settings, n) in every::subframe(bandwidths, &[0, 2047], &[(0, 1)]) {
+        for resource in [0, 6, 1205, 1206, 2046, 2047, 2053, 3252, 3253, 65535] {
+            comparison.inverse(settings, n, resource);
         }
     }
     // With N1 0, the numbers 0 and 6 are resources of every window at every
@@ -67,20 +49,13 @@ fn every_subframe_and_bandwidth() {
 fn every_number_as_each_argument() {
     let model = Model::new();
     let mut comparison = Comparison::with(&model);
-    for window in model.windows() {
-        for nrb in [6, 50, 110] {
-            let config = window.config;
-            let (n1, mode, blocks) = (10, 0, 2);
-            let settings = Settings { config, nrb, n1, mode, blocks };
-            for any in 0..=65535 {
-                comparison.inverse(settings, any, n1);
-                comparison.inverse(settings, window.n, any);
-            }
+    for (settings, window) in every::window(&model, [6, 50, 110], &[10], &[(0, 2)]) {
+        for any in 0..=65535 {
+            comparison.inverse(settings, any, settings.n1);
+            comparison.inverse(settings, window.n, any);
         }
     }
-    // As n, a number is answered when its configuration has a window there: so
-    // each window counts the windows of its configuration.
-    let neighbours = 4 * 4 + 4 * 4 + 2 * 2 + 3 * 3 + 2 * 2 + 1 + 5 * 5;
-    let answered = 3 * neighbours + POSITIONS * (7 + 61 + 134);
+    // As n, a number is answered when its configuration has a window there.
+    let answered = 3 * NEIGHBOURS + POSITIONS * (7 + 61 + 134);
     comparison.finish(WINDOWS * 3 * 65536 * 2, answered);
 }

@@ -1,6 +1,7 @@
 //! feedback_reading beside the model.
 
 use feedback_tests::compare::{Comparison, POSITIONS, WINDOWS};
+use feedback_tests::every::{self, MODE_AND_BLOCKS};
 use feedback_tests::model::{edge, Model};
 use feedback_tests::Settings;
 
@@ -13,28 +14,18 @@ const N1: [u16; 3] = [0, 10, 2047];
 /// Both bits, each a bit, or one past it, or the largest number.
 const BITS: [u16; 4] = [0, 1, 2, 65535];
 
-/// The four ways to set mode and blocks; one of the modes is not for configuration 5.
-const MODE_AND_BLOCKS: [(u16, u16); 4] = [(0, 1), (0, 2), (1, 1), (1, 2)];
-
 /// Every window, resource and pair of bits, and those around them.
 #[test]
 fn every_resource_and_bits_of_every_window() {
     let model = Model::new();
     let mut comparison = Comparison::with(&model);
-    for window in model.windows() {
-        for nrb in NRB {
-            for n1 in N1 {
-                for (mode, blocks) in MODE_AND_BLOCKS {
-                    let config = window.config;
-                    let settings = Settings { config, nrb, n1, mode, blocks };
-                    let past_last = n1 + window.size() * edge(nrb, 4);
-                    let around = n1.saturating_sub(3)..=past_last + 3;
-                    for resource in around.chain([32767, 65535]) {
-                        for (b0, b1) in pairs(&BITS) {
-                            comparison.reading(settings, window.n, resource, b0, b1);
-                        }
-                    }
-                }
+    for (settings, window) in every::window(&model, NRB, &N1, &MODE_AND_BLOCKS) {
+        let Settings { nrb, n1, .. } = settings;
+        let past_last = n1 + window.size() * edge(nrb, 4);
+        let around = n1.saturating_sub(3)..=past_last + 3;
+        for resource in around.chain([32767, 65535]) {
+            for (b0, b1) in pairs(&BITS) {
+                comparison.reading(settings, window.n, resource, b0, b1);
             }
         }
     }
@@ -56,15 +47,10 @@ fn every_resource_and_bits_of_every_window() {
 fn every_subframe() {
     let model = Model::new();
     let mut comparison = Comparison::with(&model);
-    for config in (0..=7).chain([255, 65535]) {
-        for n in (0..=255).chain([1000, 32768, 65535]) {
-            for (mode, blocks) in MODE_AND_BLOCKS {
-                let settings = Settings { config, nrb: 6, n1: 10, mode, blocks };
-                for resource in [0, 9, 10, 65535] {
-                    for (b0, b1) in pairs(&[0, 1]) {
-                        comparison.reading(settings, n, resource, b0, b1);
-                    }
-                }
+    for (settings, n) in every::subframe([6], &[10], &MODE_AND_BLOCKS) {
+        for resource in [0, 9, 10, 65535] {
+            for (b0, b1) in pairs(&[0, 1]) {
+                comparison.reading(settings, n, resource, b0, b1);
             }
         }
     }

@@ -1,13 +1,10 @@
 //! feedback_resource beside the model.
 
-use feedback_tests::compare::{Comparison, BANDWIDTHS, CCES, POSITIONS, WINDOWS};
+use feedback_tests::compare::{Comparison, BANDWIDTHS, CCES, NEIGHBOURS, POSITIONS, WINDOWS};
+use feedback_tests::every::{self, MODE_AND_BLOCKS};
 use feedback_tests::model::{edge, Model, NRB};
-use feedback_tests::Settings;
 
 const N1: [u16; 5] = [0, 1, 10, 2046, 2047];
-
-/// The four ways to set mode and blocks; one of the modes is not for configuration 5.
-const MODE_AND_BLOCKS: [(u16, u16); 4] = [(0, 1), (0, 2), (1, 1), (1, 2)];
 
 /// Numbers far beyond a limit, some of which look small in eight bits.
 const FAR: [u16; 3] = [255, 256, 65535];
@@ -17,18 +14,10 @@ const FAR: [u16; 3] = [255, 256, 65535];
 fn every_pair_of_every_window() {
     let model = Model::new();
     let mut comparison = Comparison::with(&model);
-    for window in model.windows() {
-        for nrb in NRB {
-            for n1 in N1 {
-                for (mode, blocks) in MODE_AND_BLOCKS {
-                    let config = window.config;
-                    let settings = Settings { config, nrb, n1, mode, blocks };
-                    for position in (0..=window.size() + 1).chain(FAR) {
-                        for cce in (0..=edge(nrb, 4) + 2).chain(FAR) {
-                            comparison.resource(settings, window.n, position, cce);
-                        }
-                    }
-                }
+    for (settings, window) in every::window(&model, NRB, &N1, &MODE_AND_BLOCKS) {
+        for position in (0..=window.size() + 1).chain(FAR) {
+            for cce in (0..=edge(settings.nrb, 4) + 2).chain(FAR) {
+                comparison.resource(settings, window.n, position, cce);
             }
         }
     }
@@ -44,18 +33,11 @@ fn every_pair_of_every_window() {
 fn every_subframe_and_bandwidth() {
     let model = Model::new();
     let mut comparison = Comparison::with(&model);
-    for config in (0..=7).chain([255, 65535]) {
-        for n in (0..=255).chain([1000, 32768, 65535]) {
-            for nrb in (0..=255).chain([1000, 65535]) {
-                for n1 in [0, 2047] {
-                    let (mode, blocks) = (0, 1);
-                    let settings = Settings { config, nrb, n1, mode, blocks };
-                    for position in [0, 1, 8, 9, 65535] {
-                        for cce in [0, 5, 6, 133, 134, 65535] {
-                            comparison.resource(settings, n, position, cce);
-                        }
-                    }
-                }
+    let bandwidths = (0..=255).chain([1000, 65535]);
+    for (settings, n) in every::subframe(bandwidths, &[0, 2047], &[(0, 1)]) {
+        for position in [0, 1, 8, 9, 65535] {
+            for cce in [0, 5, 6, 133, 134, 65535] {
+                comparison.resource(settings, n, position, cce);
             }
         }
     }
@@ -71,21 +53,14 @@ fn every_subframe_and_bandwidth() {
 fn every_number_as_each_argument() {
     let model = Model::new();
     let mut comparison = Comparison::with(&model);
-    for window in model.windows() {
-        for nrb in [6, 50, 110] {
-            let config = window.config;
-            let (n1, mode, blocks) = (10, 0, 2);
-            let settings = Settings { config, nrb, n1, mode, blocks };
-            for any in 0..=65535 {
-                comparison.resource(settings, any, 0, 0);
-                comparison.resource(settings, window.n, any, 0);
-                comparison.resource(settings, window.n, 0, any);
-            }
+    for (settings, window) in every::window(&model, [6, 50, 110], &[10], &[(0, 2)]) {
+        for any in 0..=65535 {
+            comparison.resource(settings, any, 0, 0);
+            comparison.resource(settings, window.n, any, 0);
+            comparison.resource(settings, window.n, 0, any);
         }
     }
-    // As n, a number is answered when its configuration has a window there: so
-    // each window counts the windows of its configuration.
-    let neighbours = 4 * 4 + 4 * 4 + 2 * 2 + 3 * 3 + 2 * 2 + 1 + 5 * 5;
-    let answered = 3 * (neighbours + POSITIONS) + WINDOWS * (7 + 61 + 134);
+    // As n, a number is answered when its configuration has a window there.
+    let answered = 3 * (NEIGHBOURS + POSITIONS) + WINDOWS * (7 + 61 + 134);
     comparison.finish(WINDOWS * 3 * 65536 * 3, answered);
 }

@@ -3,6 +3,7 @@
 //! gives the windows and N_4 only.
 
 use feedback_tests::compare::{CCES, POSITIONS};
+use feedback_tests::every;
 use feedback_tests::model::{edge, Model, NRB};
 use feedback_tests::{inverse, resource, InverseAnswer, ResourceAnswer, Settings};
 
@@ -12,17 +13,9 @@ const N1: [u16; 6] = [0, 1, 10, 1023, 2046, 2047];
 /// what it counts.
 fn for_every_window(each: fn(Settings, u16, u16, u16) -> u64) -> u64 {
     let model = Model::new();
-    let mut count = 0;
-    for window in model.windows() {
-        for nrb in NRB {
-            for n1 in N1 {
-                let (config, mode, blocks) = (window.config, 0, 2);
-                let settings = Settings { config, nrb, n1, mode, blocks };
-                count += each(settings, window.n, window.size(), edge(nrb, 4));
-            }
-        }
-    }
-    count
+    every::window(&model, NRB, &N1, &[(0, 2)])
+        .map(|(settings, window)| each(settings, window.n, window.size(), edge(settings.nrb, 4)))
+        .sum()
 }
 
 /// Every pair of one window: its resource is one of the window's, no other pair

@@ -19,14 +19,14 @@ module _ (s : Settings) (next : ℕ) (past : List Slot) (n i : ℕ) (before : al
   unfolding allSound
   one-more h = before ∙ rw (add-one, drop-cons past i none h)
 
-  module _ (h : i < length past) (b : Bool) (tested : b ≡ slotSound s (previous n) (getD past i none)) where
-    -- Slot i passes.
-    pub sound-next : b ≡ true → allSound s next past ≡ allSound s (previous n) (drop (i + 1) past)
-    sound-next e = one-more h ∙ rw (sym tested ∙ e)
+  module _ (h : i < length past) (p : ℕ) (fed : p ≡ previous n) (b : Bool) (tested : b ≡ slotSound s p (getD past i none)) where
+    -- Slot i, fed in subframe p, passes.
+    pub sound-next : b ≡ true → allSound s next past ≡ allSound s p (drop (i + 1) past)
+    sound-next e = one-more h ∙ rw (← fed, sym tested ∙ e)
 
     -- Slot i does not.
     pub sound-not : b ≡ false → false ≡ allSound s next past
-    sound-not e = sym (one-more h ∙ rw (sym tested ∙ e))
+    sound-not e = sym (one-more h ∙ rw (← fed, sym tested ∙ e))
 
   -- No slot is left.
   pub sound-end : (size : ℕ) → length past ≡ size → size ≤ i → true ≡ allSound s next past

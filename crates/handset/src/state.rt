@@ -4,7 +4,7 @@ use frame::Settings;
 use reply::Slot;
 ghost use mathlib.Core.Path.{_≡_};
 ghost use Prim.Native.Nat.{_≤_};
-ghost use Rattle.handset.specs.Sound.{slotSound, allSound, stateRefusal};
+ghost use Rattle.handset.specs.Sound.{slotSound, previous, allSound, stateRefusal};
 
 // A remembered subframe is of a kind that there is, and what it heard is valid in subframe n.
 fn is_sound(s: Settings, n: u16, t: Slot) -> bool
@@ -17,6 +17,17 @@ fn is_sound(s: Settings, n: u16, t: Slot) -> bool
     reply::heard_refusal(s, n, x) == 0
 }
 
+// The subframe before n; before 0 comes 9. No division: the check below asks thirteen times.
+fn subframe_before(n: u16) -> u16
+    requires { ⌜ n ≤ 9 ⌝ }
+    ensures { λ r. ⌜ (r ≡ previous n) × (r ≤ 9) ⌝ }
+{
+    if n == 0 {
+        return 9;
+    }
+    n - 1
+}
+
 // Every remembered subframe is sound in the subframe it was fed in: the newest in the one before `next`, and so on back.
 fn all_sound(s: Settings, next: u16, past: [Slot; 13]) -> bool
     requires { ⌜ next ≤ 9 ⌝ }
@@ -25,7 +36,7 @@ fn all_sound(s: Settings, next: u16, past: [Slot; 13]) -> bool
     let mut n = next;
     let mut i = 0;
     while i < 13 {
-        n = (n + 9) % 10;
+        n = subframe_before(n);
         let t = past[i];
         if !is_sound(s, n, t) {
             return false;

@@ -1,6 +1,6 @@
 -- The steps of the fold over a window, for a recursion or a loop alike.
 -- Assumes nothing.
-use Prim.Native.Nat.{ℕ, _+_, _<_, _≤_}
+use Prim.Native.Nat.{ℕ, _+_, _-_, _<_, _≤_}
 use mathlib.Core.List.{List}
 use mathlib.Core.Path.{_≡_, sym, ap, _∙_}
 use native.Mathlib.Numerals.{add-one}
@@ -15,9 +15,11 @@ use Rattle.frame.proofs.Padded.{padded-at}
 use Rattle.frame.proofs.Times.{order-size, order-below}
 use Rattle.frame.proofs.Windows.{window-size, window-k}
 use Rattle.reply.specs.declared.Seen.{Seen}
+use Rattle.reply.specs.declared.Slot.{Slot}
 use Rattle.reply.specs.declared.View.{View}
 use Rattle.reply.specs.declared.View.the-variants.{Unheard, Pdcch}
 use Rattle.reply.specs.Fold.{stepOf, seenFrom}
+use Rattle.reply.specs.Memory.{none, viewIn, viewAgo}
 
 -- One position more.
 pub seen-more : (F : ℕ → View) (ks ms : List ℕ) (j : ℕ) (seen : Seen) → j < length ms
@@ -38,6 +40,11 @@ step-counts seen m (Pdcch g) = omega arith
 
 pub step-left : (seen : Seen) (m : ℕ) (x : View) (next : Seen) (j : ℕ) → next ≡ stepOf seen m x → seen .u ≤ j → next .u ≤ j + 1
 step-left seen m x next j e h = rw e (omega (arith, step-counts seen m x))
+
+-- What a reply sees of the subframe k ago, as the code reads it.
+pub view-read : (past : List Slot) (k : ℕ) (x : View) → x ≡ viewIn (getD past (k - 1) none) → x ≡ viewAgo past k
+unfolding viewAgo
+view-read past k x e = e
 
 -- The window that was read, at its j-th position in time order.
 module _ (c n : ℕ) (w : Window) (read : w ≡ codedWindow (windowOf c n)) where

@@ -4,8 +4,8 @@ use crate::Reply;
 use crate::Seen;
 use crate::Slot;
 use crate::View;
-use crate::seen_in;
-use crate::view_ago;
+use crate::fold::seen_in;
+use crate::view_in;
 use frame::Settings;
 use frame::Window;
 use resource::Cce;
@@ -13,6 +13,7 @@ use resource::Mapped;
 use symbols::Symbol;
 ghost use mathlib.Core.Path.{_≡_};
 ghost use Prim.Native.Nat.{_≤_};
+ghost use lib.ListN.{length};
 ghost use Rattle.frame.specs.Coded.{codedWindow};
 ghost use Rattle.frame.specs.Table.{windowOf};
 ghost use Rattle.symbols.specs.Coded.{digitOf, codeOf};
@@ -64,7 +65,8 @@ fn second_bit(s: Settings, seen: Seen) -> u16
 }
 
 // The bundled reply, from what the fold over the window found.
-fn bundled_answer(s: Settings, n: u16, seen: Seen) -> Answer
+fn bundled_answer(s: Settings, n: u16, size: u16, seen: Seen) -> Answer
+    requires { ⌜ size ≡ length (windowOf (s .config) n) ⌝ }
     ensures { λ r. ⌜ r ≡ bundledAnswer s n seen ⌝ }
 {
     if seen.u == 0 {
@@ -74,7 +76,6 @@ fn bundled_answer(s: Settings, n: u16, seen: Seen) -> Answer
         return Answer::Silent;
     }
     let cce = seen.cce;
-    let size = frame::size_of(s.config, n);
     let mapped = resource::resource_sized(s, size, seen.position, cce);
     let b0 = bit_of(seen.first);
     let b1 = second_bit(s, seen);
@@ -117,8 +118,8 @@ fn code_of(past: [Slot; 13], config: u16, n: u16, w: Window) -> u16
     let mut code: u16 = 0;
     let mut m: u16 = 0;
     while m < size {
-        let x = view_ago(past, k[m as usize]);
-        code = code * 3 + digit_of(x);
+        let t = past[(k[m as usize] - 1) as usize];
+        code = code * 3 + digit_of(view_in(t));
         m += 1;
     }
     code
@@ -135,8 +136,8 @@ fn multiplexed_answer(s: Settings, n: u16, past: [Slot; 13], w: Window) -> Answe
         Symbol::Silent => Answer::Silent,
         Symbol::Sent(i, b0, b1) => {
             let k = w.k;
-            let x = view_ago(past, k[i as usize]);
-            let mapped = resource::resource_sized(s, w.size, i, cce_of(x));
+            let t = past[(k[i as usize] - 1) as usize];
+            let mapped = resource::resource_sized(s, w.size, i, cce_of(view_in(t)));
             reply_on(2, mapped, b0, b1)
         }
     }
@@ -151,8 +152,8 @@ pub fn answer_in(s: Settings, n: u16, past: [Slot; 13]) -> Answer
         return Answer::NoWindow;
     }
     if frame::is_bundled(s, w.size) {
-        let seen = seen_in(past, s.config, n);
-        return bundled_answer(s, n, seen);
+        let seen = seen_in(past, s.config, n, w);
+        return bundled_answer(s, n, w.size, seen);
     }
     multiplexed_answer(s, n, past, w)
 }

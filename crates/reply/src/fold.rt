@@ -2,11 +2,12 @@
 use crate::Seen;
 use crate::Slot;
 use crate::step;
-use crate::view_ago;
+use crate::view_in;
 use frame::Window;
 use resource::Cce;
 ghost use mathlib.Core.Path.{_≡_};
 ghost use lib.ListN.{drop};
+ghost use Rattle.frame.specs.Coded.{codedWindow};
 ghost use Rattle.frame.specs.Order.{orderOf};
 ghost use Rattle.frame.specs.Table.{windowOf};
 ghost use Rattle.reply.specs.Fold.{Before, seenFrom, seenOf};
@@ -23,15 +24,15 @@ fn seen_from(past: [Slot; 13], config: u16, n: u16, w: Window, j: u16, seen: See
     let order = w.order;
     let m = order[j as usize];
     let k = w.k;
-    let x = view_ago(past, k[m as usize]);
-    seen_from(past, config, n, w, j + 1, step(seen, m, x))
+    let t = past[(k[m as usize] - 1) as usize];
+    seen_from(past, config, n, w, j + 1, step(seen, m, view_in(t)))
 }
 
 // U, V and the rest for the window of subframe n, over what is remembered.
-pub fn seen_in(past: [Slot; 13], config: u16, n: u16) -> Seen
+pub fn seen_in(past: [Slot; 13], config: u16, n: u16, w: Window) -> Seen
+    requires { ⌜ w ≡ codedWindow (windowOf config n) ⌝ }
     ensures { λ r. ⌜ r ≡ seenOf (viewAgo past) (windowOf config n) ⌝ }
 {
-    let w = frame::window_of(config, n);
     let unseen = Seen {
         u: 0,
         v: 0,

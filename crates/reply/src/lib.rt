@@ -6,13 +6,12 @@ mod fold;
 pub use answers::answer_in;
 pub use checks::heard_in;
 pub use checks::heard_refusal;
-pub use fold::seen_in;
 use resource::Cce;
 use resource::Resource;
 ghost use mathlib.Core.Bool.{cond};
 ghost use mathlib.Core.Path.{_≡_};
 ghost use Prim.Native.Nat.{_≤_};
-ghost use Rattle.reply.specs.Memory.{viewIn, viewAgo};
+ghost use Rattle.reply.specs.Memory.{viewIn};
 ghost use Rattle.reply.specs.Fold.{stepOf};
 
 // A grant: the blocks it carries, which of them decoded, its first CCE and its DAI, as raw numbers.
@@ -108,15 +107,6 @@ fn view_in(t: Slot) -> View
         first,
         second,
     })
-}
-
-// What a reply sees of the subframe k ago.
-fn view_ago(past: [Slot; 13], k: u16) -> View
-    requires { ⌜ (1 ≤ k) × (k ≤ 13) ⌝ }
-    ensures { λ r. ⌜ r ≡ viewAgo past k ⌝ }
-{
-    let t = past[(k - 1) as usize];
-    view_in(t)
 }
 
 // One subframe more, at position m.

@@ -19,8 +19,8 @@ abbrev μ-loop : tie.MeasureT-loop
 loop-holds : tie.Need-loop-holds Inv-loop μ-loop
 loop-holds c = (omega arith, omega arith, refl)
 
-add-n : tie.Need-add-n Inv-loop μ-loop
-add-n c = omega arith
+subframe-before-requires : tie.Need-subframe-before-requires Inv-loop μ-loop
+subframe-before-requires c κs = c .before .loop .inv .0
 
 mul-t : tie.Need-mul-t Inv-loop μ-loop
 mul-t c = omega arith
@@ -37,8 +37,9 @@ inside c = omega (arith, c .before .before .good .1 .1 .0 .1 .0 .1)
 
 returns : tie.Need-returns Inv-loop μ-loop
 returns c =
-    let turn = c .before .before .before in
-    sound-not _ _ _ _ _ (turn .before .loop .inv .2) (inside turn) _ (c .before .is-sound .ensures) (not-true _ (c .if1 .taken))
+    let fed = c .before .before .before in
+    let turn = fed .before in
+    sound-not _ _ _ _ _ (turn .before .loop .inv .2) (inside turn) _ (fed .subframe-before .ensures .0) _ (c .before .is-sound .ensures) (not-true _ (c .if1 .taken))
 
 add-i : tie.Need-add-i Inv-loop μ-loop
 add-i c = omega arith
@@ -48,10 +49,11 @@ loop-less c = omega arith
 
 loop-again : tie.Need-loop-again Inv-loop μ-loop
 loop-again c =
-    let turn = c .before .before .before in (
+    let fed = c .before .before .before in
+    let turn = fed .before in (
+      fed .subframe-before .ensures .1,
       omega arith,
-      omega arith,
-      sound-next _ _ _ _ _ (turn .before .loop .inv .2) (inside turn) _ (c .before .is-sound .ensures) (not-false _ (c .if1 .left)),
+      sound-next _ _ _ _ _ (turn .before .loop .inv .2) (inside turn) _ (fed .subframe-before .ensures .0) _ (c .before .is-sound .ensures) (not-false _ (c .if1 .left)),
     )
 
 returns-2 : tie.Need-returns-2 Inv-loop μ-loop
@@ -64,7 +66,7 @@ all-sound-spec =
     Inv-loop
     μ-loop
     loop-holds
-    add-n
+    subframe-before-requires
     mul-t
     array-copy-out-t
     is-sound-requires

@@ -60,10 +60,10 @@ is-bundled-requires : tie.Need-is-bundled-requires
 is-bundled-requires c κs = search needs
 
 seen-in-requires : tie.Need-seen-in-requires
-seen-in-requires c κs = search needs
+seen-in-requires c κs = c .before .before .before .before .window-of .ensures
 
 bundled-answer-requires : tie.Need-bundled-answer-requires
-bundled-answer-requires c κs = search needs
+bundled-answer-requires c κs = size-read _ _ _ (c .before .before .before .before .before .window-of .ensures)
 
 returns-2 : tie.Need-returns-2
 returns-2 c =

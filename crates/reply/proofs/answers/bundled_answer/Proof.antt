@@ -40,9 +40,6 @@ miss-shown-requires c κs = search needs
 returns-2 : tie.Need-returns-2
 returns-2 c = missed _ _ _ (c .before .before .if1 .left) (sym (c .before .miss-shown .ensures) ∙ c .if2 .taken)
 
-size-of-requires : tie.Need-size-of-requires
-size-of-requires c κs = search needs
-
 resource-sized-requires : tie.Need-resource-sized-requires
 resource-sized-requires c κs = search needs
 
@@ -58,9 +55,9 @@ reply-on-requires c κs = search needs
 returns-3 : tie.Need-returns-3
 returns-3 c =
     let mapped = c .before .before .before in
-    let branch = mapped .before .before .before in
+    let branch = mapped .before .before in
     sent _ _ _ (branch .before .before .if1 .left) (sym (branch .before .miss-shown .ensures) ∙ branch .if2 .left) _
-    (mapped .resource-sized .ensures ∙ resource-told _ _ _ (mapped .before .size-of .ensures) _ _)
+    (mapped .resource-sized .ensures ∙ resource-told _ _ _ (branch .before .before .before .before .pre) _ _)
     _ (c .before .before .bit-of .ensures) _ (c .before .second-bit .ensures) _ (c .reply-on .ensures)
 
 pub bundled-answer-spec : {M : Type 1} → statement M
@@ -70,7 +67,6 @@ bundled-answer-spec =
     returns
     miss-shown-requires
     returns-2
-    size-of-requires
     resource-sized-requires
     bit-of-requires
     second-bit-requires

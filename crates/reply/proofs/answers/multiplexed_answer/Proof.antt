@@ -5,7 +5,7 @@ use native.Mathlib.Omega.{arith}
 use borrow.Author.Needs.{needs}
 use Rattle.frame.specs.declared.Window.{Window}
 use Rattle.resource.proofs.Sized.{resource-told}
-use Rattle.reply.proofs.Folding.{size-small}
+use Rattle.reply.proofs.Folding.{size-small, view-read}
 use Rattle.reply.proofs.Multiplexing.{k-range, index-small, symbol-silent, symbol-sent}
 use Rattle.reply.proofs.answers.multiplexed_answer.Statement.{statement}
 use Rattle.reply.proofs.answers.multiplexed_answer.Tie as tie
@@ -22,11 +22,11 @@ enum-told c = search needs
 enum-known-y : tie.Need-enum-known-y
 enum-known-y c = search needs
 
-cast-view-ago : tie.Need-cast-view-ago
-cast-view-ago c = search needs
+cast-t : tie.Need-cast-t
+cast-t c = search needs
 
-mul-view-ago : tie.Need-mul-view-ago
-mul-view-ago c = search needs
+mul-t : tie.Need-mul-t
+mul-t c = search needs
 
 -- the index is a position of the window
 small : (c : tie.After-k) → c .before .before .y .given .0 .0 < c .before .before .before .before .before .before .args .w .size
@@ -36,11 +36,23 @@ small c =
     index-small (start .args .s) _ _ _ (start .pre) _ (arm .before .before .before .code-of .ensures) _ (arm .before .before .symbol-of .ensures) _ _ _
     (arm .y .given .1)
 
-array-read-view-ago : tie.Need-array-read-view-ago
-array-read-view-ago c = omega (arith, small c, size-small _ _ _ (c .before .before .before .before .before .before .pre))
+array-read-t : tie.Need-array-read-t
+array-read-t c = omega (arith, small c, size-small _ _ _ (c .before .before .before .before .before .before .pre))
 
-view-ago-requires : tie.Need-view-ago-requires
-view-ago-requires c κs = k-range _ _ _ (c .before .before .before .before .before .before .pre) _ (small c)
+sub-t : tie.Need-sub-t
+sub-t c = k-range _ _ _ (c .before .before .before .before .before .before .pre) _ (small c) .0
+
+cast-t-2 : tie.Need-cast-t-2
+cast-t-2 c = omega (arith, k-range _ _ _ (c .before .before .before .before .before .before .pre) _ (small c))
+
+mul-t-2 : tie.Need-mul-t-2
+mul-t-2 c = omega (arith, k-range _ _ _ (c .before .before .before .before .before .before .pre) _ (small c))
+
+array-copy-out-t : tie.Need-array-copy-out-t
+array-copy-out-t c = omega (arith, k-range _ _ _ (c .before .before .before .before .before .before .pre) _ (small c))
+
+view-in-requires : tie.Need-view-in-requires
+view-in-requires c κs = search needs
 
 cce-of-requires : tie.Need-cce-of-requires
 cce-of-requires c κs = search needs
@@ -59,9 +71,9 @@ returns c =
 returns-2 : tie.Need-returns-2
 returns-2 c =
     let heard = c .before .before .before in
-    let arm = heard .before .before .before in
+    let arm = heard .before .before .before .before in
     symbol-sent _ _ _ _ (arm .before .before .before .before .pre) _ (arm .before .before .before .code-of .ensures) _ (arm .before .before .symbol-of .ensures) _ _ _
-    (arm .y .given .1) _ (heard .view-ago .ensures) _ (c .before .before .cce-of .ensures) _ (c .before .resource-sized .ensures ∙ resource-told _ _ _ (ap (λ (w : Window). w .size) (arm .before .before .before .before .pre)) _ _) _ (c .reply-on .ensures)
+    (arm .y .given .1) _ (view-read _ _ _ (heard .view-in .ensures)) _ (c .before .before .cce-of .ensures) _ (c .before .resource-sized .ensures ∙ resource-told _ _ _ (ap (λ (w : Window). w .size) (arm .before .before .before .before .pre)) _ _) _ (c .reply-on .ensures)
 
 pub multiplexed-answer-spec : {M : Type 1} → statement M
 multiplexed-answer-spec =
@@ -71,10 +83,14 @@ multiplexed-answer-spec =
     symbol-of-requires
     enum-told
     enum-known-y
-    cast-view-ago
-    mul-view-ago
-    array-read-view-ago
-    view-ago-requires
+    cast-t
+    mul-t
+    array-read-t
+    sub-t
+    cast-t-2
+    mul-t-2
+    array-copy-out-t
+    view-in-requires
     cce-of-requires
     resource-sized-requires
     reply-on-requires

@@ -1,0 +1,54 @@
+//! Inputs in every combination of some values.
+
+use crate::model::{Model, Window};
+use crate::Settings;
+
+/// The four ways to set mode and blocks; one of the modes is not for configuration 5.
+pub const MODE_AND_BLOCKS: [(u16, u16); 4] = [(0, 1), (0, 2), (1, 1), (1, 2)];
+
+/// Every window, with all settings of these values.
+pub fn window<'a>(
+    model: &'a Model,
+    nrb: impl IntoIterator<Item = u16> + Clone + 'a,
+    n1: &'a [u16],
+    mode_and_blocks: &'a [(u16, u16)],
+) -> impl Iterator<Item = (Settings, &'a Window)> {
+    model.windows().iter().flat_map(move |window| {
+        let all = settings([window.config], nrb.clone(), n1, mode_and_blocks);
+        all.into_iter().map(move |settings| (settings, window))
+    })
+}
+
+/// Every configuration and subframe, allowed or not, with all settings of these
+/// values.
+pub fn subframe(
+    nrb: impl IntoIterator<Item = u16> + Clone,
+    n1: &[u16],
+    mode_and_blocks: &[(u16, u16)],
+) -> impl Iterator<Item = (Settings, u16)> {
+    let configs = (0..=7).chain([255, 65535]);
+    let all = settings(configs, nrb, n1, mode_and_blocks);
+    all.into_iter().flat_map(|settings| {
+        let subframes = (0..=255).chain([1000, 32768, 65535]);
+        subframes.map(move |n| (settings, n))
+    })
+}
+
+fn settings(
+    configs: impl IntoIterator<Item = u16>,
+    nrb: impl IntoIterator<Item = u16> + Clone,
+    n1: &[u16],
+    mode_and_blocks: &[(u16, u16)],
+) -> Vec<Settings> {
+    let mut all = Vec::new();
+    for config in configs {
+        for nrb in nrb.clone() {
+            for n1 in n1.iter().copied() {
+                for (mode, blocks) in mode_and_blocks.iter().copied() {
+                    all.push(Settings { config, nrb, n1, mode, blocks });
+                }
+            }
+        }
+    }
+    all
+}
