@@ -147,13 +147,14 @@ fn multiplexed_answer(s: Settings, n: u16, past: [Slot; 13], w: Window) -> Answe
 pub fn answer_in(s: Settings, n: u16, past: [Slot; 13]) -> Answer
     ensures { λ r. ⌜ r ≡ windowAnswer s n (viewAgo past) ⌝ }
 {
-    let w = frame::window_of(s.config, n);
-    if w.size == 0 {
+    let size = frame::size_of(s.config, n);
+    if size == 0 {
         return Answer::NoWindow;
     }
-    if frame::is_bundled(s, w.size) {
-        let seen = seen_in(past, s.config, n, w);
-        return bundled_answer(s, n, w.size, seen);
+    if frame::is_bundled(s, size) {
+        let seen = seen_in(past, s.config, n);
+        return bundled_answer(s, n, size, seen);
     }
+    let w = frame::window_of(s.config, n);
     multiplexed_answer(s, n, past, w)
 }

@@ -7,7 +7,6 @@ use frame::Window;
 use resource::Cce;
 ghost use mathlib.Core.Path.{_≡_};
 ghost use lib.ListN.{drop};
-ghost use Rattle.frame.specs.Coded.{codedWindow};
 ghost use Rattle.frame.specs.Order.{orderOf};
 ghost use Rattle.frame.specs.Table.{windowOf};
 ghost use Rattle.reply.specs.Fold.{Before, seenFrom, seenOf};
@@ -29,10 +28,10 @@ fn seen_from(past: [Slot; 13], config: u16, n: u16, w: Window, j: u16, seen: See
 }
 
 // U, V and the rest for the window of subframe n, over what is remembered.
-pub fn seen_in(past: [Slot; 13], config: u16, n: u16, w: Window) -> Seen
-    requires { ⌜ w ≡ codedWindow (windowOf config n) ⌝ }
+pub fn seen_in(past: [Slot; 13], config: u16, n: u16) -> Seen
     ensures { λ r. ⌜ r ≡ seenOf (viewAgo past) (windowOf config n) ⌝ }
 {
+    let w = frame::window_of(config, n);
     let unseen = Seen {
         u: 0,
         v: 0,

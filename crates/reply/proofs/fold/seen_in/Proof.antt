@@ -17,6 +17,9 @@ start : (F : ℕ → View) (ks : List ℕ) (cce : Cce) → cce .0 ≡ 0
 unfolding seenOf
 start F ks cce e = ap (λ (x : ℕ). seenFrom F ks (orderOf ks) (record { u = 0; v = 0; position = 0; cce = record { 0 = x }; first = true; second = true })) e
 
+window-of-requires : tie.Need-window-of-requires
+window-of-requires c κs = search needs
+
 new-requires : tie.Need-new-requires
 new-requires c κs = search needs
 
@@ -27,4 +30,4 @@ returns : tie.Need-returns
 returns c = c .seen-from .ensures ∙ start _ _ _ (c .before .new .ensures)
 
 pub seen-in-spec : {M : Type 1} → statement M
-seen-in-spec = tie.close (tie.spec new-requires seen-from-requires returns)
+seen-in-spec = tie.close (tie.spec window-of-requires new-requires seen-from-requires returns)
