@@ -4,9 +4,9 @@ pub mod Entries
 pub mod Exactly
 pub mod Finite
 pub mod Folded
-pub mod Hollow
 pub mod Memory
 pub mod MultiplexedWindow
 pub mod NeverRefused
 pub mod Turns
 pub mod Worked
+pub mod WrongEngines

@@ -36,6 +36,13 @@ hearsNothing = feed Nothing
 abbrev pub hears : ℕ → ℕ → Bool → Item
 hears c d decoded = feed (Granted (record { blocks = 1; first = decoded; second = false; cce = record { 0 = c }; dai = d }))
 
+-- a cell of two blocks, and a feed that brings a grant of two
+abbrev pub twoBlockCell : ℕ → ℕ → Settings
+twoBlockCell config mode = record { config = config; nrb = 50; n1 = 10; mode = mode; blocks = 2 }
+
+abbrev pub hearsTwo : ℕ → ℕ → Bool → Bool → Item
+hearsTwo c d first second = feed (Granted (record { blocks = 2; first = first; second = second; cce = record { 0 = c }; dai = d }))
+
 abbrev pub reply : ℕ → ℕ → ℕ → ℕ → Answer
 reply kind r b0 b1 = answer.Sent (record { kind = kind; resource = record { 0 = r }; b0 = b0; b1 = b1 })
 
@@ -116,6 +123,17 @@ beforeStart =
       answers = answer.Taken ∷ answer.Taken ∷ answer.Silent ∷ answer.Taken ∷ answer.Taken ∷ answer.Taken ∷ answer.Taken ∷ reply 1 21 1 0 ∷ [];
     }
 
+-- Configuration 0 in a cell of two blocks: subframe 3 has no window. Subframe 4 answers for a grant in 0 whose second block alone
+-- decoded; subframe 7 for one in 1 of one block, which decoded and stands for both.
+abbrev pub twoBlocks : Run
+twoBlocks =
+    record {
+      set = twoBlockCell 0 0;
+      sends = grant 2 3 1 ∷ grant 1 5 1 ∷ [];
+      items = hearsTwo 3 1 false true ∷ hears 5 1 true ∷ hearsNothing ∷ hearsNothing ∷ hearsNothing ∷ hearsNothing ∷ hearsNothing ∷ hearsNothing ∷ [];
+      answers = answer.Taken ∷ answer.Taken ∷ answer.Silent ∷ answer.NoWindow ∷ reply 1 13 0 1 ∷ answer.Taken ∷ answer.Taken ∷ reply 1 15 1 1 ∷ [];
+    }
+
 abbrev pub AllWorked : List Run → Type 0
 AllWorked [] = Unit {0}
 AllWorked (r ∷ rs) = Worked r × AllWorked rs
@@ -125,8 +143,8 @@ worked : (r : Run) → settingsRefusal (r .set) ≡ 0 → T (scheduleTest (r .se
 worked r good s b e =
     record { accepted = good; schedule = scheduled (r .set) (r .sends) s; brings = brought (r .set) (r .sends) (r .items) b; answered = e }
 
--- The six runs.
-pub runs : AllWorked (allHeard ∷ missed ∷ refusedBetween ∷ fourLost ∷ shared ∷ beforeStart ∷ [])
+-- The seven runs.
+pub runs : AllWorked (allHeard ∷ missed ∷ refusedBetween ∷ fourLost ∷ shared ∷ beforeStart ∷ twoBlocks ∷ [])
 unfolding layouts letterOf downlink timesOf orderOf bundles cellRefusal modeRefusal blocksRefusal settingsRefusal noWindowRefusal windowRefusal table windowOf pairRefusal resourceOf edge regionOf resourceNumber symbolOf tableOf table2 table3 table4 stepOf seenFrom seenOf uplinkRefusal grantRefusal heardRefusal viewOf slotOf heardIn viewIn viewAgo replyOn expected missShown secondBit bundledAnswer stateOf cceOf windowState symbolAnswer multiplexedAnswer windowAnswer answerOf dueOf pushed feedRefusal feedOf fresh makeOf slotSound allSound stateSound stateRefusal
 runs = (
   worked allHeard refl tt tt refl,
@@ -140,7 +158,10 @@ runs = (
           worked shared refl tt tt refl,
           (
             worked beforeStart refl tt tt refl,
-            tt,
+            (
+              worked twoBlocks refl tt tt refl,
+              tt,
+            ),
           ),
         ),
       ),

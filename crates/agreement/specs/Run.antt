@@ -20,8 +20,8 @@ use Rattle.handset.specs.declared.Handset.{Handset}
 pub data Item : Type 0 where
   feed : Heard → Item
 
--- "A feed is refused exactly when a cause for a feed is met at the run's next subframe ..; what it brought is neither sent nor
--- heard. The other feeds, counted s = 0, 1, 2, .., are the run's subframes, s mod 10 in the frame."
+-- "A feed is refused exactly when a cause for a feed, .., is met at the run's next subframe, ..; .. what it brought is neither sent
+-- nor heard. The other feeds, counted s = 0, 1, 2, .., are the run's subframes, s mod 10 in the frame."
 -- What the run's subframes heard, from subframe s on.
 abbrev pub heardFrom : Settings → ℕ → List Item → List Heard
 heardFrom set s [] = []

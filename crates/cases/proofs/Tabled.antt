@@ -7,11 +7,12 @@ use Rattle.frame.specs.Table.{table, windowOf}
 use Rattle.resource.specs.Calls.{pairRefusal, rangeRefusal, resourceOf, inverseOf}
 use Rattle.resource.specs.Formula.{edge, regionOf, resourceNumber}
 use Rattle.reply.specs.Fold.{stepOf, seenFrom, seenOf}
+use Rattle.reply.specs.Heard.{viewOf}
 use Rattle.reply.specs.Replies.{expected, missShown, bundledAnswer, windowAnswer}
 use Rattle.cases.specs.Tabled.{Tabled}
 
 pub tabled : Tabled
-unfolding timesOf orderOf bundles cellRefusal modeRefusal blocksRefusal settingsRefusal noWindowRefusal windowRefusal table windowOf pairRefusal rangeRefusal resourceOf inverseOf edge regionOf resourceNumber stepOf seenFrom seenOf expected missShown bundledAnswer windowAnswer
+unfolding timesOf orderOf bundles cellRefusal modeRefusal blocksRefusal settingsRefusal noWindowRefusal windowRefusal table windowOf pairRefusal rangeRefusal resourceOf inverseOf edge regionOf resourceNumber stepOf seenFrom seenOf viewOf expected missShown bundledAnswer windowAnswer
 tabled =
     record {
       bandwidth50 = refl;
@@ -29,5 +30,5 @@ tabled =
       bandwidth110 = refl;
       position3 = refl;
       subframe3 = refl;
-      silent = refl;
+      silent = λ g g′ e e′. rw e′;
     }

@@ -1,7 +1,7 @@
 -- The cases that document 01 wants proved ("Cases to prove"), as one fact about the definitions; its lines in their order.
 -- Assumes nothing.
 use Prim.Native.Nat.{ℕ, zero, suc, _+_, _-_, _%_}
-use mathlib.Core.Bool.{true, cond}
+use mathlib.Core.Bool.{cond}
 use mathlib.Core.List.{List, [], _∷_, map}
 use mathlib.Core.Path.{_≡_}
 use lib.Dec.{eqb}
@@ -13,8 +13,11 @@ use Rattle.resource.specs.declared.Mapped.the-variants as mapped
 use Rattle.resource.specs.Calls.{sizeOf, resourceOf, inverseOf}
 use Rattle.resource.specs.Formula.{edge}
 use Rattle.reply.specs.declared.Answer.the-variants as answer
+use Rattle.reply.specs.declared.Grant.{Grant}
+use Rattle.reply.specs.declared.Heard.{Heard}
+use Rattle.reply.specs.declared.Heard.the-variants.{Nothing, Granted}
 use Rattle.reply.specs.declared.View.{View}
-use Rattle.reply.specs.declared.View.the-variants.{Unheard, Pdcch}
+use Rattle.reply.specs.Heard.{viewOf}
 use Rattle.reply.specs.Replies.{windowAnswer}
 
 -- N_0, N_1, .., N_4
@@ -37,16 +40,13 @@ positionIn x n (k ∷ ks) = cond (eqb (before n k) x) zero (suc (positionIn x n 
 abbrev pub at : ℕ → Mapped
 at r = mapped.At (record { 0 = r })
 
--- what is heard: a DAI in each subframe of the frame, 0 for nothing; every grant decoded, with first CCE 0
-abbrev pub heard : (ℕ → ℕ) → ℕ → ℕ → View
-heard dais n k = seen (dais (before n k))
-  where
-    seen : ℕ → View
-    seen zero = Unheard
-    seen (suc d) = Pdcch (record { cce = record { 0 = 0 }; dai = suc d; first = true; second = true })
+-- what a frame's subframes hear: x in 9, y in 3, nothing in the others
+abbrev pub heardIn9And3 : Heard → Heard → ℕ → Heard
+heardIn9And3 x y n = cond (eqb n 9) x (cond (eqb n 3) y Nothing)
 
-abbrev pub heardDais : ℕ → ℕ
-heardDais x = cond (eqb x 9) 1 (cond (eqb x 3) 3 0)
+-- what a reply in subframe n sees k before it, where `heard` says what each subframe of the frame heard
+abbrev pub viewBefore : ℕ → (ℕ → Heard) → ℕ → View
+viewBefore n heard k = viewOf (heard (before n k))
 
 pub record Tabled : Type 0 where
   -- "N_RB 50 gives N = 0, 11, 27, 44, 61."
@@ -70,5 +70,7 @@ pub record Tabled : Type 0 where
   -- "Configuration 2, n = 7, N_RB 50, N1 10: subframe 3 (m = 2) with c 5 is 37."
   pub position3 : positionIn 3 7 (windowOf 2 7) ≡ 2
   pub subframe3 : resourceOf (cell 2) 7 (positionIn 3 7 (windowOf 2 7)) 5 ≡ at 37
-  -- "There, in mode 0, DAI 1 heard in 9 and DAI 3 in 3: silent."
-  pub silent : windowAnswer (cell 2) 7 (heard heardDais 7) ≡ answer.Silent
+  -- "There, in mode 0, DAI 1 heard in 9 and DAI 3 in 3: silent.", whatever blocks the two grants carry and however these decode,
+  -- and whatever their first CCEs
+  pub silent : (g g′ : Grant) → g .dai ≡ 1 → g′ .dai ≡ 3
+      → windowAnswer (cell 2) 7 (viewBefore 7 (heardIn9And3 (Granted g) (Granted g′))) ≡ answer.Silent

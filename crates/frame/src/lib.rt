@@ -10,7 +10,9 @@ pub use table::is_downlink;
 pub use table::size_of;
 pub use table::window_of;
 
-// The settings of a cell (document 01, "Settings"), as raw numbers: a call refuses what 01 does not allow.
+// The settings of a cell (document 01, "Settings"), as raw numbers: a call refuses what 01 does not allow. `config` is the
+// uplink-downlink configuration, `nrb` is N_RB, `n1` is N1 (36.213's N_PUCCH^(1)), `mode` is 0 for bundling and 1 for multiplexing,
+// `blocks` is the most transport blocks that a grant carries.
 #[repr(C)]
 pub struct Settings {
     pub config: u16,

@@ -1,2 +1,4 @@
 pub mod Passing
+pub mod Refused
 pub mod Remembered
+pub mod Silences

@@ -25,7 +25,8 @@ memory l = slotsFrom 13 0 l
 unfoldable pub fresh : Settings → Handset
 fresh s = record { settings = s; next = 0; past = memory [] }
 
--- Settings with every number 0, which refusal 2 refuses: what a handset beside a refusal has, so that every feed of it answers 8.
+-- Settings with every number 0, which refusal 2 refuses: what a handset beside a refusal has, so that every feed of it answers 8
+-- (proofs/Refused.antt).
 abbrev pub noSettings : Settings
 noSettings = record { config = 0; nrb = 0; n1 = 0; mode = 0; blocks = 0 }
 

@@ -14,7 +14,7 @@ pub enum State {
     Dtx,
 }
 
-// What is sent for a window's state: index and the bits b0, b1; or nothing.
+// A symbol (document 01's term): what is sent for a window's state, index and the bits b0, b1; or nothing.
 pub enum Symbol {
     Sent(u16, u16, u16),
     Silent,

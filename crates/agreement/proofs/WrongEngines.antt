@@ -1,6 +1,6 @@
--- What the claim shuts out: for each hollow engine of document 01 ("Four questions about each public call") that demand 3 names, a
--- proof that it does not meet the claim; and for two ends that agree with each other and not with the formula. Each is the engine
--- of this repository but for one fault.
+-- What the claim shuts out: for each "hollow engine" of document 01 ("Four questions about each public call") that demand 3 names,
+-- a proof that it does not meet the claim; and for two ends that agree with each other and not with the formula. Each is the
+-- engine of this repository but for one fault.
 -- Assumes nothing.
 use Prim.Native.Nat.{ℕ, _+_, _-_, _/_, _%_, _^_, _≤_}
 use mathlib.Core.Bool.{Bool, true, false, cond}
@@ -220,8 +220,8 @@ raised (answer.Refused k) = answer.Refused k
 abbrev pub raisedReading : Settings → ℕ → ℕ → ℕ → ℕ → Reading
 raisedReading s n r b0 b1 = readOf s n (cond (ltb r 4000) r (r - 4000)) b0 b1
 
-abbrev pub apartTogether : Engine
-apartTogether = record { make = makeOf; feed = changed raised; resource = resourceOf; inverse = inverseOf; read = raisedReading }
+abbrev pub bothRaised : Engine
+bothRaised = record { make = makeOf; feed = changed raised; resource = resourceOf; inverse = inverseOf; read = raisedReading }
 
 raised-high : (a : Answer) (r : Reply) → raised a ≡ answer.Sent r → 4000 ≤ r .resource .0
 raised-high answer.Taken r e = let z : _≡_ {A = ℕ} 0 1 = cc in absurd (omega arith)
@@ -233,12 +233,12 @@ raised-high (answer.Sent q) r e =
     omega arith
 raised-high (answer.Refused k) r e = let z : _≡_ {A = ℕ} 0 1 = cc in absurd (omega arith)
 
-pub not-apart-together : Demand3 apartTogether → ⊥
+pub not-both-raised : Demand3 bothRaised → ⊥
 unfolding timesOf table windowOf heardRefusal uplinkRefusal grantRefusal downlink letterOf layouts edge windowRefusal noWindowRefusal settingsRefusal cellRefusal modeRefusal blocksRefusal
-not-apart-together d =
+not-both-raised d =
     let w = runs .0 in
     let h : Handset = makeOf (cell 1 0) .handset in
-    let turn : Turn = turnAt apartTogether (cell 1 0) (allHeard .items) 7 in
+    let turn : Turn = turnAt bothRaised (cell 1 0) (allHeard .items) 7 in
     let c = d .run (cell 1 0) (w .accepted) (sending (allHeard .sends)) (w .schedule) (allHeard .items) (w .brings) in
     let a = c .bundled 7 7 (record { inside = omega arith; accepted = refl; counted = refl }) (omega arith) (inl refl) in
     let r = a .0 .1 (refl, inl refl) in

@@ -1,0 +1,81 @@
+-- Why a handset is silent, for every lent state that 8 does not refuse and not only for those that a run comes to. Each grant that
+-- it remembers in the window has a resource, by the one-to-one law of the resource crate, whose map is not unfolded here. So the
+-- resource call never causes silence, and silence means what 01 says ("The bundled reply", "The multiplexed reply").
+-- Assumes nothing.
+use Prim.Native.Nat.{ℕ, zero, suc, _-_, _<_}
+use mathlib.Core.Bool.{true}
+use mathlib.Core.List.{List, [], _∷_}
+use mathlib.Core.Logic.{_↔_}
+use mathlib.Core.Path.{_≡_, refl, sym}
+use native.Mathlib.Omega.{arith}
+use lib.Dec.{eqb, leb}
+use lib.ListN.{getD}
+use borrow.Author.Tests.{eqb-true}
+use Rattle.frame.specs.declared.Settings.{Settings}
+use Rattle.frame.specs.Layout.{downlink}
+use Rattle.frame.specs.Settings.{windowRefusal}
+use Rattle.frame.specs.Table.{windowOf}
+use Rattle.frame.proofs.Accepted.{accepting}
+use Rattle.frame.proofs.Causes.{with-window}
+use Rattle.frame.proofs.Windows.{window-uplink}
+use Rattle.resource.specs.Calls.{sizeOf}
+use Rattle.resource.specs.Formula.{edge}
+use Rattle.resource.proofs.OneToOne.{calls-one-to-one}
+use Rattle.reply.specs.declared.Answer.the-variants.{Silent}
+use Rattle.reply.specs.declared.Control.{Control}
+use Rattle.reply.specs.declared.Heard.{Heard}
+use Rattle.reply.specs.declared.Heard.the-variants.{Nothing, Granted}
+use Rattle.reply.specs.declared.Slot.{Slot}
+use Rattle.reply.specs.declared.View.the-variants.{Pdcch}
+use Rattle.reply.specs.Heard.{heardRefusal, viewOf}
+use Rattle.reply.specs.Memory.{none, heardIn, viewIn, viewAgo}
+use Rattle.reply.specs.Silence.{HeardMapped, SilentCause}
+use Rattle.reply.proofs.Silences.{silent-cause}
+use Rattle.reply.proofs.Valid.{valid}
+use Rattle.handset.specs.declared.Handset.{Handset}
+use Rattle.handset.specs.Feed.{answerOf, dueOf}
+use Rattle.handset.specs.Sound.{slotSound, previous, allSound, stateRefusal}
+use Rattle.handset.proofs.Passing.{both, sound}
+
+-- The first CCE that a reply sees of what is valid lies below N_4.
+seen-low : (s : Settings) (n : ℕ) (x : Heard) → heardRefusal s n x ≡ 0 → (g : Control) → viewOf x ≡ Pdcch g → g .cce .0 < edge (s .nrb) 4
+unfolding viewOf
+seen-low s n Nothing e g v = let z : _≡_ {A = ℕ} 0 1 = cc in absurd (omega arith)
+seen-low s n (Granted y) e g v =
+    let same : y .cce ≡ g .cce = cc in
+    rw same at (valid s n y e .cce)
+
+slot-low : (s : Settings) (n : ℕ) (t : Slot) → slotSound s n t ≡ true → (g : Control) → viewIn t ≡ Pdcch g → g .cce .0 < edge (s .nrb) 4
+unfolding slotSound viewIn
+slot-low s n t e g v =
+    let sound = both (leb (t .kind) 1) (eqb (heardRefusal s n (heardIn t)) 0) e in
+    seen-low s n (heardIn t) (eqb-true (heardRefusal s n (heardIn t)) 0 (sound .1)) g v
+
+-- So does each that a state remembers; before the oldest slot nothing was heard.
+past-low : (s : Settings) (past : List Slot) (n : ℕ) → allSound s n past ≡ true → (i : ℕ) (g : Control)
+    → viewIn (getD past i none) ≡ Pdcch g → g .cce .0 < edge (s .nrb) 4
+unfolding allSound viewIn heardIn viewOf
+past-low s [] n e i g v = let z : _≡_ {A = ℕ} 0 1 = cc in absurd (omega arith)
+past-low s (t ∷ ts) n e zero g v = slot-low s (previous n) t (both (slotSound s (previous n) t) (allSound s (previous n) ts) e .0) g v
+past-low s (t ∷ ts) n e (suc i) g v = past-low s ts (previous n) (both (slotSound s (previous n) t) (allSound s (previous n) ts) e .1) i g v
+
+module _ (h : Handset) (accepted : stateRefusal h ≡ 0) (window : 0 < sizeOf (h .settings) (h .next)) where
+  call-accepted : windowRefusal (h .settings) (h .next) ≡ 0
+  call-accepted =
+      let ok = accepting (h .settings) (sound h accepted .settings) in
+      sym (with-window (h .settings) (h .next) 0 (sizeOf (h .settings) (h .next)) (sym ok) refl refl (λ z. omega arith))
+
+  -- The resource call for a heard position of the window is never refused.
+  pub heard-mapped : HeardMapped (h .settings) (h .next) (viewAgo (h .past))
+  unfolding viewAgo
+  heard-mapped m g inside heard =
+      let low = past-low (h .settings) (h .past) (h .next) (sound h accepted .past) (getD (windowOf (h .settings .config) (h .next)) m 0 - 1) g heard in
+      let p = calls-one-to-one (h .settings) (h .next) call-accepted .into m (g .cce .0) inside low in
+      (record { 0 = p .0 }, p .3 .there)
+
+  -- The answer due is silence exactly for 01's causes: bundled, U = 0 or a miss shown; multiplexed, every position D.
+  pub due-silent : (dueOf h ≡ Silent) ↔ SilentCause (h .settings) (h .next) (viewAgo (h .past))
+  unfolding dueOf answerOf downlink
+  due-silent =
+      let exactly = silent-cause (h .settings) (h .next) (viewAgo (h .past)) heard-mapped (sound h accepted .settings) window in
+      rw (window-uplink (h .settings .config) (h .next) window) exactly
