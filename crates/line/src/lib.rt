@@ -1,7 +1,7 @@
 // A text of at most 100 bytes, filled byte by byte, and numbers in decimal: what `listing` and `printing` write with.
 ghost use mathlib.Core.Path.{_≡_};
-ghost use mathlib.Core.List.{[]};
-ghost use Rattle.line.specs.Decimal.{digitOf, decimal};
+ghost use mathlib.Core.List.{[], _++_};
+ghost use Rattle.line.specs.Decimal.{digitOf, decimal, listed};
 ghost use Rattle.line.specs.Put.{paged, putOf, added};
 
 // A text of at most 100 bytes, its length and its bytes; the bytes after it are 0.
@@ -64,4 +64,24 @@ pub fn put_number(p: Line, x: u16) -> Line
         return put(p, digit(x));
     }
     put(put(p, digit(x / 10)), digit(x))
+}
+
+// The line with a text, then a number.
+pub fn put_labelled(p: Line, text: &[u8], x: u16) -> Line
+    ensures { λ r. ⌜ r ≡ added p (now (text .entry) ++ decimal x) ⌝ }
+{
+    put_number(put_text(p, text), x)
+}
+
+// The line with numbers, a text before each.
+pub fn put_listed(p: Line, text: &[u8], xs: &[u16]) -> Line
+    ensures { λ r. ⌜ r ≡ added p (listed (now (text .entry)) (now (xs .entry))) ⌝ }
+{
+    let mut line = p;
+    let mut i: usize = 0;
+    while i < xs.len() {
+        line = put_labelled(line, text, xs[i]);
+        i += 1;
+    }
+    line
 }

@@ -13,17 +13,17 @@ use Rattle.frame.proofs.Below.{below, below-at}
 use Rattle.frame.specs.Table.{table, windowOf}
 use Rattle.io.specs.Counts.{Counts}
 use Rattle.line.proofs.Paged.{alone}
-use Rattle.line.specs.Decimal.{decimal}
+use Rattle.line.specs.Decimal.{decimal, listed}
 use Rattle.line.specs.Put.{paged, added}
 use Rattle.line.specs.declared.Line.{Line}
-use Rattle.listing.specs.Page.{spaced, line, lineOf, linesBelow, refusal, accepted, pageOf}
+use Rattle.listing.specs.Page.{line, lineOf, linesBelow, refusal, accepted, pageOf}
 
 -- the lines of configuration c have room on a page
 abbrev roomFor : ℕ → Bool
 roomFor c = leb (length (linesBelow 10 c)) 100
 
 room-tested : T (below 7 roomFor)
-unfolding table windowOf decimal spaced line lineOf linesBelow
+unfolding table windowOf decimal listed line lineOf linesBelow
 room-tested = tt
 
 -- what `page_for` promises of its result r
@@ -59,10 +59,10 @@ unfolding pageOf
 refused input r h p = answered input refusal r (rw (not-accepted input h)) (lit≤ tt) p
 
 -- The answer to an input that is accepted.
-pub listed : (input : List ℕ) (r : Line) → Meets input
+pub lines : (input : List ℕ) (r : Line) → Meets input
     → r ≡ added (paged []) (linesBelow 10 (getD input 0 0 - 48)) → Answered input r
 unfolding pageOf accepted
-listed input r h p =
+lines input r h p =
     let c = getD input 0 0 - 48 in
     answered input (linesBelow 10 c) r
     (simp (eq-eqb _ _ (h .0), le-leb _ _ (h .1), le-leb _ _ (h .2), eq-eqb _ _ (h .3)))

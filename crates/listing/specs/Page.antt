@@ -6,16 +6,11 @@ use mathlib.Core.List.{List, [], _∷_, _++_}
 use lib.Dec.{eqb, leb}
 use lib.ListN.{length, getD}
 use Rattle.frame.specs.Table.{windowOf}
-use Rattle.line.specs.Decimal.{decimal}
+use Rattle.line.specs.Decimal.{decimal, listed}
 
--- Numbers in decimal, a space (32) before each.
-unfoldable pub spaced : List ℕ → List ℕ
-spaced [] = []
-spaced (x ∷ xs) = 32 ∷ decimal x ++ spaced xs
-
--- The line of a window: "c n M k_0 k_1 ..", ended by a newline (10).
+-- The line of a window: "c n M k_0 k_1 ..", a space (32) before each number but the first, ended by a newline (10).
 unfoldable pub line : ℕ → ℕ → List ℕ → List ℕ
-line c n ks = decimal c ++ spaced (n ∷ length ks ∷ ks) ++ 10 ∷ []
+line c n ks = decimal c ++ listed (32 ∷ []) (n ∷ length ks ∷ ks) ++ 10 ∷ []
 
 -- The line of subframe n in configuration c; nothing where n has no window.
 unfoldable pub lineOf : ℕ → ℕ → List ℕ

@@ -1,42 +1,16 @@
 // The text that the program `windows` prints (document 01, "Buyers' access"). A page is a `Line` that holds all lines of the text.
-use frame::Window;
 use line::Line;
 use line::empty;
 use line::put;
+use line::put_labelled;
+use line::put_listed;
 use line::put_number;
 use line::put_text;
-ghost use Prim.Native.Nat.{_≤_};
 ghost use mathlib.Core.Path.{_≡_};
-ghost use mathlib.Core.List.{[], _∷_};
-ghost use lib.ListN.{length, take};
+ghost use mathlib.Core.List.{[]};
 ghost use Rattle.io.specs.Counts.{Counts};
-ghost use Rattle.line.specs.Decimal.{decimal};
 ghost use Rattle.line.specs.Put.{paged, added};
-ghost use Rattle.listing.specs.Page.{spaced, lineOf, linesBelow, refusal, pageOf};
-
-// The page with a space and a number.
-fn put_spaced(p: Line, x: u16) -> Line
-    ensures { λ r. ⌜ r ≡ added p (32 ∷ decimal x) ⌝ }
-{
-    put_number(put(p, b' '), x)
-}
-
-// The page with the K of a window in the print's order, a space before each.
-fn put_window(p: Line, w: Window) -> Line
-    requires { ⌜ w .size ≤ 9 ⌝ }
-    requires { ⌜ length (w .k) ≡ 9 ⌝ }
-    ensures { λ r. ⌜ r ≡ added p (spaced (take (w .size) (w .k))) ⌝ }
-{
-    let size = w.size as usize;
-    let k = w.k;
-    let mut page = p;
-    let mut m: usize = 0;
-    while m < size {
-        page = put_spaced(page, k[m]);
-        m += 1;
-    }
-    page
-}
+ghost use Rattle.listing.specs.Page.{lineOf, linesBelow, refusal, pageOf};
 
 // The page with the line of subframe n in configuration c; the page as it is where n has no window.
 fn put_line(p: Line, c: u16, n: u16) -> Line
@@ -46,8 +20,10 @@ fn put_line(p: Line, c: u16, n: u16) -> Line
     if w.size == 0 {
         return p;
     }
-    let start = put_spaced(put_spaced(put_number(p, c), n), w.size);
-    put(put_window(start, w), b'\n')
+    let size = w.size as usize;
+    let k = w.k;
+    let start = put_labelled(put_labelled(put_number(p, c), b" ", n), b" ", w.size);
+    put(put_listed(start, b" ", &k[..size]), b'\n')
 }
 
 // The lines of configuration c, subframes 0 to 9 in order.

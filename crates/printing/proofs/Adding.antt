@@ -1,18 +1,16 @@
--- A column put on a line as its text and its spaces, a list number by number, and a row column by column.
+-- A column put on a line as its text and its spaces, and a row column by column.
 -- Assumes nothing.
-use Prim.Native.Nat.{ℕ, zero, suc, _+_, _-_, _<_, _≤_}
+use Prim.Native.Nat.{ℕ, zero, suc, _+_, _-_}
 use mathlib.Core.List.{List, [], _∷_, _++_, append-nil, append-assoc}
 use mathlib.Core.Path.{_≡_, refl, ap, _∙_}
 use native.Mathlib.Nat.{sub-zero, suc-sub-suc, zero-sub}
 use native.Mathlib.Numerals.{add-one}
 use lib.ListN.{length, getD}
-use lib.Seq.{slice, slice-cons}
 use Rattle.frame.specs.Table.{windowOf}
 use Rattle.line.proofs.Adding.{added-append}
-use Rattle.line.specs.Decimal.{decimal}
 use Rattle.line.specs.Put.{added}
 use Rattle.line.specs.declared.Line.{Line}
-use Rattle.printing.specs.Text.{bytes, cell, listed, kText, widths, cellsBelow}
+use Rattle.printing.specs.Text.{cell, kText, widths, cellsBelow}
 
 -- A text, then the spaces of its column.
 cell-spaces : (w : ℕ) (t : List ℕ) → t ++ cell (w - length t) [] ≡ cell w t
@@ -24,14 +22,6 @@ cell-spaces (suc w) (b ∷ t) = ap (λ s. b ∷ s) (rw suc-sub-suc (cell-spaces 
 
 pub added-cell : (p : Line) (w : ℕ) (t : List ℕ) → added (added p t) (cell (w - length t) []) ≡ added p (cell w t)
 added-cell p w t = added-append p t (cell (w - length t) []) ∙ ap (added p) (cell-spaces w t)
-
--- A number of a list, then those after it.
-pub added-listed : (p : Line) (k : List ℕ) (m size : ℕ) → m < size → size ≤ length k
-    → added (added p (bytes ", " ++ decimal (getD k m 0))) (listed (slice (m + 1) size k)) ≡ added p (listed (slice m size k))
-unfolding listed
-added-listed p k m size h l =
-    rw (add-one, slice-cons m size k 0)
-    (added-append p (bytes ", " ++ decimal (getD k m 0)) (listed (slice (suc m) size k)))
 
 -- The columns of the subframes below n, then that of n.
 pub added-cells : (p : Line) (c n : ℕ) (t : List ℕ)

@@ -14,12 +14,12 @@ use Rattle.frame.proofs.Lists.{entry}
 use Rattle.frame.specs.Table.{table, windowOf}
 use Rattle.io.specs.Counts.{Counts}
 use Rattle.line.proofs.Paged.{alone}
-use Rattle.line.specs.Decimal.{decimal}
+use Rattle.line.specs.Decimal.{decimal, listed}
 use Rattle.line.specs.Put.{paged, added}
 use Rattle.line.specs.declared.Line.{Line}
 use Rattle.symbols.specs.Coded.{noRow}
 use Rattle.symbols.specs.Selection.{table2, table3, table4, tableOf}
-use Rattle.printing.specs.Text.{cell, listed, kText, cellsBelow, windowRow, windowTable}
+use Rattle.printing.specs.Text.{cell, kText, cellsBelow, windowRow, windowTable}
 use Rattle.printing.specs.Text.{words, said, symbolRow, title, heading, symbolTable, allLines, ended, lineText}
 use Rattle.printing.proofs.Every.{every, every-at}
 

@@ -1,24 +1,23 @@
 -- The K of a window, put on a line number by number, is K as printed; and it has room there, by a test of every row of Table 10.1-1
 -- that antt computes.
 -- Assumes nothing.
-use Prim.Native.Nat.{ℕ, _<_, _≤_}
+use Prim.Native.Nat.{ℕ, _-_, _<_, _≤_}
 use mathlib.Core.List.{List, [], _∷_}
 use mathlib.Core.Path.{_≡_, refl}
-use native.Mathlib.Nat.{le-of-suc-le-suc, not-suc-le-zero}
+use native.Mathlib.Nat.{le-of-suc-le-suc, not-suc-le-zero, sub-zero, suc-sub-suc}
 use native.Mathlib.Omega.{arith}
 use lib.Dec.{T, leb, lit≤}
-use lib.ListN.{length, getD, take}
-use lib.Seq.{slice}
+use lib.ListN.{length, getD, take, drop}
 use Rattle.frame.proofs.Windows.{everyRow, window-passes}
 use Rattle.frame.specs.Coded.{padded}
 use Rattle.frame.specs.Table.{table, windowOf}
 use Rattle.io.specs.Counts.{Counts}
 use Rattle.line.proofs.Adding.{added-append}
 use Rattle.line.proofs.Paged.{alone, take-padded}
-use Rattle.line.specs.Decimal.{decimal}
+use Rattle.line.specs.Decimal.{decimal, listed}
 use Rattle.line.specs.Put.{paged, putOf, added}
 use Rattle.line.specs.declared.Line.{Line}
-use Rattle.printing.specs.Text.{listed, kText}
+use Rattle.printing.specs.Text.{bytes, kText}
 
 -- No window: the dash (45).
 pub added-none : (p : Line) (ks : List ℕ) → length ks ≡ 0 → putOf p 45 ≡ added p (kText ks)
@@ -28,10 +27,12 @@ added-none p (k ∷ ks) h = absurd (omega arith)
 
 -- The first number of a window, then the others.
 pub added-window : (p : Line) (ks : List ℕ) → 0 < length ks → length ks ≤ 9
-    → added (added p (decimal (getD (padded 9 ks) 0 0))) (listed (slice 1 (length ks) (padded 9 ks))) ≡ added p (kText ks)
+    → added (added p (decimal (getD (padded 9 ks) 0 0))) (listed (bytes ", ") (take (length ks - 1) (drop 1 (padded 9 ks))))
+    ≡ added p (kText ks)
 unfolding kText
 added-window p [] l h = absurd (not-suc-le-zero l)
-added-window p (k ∷ ks) l h = rw (take-padded 8 ks (le-of-suc-le-suc h)) (added-append p (decimal k) (listed ks))
+added-window p (k ∷ ks) l h =
+    rw (suc-sub-suc, sub-zero, take-padded 8 ks (le-of-suc-le-suc h)) (added-append p (decimal k) (listed (bytes ", ") ks))
 
 room-tested : T (everyRow (λ c n ks. leb (length (kText ks)) 100) table)
 unfolding table decimal listed kText

@@ -7,7 +7,7 @@ use Prim.Native.String.{String, [] as []ˢ, _∷_ as _∷ˢ_}
 use mathlib.Core.List.{List, [], _∷_, _++_, map}
 use lib.ListN.{getD, take}
 use Rattle.frame.specs.Table.{windowOf}
-use Rattle.line.specs.Decimal.{digitOf, decimal}
+use Rattle.line.specs.Decimal.{digitOf, decimal, listed}
 use Rattle.symbols.specs.Selection.{Mark, ACK, NACK, DTX, NACK/DTX, Row, tableOf}
 use Rattle.symbols.specs.declared.Symbol.the-variants.{Sent, Silent}
 use Rattle.symbols.specs.declared.Symbol.{Symbol}
@@ -25,15 +25,10 @@ cell (suc w) (b ∷ t) = b ∷ cell w t
 
 -- Table 10.1-1.
 
--- Numbers in decimal, a comma and a space before each.
-unfoldable pub listed : List ℕ → List ℕ
-listed [] = []
-listed (k ∷ ks) = (bytes ", " ++ decimal k) ++ listed ks
-
 -- K as printed, "8, 7, 4, 6"; "-" where there is no window.
 unfoldable pub kText : List ℕ → List ℕ
 kText [] = bytes "-"
-kText (k ∷ ks) = decimal k ++ listed ks
+kText (k ∷ ks) = decimal k ++ listed (bytes ", ") ks
 
 -- The widths of the columns of subframes 0 to 9.
 abbrev pub widths : List ℕ

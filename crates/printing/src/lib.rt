@@ -1,25 +1,25 @@
-// The text that the program `tables` prints: Tables 10.1-1 to 10.1-4 of TS 36.213 from the data that the engine uses.
-use frame::Window;
+// The text that the program `tables` prints: Table 10.1-1 of TS 36.213 from the rows that replies look up (`frame::window_of`),
+// Tables 10.1-2 to 10.1-4 from the rows that the engine's lookups are proved equal to (`symbols::table_row`).
 use line::Line;
 use line::digit;
 use line::empty;
 use line::put;
+use line::put_labelled;
+use line::put_listed;
 use line::put_number;
 use line::put_text;
 use symbols::Symbol;
 ghost use Prim.Native.Nat.{_≤_, _<_};
 ghost use mathlib.Core.Path.{_≡_};
-ghost use mathlib.Core.List.{[], _++_};
+ghost use mathlib.Core.List.{[]};
 ghost use lib.ListN.{length, getD};
-ghost use lib.Seq.{slice};
 ghost use Rattle.frame.specs.Table.{windowOf};
 ghost use Rattle.io.specs.Counts.{Counts};
-ghost use Rattle.line.specs.Decimal.{decimal};
 ghost use Rattle.line.specs.Put.{paged, added};
 ghost use Rattle.symbols.specs.Coded.{noRow};
 ghost use Rattle.symbols.specs.Selection.{tableOf};
 ghost use Rattle.printing.specs.Column.{columnOf};
-ghost use Rattle.printing.specs.Text.{cell, listed, kText, widths, windowRow, windowTable};
+ghost use Rattle.printing.specs.Text.{cell, kText, widths, windowRow, windowTable};
 ghost use Rattle.printing.specs.Text.{said, symbolRow, title, heading, symbolTable, allLines, lineText};
 
 // The line with a text in a column, spaces after it up to the column's width.
@@ -35,30 +35,6 @@ fn put_cell(p: Line, text: &[u8], width: usize) -> Line
     line
 }
 
-// The line with a text, then a number.
-fn put_labelled(p: Line, text: &[u8], x: u16) -> Line
-    ensures { λ r. ⌜ r ≡ added p (now (text .entry) ++ decimal x) ⌝ }
-{
-    put_number(put_text(p, text), x)
-}
-
-// The line with the K of a window after its first, a comma and a space before each.
-fn put_listed(p: Line, w: Window) -> Line
-    requires { ⌜ (0 < w .size) × (w .size ≤ 9) ⌝ }
-    requires { ⌜ length (w .k) ≡ 9 ⌝ }
-    ensures { λ r. ⌜ r ≡ added p (listed (slice 1 (w .size) (w .k))) ⌝ }
-{
-    let size = w.size as usize;
-    let k = w.k;
-    let mut line = p;
-    let mut m: usize = 1;
-    while m < size {
-        line = put_labelled(line, b", ", k[m]);
-        m += 1;
-    }
-    line
-}
-
 // K of subframe n in configuration c as printed.
 fn k_text(c: u16, n: u16) -> Line
     ensures { λ r. ⌜ r ≡ paged (kText (windowOf c n)) ⌝ }
@@ -68,8 +44,9 @@ fn k_text(c: u16, n: u16) -> Line
     if w.size == 0 {
         return put(empty(), b'-');
     }
+    let size = w.size as usize;
     let k = w.k;
-    put_listed(put_number(empty(), k[0]), w)
+    put_listed(put_number(empty(), k[0]), b", ", &k[1..size])
 }
 
 // The columns of subframes 0 to 9 of Table 10.1-1 have these widths.

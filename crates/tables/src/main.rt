@@ -1,4 +1,5 @@
-// Writes Tables 10.1-1 to 10.1-4 of TS 36.213 from the data that the engine uses, to be read against the print.
+// Writes Tables 10.1-1 to 10.1-4 of TS 36.213, to be read against the print: the first from the rows that replies look up, the
+// others from the rows that the engine's lookups are proved equal to.
 use libc::STDOUT_FILENO;
 
 fn main() {

@@ -2,7 +2,7 @@
 -- Assumes nothing.
 use native.Mathlib.Omega.{arith}
 use borrow.Author.Needs.{needs}
-use Rattle.listing.proofs.Answers.{refused, listed}
+use Rattle.listing.proofs.Answers.{refused, lines}
 use Rattle.listing.proofs.page_for.Statement.{statement}
 use Rattle.listing.proofs.page_for.Tie as tie
 
@@ -43,7 +43,7 @@ lines-of-requires : tie.Need-lines-of-requires
 lines-of-requires c κs = search needs
 
 returns-5 : tie.Need-returns-5
-returns-5 c = listed _ _ (omega arith) (c .lines-of .ensures)
+returns-5 c = lines _ _ (omega arith) (c .lines-of .ensures)
 
 pub page-for-spec : {M : Type 1} → statement M
 page-for-spec =

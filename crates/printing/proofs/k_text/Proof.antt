@@ -31,6 +31,9 @@ returns c =
     k-alone (a .c) (a .n) (c .put .result)
     (rw (c .put .ensures, c .before .empty .ensures) (added-none (paged []) (windowOf (a .c) (a .n)) e))
 
+cast-size : tie.Need-cast-size
+cast-size c = search needs
+
 empty-requires-2 : tie.Need-empty-requires-2
 empty-requires-2 c κs = search needs
 
@@ -40,22 +43,33 @@ array-read-put-number c = search needs
 put-number-requires : tie.Need-put-number-requires
 put-number-requires c κs = search needs
 
-put-listed-requires : tie.Need-put-listed-requires
-put-listed-requires c κs =
-    let w = c .before .before .before .before .before in
+slice-aggregate-put-listed : tie.Need-slice-aggregate-put-listed
+slice-aggregate-put-listed c = search needs
+
+sub-put-listed : tie.Need-sub-put-listed
+sub-put-listed c = search needs
+
+part-put-listed-start : tie.Need-part-put-listed-start
+part-put-listed-start c = search needs
+
+part-put-listed-end : tie.Need-part-put-listed-end
+part-put-listed-end c =
+    let w = c .before .before .before .before .before .before .before .before in
     let a = w .before .args in
-    let e = w .window-of .ensures in
-    ((omega arith, rw e (window-size (a .c) (a .n))), rw e (length-padded 9 (windowOf (a .c) (a .n))))
+    rw (w .window-of .ensures, length-padded 9 (windowOf (a .c) (a .n))) (window-size (a .c) (a .n))
+
+put-listed-requires : tie.Need-put-listed-requires
+put-listed-requires c κs = search needs
 
 returns-2 : tie.Need-returns-2
 returns-2 c =
-    let t = c .before .before .before .before in
-    let w = t .before .before in
+    let k = c .before .before .before .before in
+    let w = k .before .before .before .before .before .before in
     let a = w .before .args in
     let e = w .window-of .ensures in
     let h : 0 < w .window-of .result .size = omega arith in
     k-alone (a .c) (a .n) (c .put-listed .result)
-    (rw (c .put-listed .ensures, c .before .put-number .ensures, c .before .before .empty2 .ensures, e)
+    (rw (c .put-listed .ensures, k .put-number .ensures, k .before .empty2 .ensures, e)
     (added-window (paged []) (windowOf (a .c) (a .n)) (rw e at h) (window-size (a .c) (a .n))))
 
 pub k-text-spec : {M : Type 1} → statement M
@@ -66,8 +80,13 @@ k-text-spec =
     empty-requires
     put-requires
     returns
+    cast-size
     empty-requires-2
     array-read-put-number
     put-number-requires
+    slice-aggregate-put-listed
+    sub-put-listed
+    part-put-listed-start
+    part-put-listed-end
     put-listed-requires
     returns-2)

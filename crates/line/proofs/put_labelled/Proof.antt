@@ -1,9 +1,9 @@
--- `printing::put_labelled` meets its contract: the text, then the number.
+-- `line::put_labelled` meets its contract: the text, then the number.
 -- Assumes nothing.
 use borrow.Author.Needs.{needs}
 use Rattle.line.proofs.Adding.{added-append}
-use Rattle.printing.proofs.put_labelled.Statement.{statement}
-use Rattle.printing.proofs.put_labelled.Tie as tie
+use Rattle.line.proofs.put_labelled.Statement.{statement}
+use Rattle.line.proofs.put_labelled.Tie as tie
 
 put-text-requires : tie.Need-put-text-requires
 put-text-requires c κs = search needs
