@@ -86,3 +86,30 @@ module _ (s : Settings) (n size : ℕ) (read : size ≡ sizeOf s n) where
         size-asked (sizeOf s n) (window-size (s .config) n),
         in-turn (settingsRefusal s) (noWindowRefusal (sizeOf s n)) (rangeRefusal (s .nrb) (s .n1) (sizeOf s n) r),
       )
+
+  -- The two calls where the settings are accepted: 7 where M is 0, else the answer in a window of M positions.
+  module _ (k : ℕ) (asked : k ≡ settingsRefusal s) (none : k ≡ 0) where
+    no-window : size ≡ 0 → outside 1 9 size ≡ true
+    no-window e = rw e
+
+    pub window-refused : (m c : ℕ) → size ≡ 0 → mapped.Refused 7 ≡ resourceOf s n m c
+    window-refused m c e = size-refused s size k asked none m c (no-window e) ∙ resource-told m c
+
+    pub window-refused-back : (r : ℕ) → size ≡ 0 → inverted.Refused 7 ≡ inverseOf s n r
+    window-refused-back r e = size-refused-back s size k asked none r (no-window e) ∙ inverse-told r
+
+    module _ (some : size ≡ 0 → ⊥) where
+      least : 1 ≤ size
+      least = omega (arith, some)
+
+      most : size ≤ 9
+      most = rw read (window-size (s .config) n)
+
+      pub window-cell : Cell (s .nrb) (s .n1) size
+      window-cell = sized-cell s size k asked none least most
+
+      pub window-answered : (m c : ℕ) → resourceIn (s .nrb) (s .n1) size m c ≡ resourceOf s n m c
+      window-answered m c = sized-answered s size k asked none least most m c ∙ resource-told m c
+
+      pub window-answered-back : (r : ℕ) → inverseIn (s .nrb) (s .n1) size r ≡ inverseOf s n r
+      window-answered-back r = sized-answered-back s size k asked none least most r ∙ inverse-told r

@@ -61,7 +61,15 @@ pub enum Inverted {
 pub fn resource_of(s: Settings, n: u16, m: u16, c: Cce) -> Mapped
     ensures { λ r. ⌜ r ≡ resourceOf s n m (c .0) ⌝ }
 {
-    resource_sized(s, frame::size_of(s.config, n), m, c)
+    let refusal = frame::settings_refusal(s);
+    if refusal != 0 {
+        return Mapped::Refused(refusal);
+    }
+    let size = frame::size_of(s.config, n);
+    if size == 0 {
+        return Mapped::Refused(7);
+    }
+    resource_in(s, size, m, c)
 }
 
 // The same where the window's size M is told, for a caller that has looked it up; 7 where M is not 1 to 9.
@@ -85,7 +93,15 @@ pub fn resource_sized(s: Settings, size: u16, m: u16, c: Cce) -> Mapped
 pub fn inverse_of(s: Settings, n: u16, r: Resource) -> Inverted
     ensures { λ p. ⌜ p ≡ inverseOf s n (r .0) ⌝ }
 {
-    inverse_sized(s, frame::size_of(s.config, n), r)
+    let refusal = frame::settings_refusal(s);
+    if refusal != 0 {
+        return Inverted::Refused(refusal);
+    }
+    let size = frame::size_of(s.config, n);
+    if size == 0 {
+        return Inverted::Refused(7);
+    }
+    inverse_in(s, size, r)
 }
 
 // The same where the window's size M is told; 7 where M is not 1 to 9.

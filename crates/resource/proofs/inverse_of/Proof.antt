@@ -1,18 +1,39 @@
--- `resource::inverse_of` meets its contract: it is the call with M told, at the M of the window. Assumes nothing.
-use mathlib.Core.Path.{_∙_}
+-- `resource::inverse_of` meets its contract: 1 to 6 and 7 first, then the answer in a window of that size. Assumes nothing.
+use mathlib.Core.Path.{refl, _∙_}
 use borrow.Author.Needs.{needs}
-use Rattle.resource.proofs.Sized.{inverse-told}
+use Rattle.resource.proofs.Sized.{settings-refused-back, window-refused-back, window-cell, window-answered-back, inverse-told}
 use Rattle.resource.proofs.inverse_of.Statement.{statement}
 use Rattle.resource.proofs.inverse_of.Tie as tie
+
+settings-refusal-requires : tie.Need-settings-refusal-requires
+settings-refusal-requires c κs = search needs
+
+returns : tie.Need-returns
+returns c = settings-refused-back _ _ _ _ (c .before .settings-refusal .ensures) (c .if1 .taken) ∙ inverse-told _ _ _ refl _
 
 size-of-requires : tie.Need-size-of-requires
 size-of-requires c κs = search needs
 
-inverse-sized-requires : tie.Need-inverse-sized-requires
-inverse-sized-requires c κs = search needs
+returns-2 : tie.Need-returns-2
+returns-2 c =
+    let size = c .before in
+    let settings = size .before in
+    window-refused-back _ _ _ (size .size-of .ensures) _ (settings .before .settings-refusal .ensures) (settings .if1 .left) _ (c .if2 .taken)
 
-returns : tie.Need-returns
-returns c = c .inverse-sized .ensures ∙ inverse-told _ _ _ (c .before .size-of .ensures) _
+inverse-in-requires : tie.Need-inverse-in-requires
+inverse-in-requires c κs =
+    let size = c .before in
+    let settings = size .before in
+    window-cell _ _ _ (size .size-of .ensures) _ (settings .before .settings-refusal .ensures) (settings .if1 .left) (c .if2 .left)
+
+returns-3 : tie.Need-returns-3
+returns-3 c =
+    let size = c .before .before in
+    let settings = size .before in
+    c .inverse-in .ensures
+    ∙ window-answered-back _ _ _ (size .size-of .ensures) _ (settings .before .settings-refusal .ensures) (settings .if1 .left) (c .before .if2 .left) _
 
 pub inverse-of-spec : {M : Type 1} → statement M
-inverse-of-spec = tie.close (tie.spec size-of-requires inverse-sized-requires returns)
+inverse-of-spec =
+    tie.close
+    (tie.spec settings-refusal-requires returns size-of-requires returns-2 inverse-in-requires returns-3)
