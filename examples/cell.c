@@ -79,15 +79,19 @@ static struct feedback_fed feed(struct cell *cell, unsigned s, unsigned loss)
  * the handset would have kept silent. So the ACK holds for all grants up to the named one. If it
  * is the fifth or a later one, four grants before it (or eight) may have been lost: the DAI
  * counts 1 2 3 4 1 2 .. and looks as if none had been. Then only the named grant was surely
- * heard, and only its blocks may leave. Grants sent after the named one were lost.
+ * heard, and only its blocks may leave. Grants sent after the named one were lost. A grant with
+ * one block counts for both bits, so either ACK confirms it.
  */
 static int leaves(struct feedback_reading_answer reading, const struct grant *named,
                   const struct grant *grant, unsigned i)
 {
     if (reading.kind == FEEDBACK_MULTIPLEXED)
         return reading.delivered >> grant->position & 1;
-    int holds = grant == named || (grant->order < named->order && named->order <= 4);
-    return holds && (i == 0 ? reading.b0 : reading.b1);
+    if (grant != named && (grant->order > named->order || named->order > 4))
+        return 0;
+    if (grant->blocks == 1)
+        return reading.b0 || reading.b1;
+    return i == 0 ? reading.b0 : reading.b1;
 }
 
 /* Uplink subframe s: prints the line of its window, and counts what was read wrongly. */
@@ -115,7 +119,9 @@ static void answer(struct cell *cell, unsigned s, struct feedback_fed fed)
                      named->cce != reading.cce || (reading.delivered & ~window.position_bits) != 0;
     printf("%*s| bits %u%u on %-3u | %u CCE %-2u %-9s |", blanks, "", fed.b0, fed.b1, fed.resource,
            (s + 20 - row[reading.position]) % 10, reading.cce,
-           reading.kind == FEEDBACK_MULTIPLEXED ? "delivered" : acks[2 * reading.b0 + reading.b1]);
+           reading.kind == FEEDBACK_BUNDLED ? acks[2 * reading.b0 + reading.b1]
+           : reading.delivered != 0         ? "delivered"
+                                            : "none");
     for (unsigned k = 13; k >= 4; k--)
         for (unsigned i = 0; i < window.at[k].blocks; i++)
             if (leaves(reading, named, &window.at[k], i)) {
@@ -140,6 +146,7 @@ static int run(const uint16_t plan[ARGUMENTS])
     struct cell cell = {.handset = made.handset, .random = plan[SEED]};
     printf("\nconfiguration %u, %s, %u frames, %u %% of the grants lost, seed %u\n"
            "blocks a and b of a subframe: + decoded, x heard but not decoded, ? lost; - no grant\n"
+           "reply: bits on a PUCCH resource; reading: the grant named, by subframe and first CCE\n"
            "frame.n |%-*s| reply          | reading            | blocks that leave the buffer\n",
            plan[CONFIG], plan[MODE] == 0 ? "bundling" : "multiplexing", plan[FRAMES], plan[LOSS],
            plan[SEED], plan[CONFIG] == 5 ? 55 : 25, " subframes in time order");
@@ -163,7 +170,8 @@ int main(int argc, char **argv)
         long value = strtol(argv[i], &end, 10);
         long most = i - 1 == LOSS ? 100 : 65535;
         if (i > ARGUMENTS || end == argv[i] || *end != '\0' || value < 0 || value > most) {
-            fprintf(stderr, "%s; refused argument %d: too many, or not 0 to %ld\n", usage, i, most);
+            fprintf(stderr, "%s; refused argument %d: one too many, or not a number 0 to %ld\n",
+                    usage, i, most);
             return 2;
         }
         runs[0][i - 1] = (uint16_t)value;

@@ -5,7 +5,8 @@
  * reads what came in on PUCCH and says which grants are acknowledged. The rules
  * are those of 3GPP TS 36.213 version 9.3.0 (Release 9), sections 7.3 and 10.1,
  * for one serving cell with normal dynamic grants and PUCCH formats 1a, 1b and
- * 1b with channel selection. Link with libfeedback.a.
+ * 1b with channel selection. Link with libfeedback.a, which is built for x86-64
+ * with the System V calling convention.
  *
  *   calls of the station    feedback_resource, feedback_inverse,
  *                           feedback_reading, feedback_claims
@@ -36,6 +37,8 @@
  *             5               DSUDDDDDDD    2: 13,12,9,8,7,5,4,11,6
  *             6               DSUUUDSUUD    2: 7    3: 7    4: 5    7: 7    8: 7
  *
+ *             No call gives K: a caller has it from here. examples/cell.c has it
+ *             as an array.
  * position    m, 0 to M - 1, counted in K as printed. K is not sorted: the last
  *             position need not be the latest subframe. In 8,7,4,6 the latest is
  *             m = 2. Time order inside a window is k falling.
@@ -180,7 +183,8 @@ struct feedback_reading_answer {
     uint16_t position;  /* the position m of the grant whose resource this is; 0 if refused */
     uint16_t cce;       /* the first CCE of that grant; 0 if refused */
     uint16_t b0;        /* bundled: 1 ACK of the first block, 0 NACK; else 0 */
-    uint16_t b1;        /* bundled: 1 ACK of the second block, 0 NACK; else 0 */
+    uint16_t b1;        /* bundled: 1 ACK of the second block, 0 NACK, and 0 in a one-bit
+                           reply; else 0 */
     uint16_t delivered; /* multiplexed: bit p (value 1 << p) is 1 if position p is delivered;
                            else 0 */
 };
@@ -274,13 +278,14 @@ struct feedback_inverse_answer feedback_inverse(struct feedback_settings setting
  * The answer names a position and a first CCE: the grant whose resource this is.
  *
  * Bundled: that is the last grant the handset heard. A bit is ACK exactly when
- * every grant that the handset HEARD in this window decoded that block (a grant
- * with one block counts with it for both bits). With DAIs by the rule above,
- * grants sent before the last one heard can be lost unnoticed, but then four or
- * eight of them in all, where the DAI comes round to the same value. So, if at
- * most four grants of the window were sent up to and with the one named here, all
- * of these were heard and an ACK holds for all of them. If more were sent, it is
- * sure for the named grant alone. Grants sent after it were lost.
+ * every grant that the handset HEARD in this window decoded that block. A grant
+ * with one block counts with it for both bits, so either ACK confirms it. With
+ * DAIs by the rule above, grants sent before the last one heard can be lost
+ * unnoticed, but then four or eight of them in all, where the DAI comes round to
+ * the same value. So, if at most four grants of the window were sent up to and
+ * with the one named here, all of these were heard and an ACK holds for all of
+ * them. If more were sent, it is sure for the named grant alone. Grants sent
+ * after it were lost.
  *
  * Multiplexed: delivered has the positions that are A (every block carried was
  * decoded) in every state of the window that sends this symbol. Where states
@@ -325,7 +330,9 @@ struct feedback_claims_answer feedback_claims(struct feedback_settings settings,
 
 /*
  * A fresh handset. It expects subframe 0; the 13 subframes before it count as
- * unheard.
+ * unheard. To start elsewhere in the frame, set next: that is the state to which
+ * as many feeds of nothing lead. When the settings of the cell change, make a
+ * fresh handset.
  *
  *   settings   the settings of the cell
  *
@@ -376,7 +383,7 @@ struct feedback_fed feedback_feed_grant(struct feedback_handset handset, uint16_
 #elif defined(__STDC_VERSION__) && __STDC_VERSION__ >= 201112L
 #define FEEDBACK_LAYOUT(condition) _Static_assert(condition, #condition);
 #else
-#define FEEDBACK_LAYOUT(condition)
+#define FEEDBACK_LAYOUT(condition) extern char feedback_layout[(condition) ? 1 : -1];
 #endif
 #define FEEDBACK_SIZE(type, size) FEEDBACK_LAYOUT(sizeof(struct type) == size)
 #define FEEDBACK_PLACE(type, field, place) FEEDBACK_LAYOUT(offsetof(struct type, field) == place)
