@@ -14,13 +14,14 @@ fn cells(nrb: u16, n1: u16) -> impl Iterator<Item = Settings> {
     })
 }
 
-/// A handset that has heard nothing and expects a subframe.
+/// A handset that has heard nothing and expects a subframe: a fresh one with `next`
+/// set, as the header says.
 fn expecting(comparison: &mut Comparison, settings: Settings, subframe: u16) -> Handset {
     let mut handset = comparison.make(settings);
     for _ in 0..subframe {
         handset = comparison.feed(handset, None).handset;
     }
-    assert_eq!(handset.next, subframe);
+    assert_eq!(handset, Handset { next: subframe, ..Handset::fresh(settings) });
     handset
 }
 

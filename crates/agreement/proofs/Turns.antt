@@ -11,11 +11,12 @@ use lib.Dec.{eqb}
 use lib.ListN.{length, getD, List·getD-eq-default}
 use borrow.Author.Tests.{eq-eqb, ne-eqb, le-leb, lt-leb}
 use Rattle.frame.specs.declared.Settings.{Settings}
-use Rattle.frame.specs.Layout.{carries, downlink}
-use Rattle.frame.specs.Settings.{bundles, settingsRefusal, noWindowRefusal, windowRefusal}
+use Rattle.frame.specs.Layout.{downlink}
+use Rattle.frame.specs.Settings.{bundles, settingsRefusal}
 use Rattle.frame.specs.Table.{windowOf}
 use Rattle.frame.proofs.Accepted.{Accepted, accepted}
-use Rattle.frame.proofs.Windows.{window-uplink, small-windows}
+use Rattle.frame.proofs.Causes.{window-accepted}
+use Rattle.frame.proofs.Windows.{window-uplink, multiplexed-size}
 use Rattle.resource.specs.Calls.{resourceOf}
 use Rattle.resource.specs.Formula.{edge}
 use Rattle.reply.specs.declared.Answer.{Answer}
@@ -112,15 +113,6 @@ module _ (set : Settings) (good : settingsRefusal set ≡ 0) (sent : ℕ → Sen
       go (yes h) = rw (le-leb k (length l) h) (inside (decLt (length l - k) (length heard)))
       go (no h) = rw (lt-leb k (length l) (omega arith)) (inl refl)
 
-  -- a subframe with a window is uplink, and the calls take it
-  uplink : 0 < length (windowOf (set .config) n) → downlink (set .config) n ≡ false
-  unfolding downlink
-  uplink some = ap carries (window-uplink (set .config) n some)
-
-  taken-up : 0 < length (windowOf (set .config) n) → windowRefusal set n ≡ 0
-  unfolding windowRefusal noWindowRefusal
-  taken-up some = rw (good, ne-eqb (length (windowOf (set .config) n)) 0 (λ z. omega arith))
-
   bundled-mode : (set .mode ≡ 0) ⊎ (length (windowOf (set .config) n) ≡ 1) → bundles set (length (windowOf (set .config) n)) ≡ true
   unfolding bundles
   bundled-mode (inl e) = rw (eq-eqb (set .mode) 0 e)
@@ -134,12 +126,12 @@ module _ (set : Settings) (good : settingsRefusal set ≡ 0) (sent : ℕ → Sen
   bundled-due : 0 < length (windowOf (set .config) n) → bundles set (length (windowOf (set .config) n)) ≡ true
       → bundledAnswer set n (seenOf F (windowOf (set .config) n)) ≡ dueOf (after set l)
   unfolding dueOf answerOf windowAnswer
-  bundled-due some mode = rw (uplink some, ne-eqb (length (windowOf (set .config) n)) 0 (λ z. omega arith), mode)
+  bundled-due some mode = rw (window-uplink (set .config) n some, ne-eqb (length (windowOf (set .config) n)) 0 (λ z. omega arith), mode)
 
   multiplexed-due : 0 < length (windowOf (set .config) n) → bundles set (length (windowOf (set .config) n)) ≡ false
       → multiplexedAnswer set n F (windowOf (set .config) n) ≡ dueOf (after set l)
   unfolding dueOf answerOf windowAnswer
-  multiplexed-due some mode = rw (uplink some, ne-eqb (length (windowOf (set .config) n)) 0 (λ z. omega arith), mode)
+  multiplexed-due some mode = rw (window-uplink (set .config) n some, ne-eqb (length (windowOf (set .config) n)) 0 (λ z. omega arith), mode)
 
   taken-due : downlink (set .config) n ≡ true → dueOf (after set l) ≡ answer.Taken
   unfolding dueOf answerOf
@@ -156,12 +148,12 @@ module _ (set : Settings) (good : settingsRefusal set ≡ 0) (sent : ℕ → Sen
         noWindow = no-window-due;
         bundled = λ some mode.
             rw (bundled-due some (bundled-mode mode)) at
-            (bundled-window set n (taken-up some) ok (bundled-mode mode) (sentAgo sent (length l)) (heardAgo heard (length l)) F
+            (bundled-window set n (window-accepted set n good some) ok (bundled-mode mode) (sentAgo sent (length l)) (heardAgo heard (length l)) F
             (schedule .rule (length l)) ago-brings low seen);
         multiplexed = λ some mode many.
+            let size = multiplexed-size set n ok some (multiplexed-mode mode many) in
             rw (multiplexed-due some (multiplexed-mode mode many)) at
-            (multiplexed-window set n (taken-up some) (multiplexed-mode mode many) (omega arith)
-            (small-windows (set .config) n (λ five. ok .noFive mode five))
+            (multiplexed-window set n (window-accepted set n good some) (multiplexed-mode mode many) (size .0) (size .1)
             (sentAgo sent (length l)) (heardAgo heard (length l)) F low seen);
       }
 

@@ -69,6 +69,21 @@ pub struct FedAnswer {
     pub handset: Handset,
 }
 
+fn resource_numbers(x: Mapped) -> ResourceAnswer
+    ensures { λ r. ⌜ r ≡ resourceAnswer x ⌝ }
+{
+    match x {
+        Mapped::At(r) => ResourceAnswer {
+            refusal: 0,
+            resource: r.number(),
+        },
+        Mapped::Refused(k) => ResourceAnswer {
+            refusal: k,
+            resource: 0,
+        },
+    }
+}
+
 fn inverse_numbers(x: Inverted) -> InverseAnswer
     ensures { λ r. ⌜ r ≡ inverseAnswer x ⌝ }
 {
@@ -185,7 +200,6 @@ fn fed_numbers(f: Fed) -> FedAnswer
     answer_numbers(answer, handset)
 }
 
-// The answer is set out here and not in a function of its own: the compiler then makes one function of the whole call.
 #[no_mangle]
 pub extern "C" fn feedback_resource(
     settings: Settings,
@@ -195,16 +209,7 @@ pub extern "C" fn feedback_resource(
 ) -> ResourceAnswer
     ensures { λ r. ⌜ r ≡ resourceAnswer (resourceOf settings n position cce) ⌝ }
 {
-    match resource::resource_of(settings, n, position, Cce::new(cce)) {
-        Mapped::At(r) => ResourceAnswer {
-            refusal: 0,
-            resource: r.number(),
-        },
-        Mapped::Refused(k) => ResourceAnswer {
-            refusal: k,
-            resource: 0,
-        },
-    }
+    resource_numbers(resource::resource_of(settings, n, position, Cce::new(cce)))
 }
 
 #[no_mangle]

@@ -1,7 +1,7 @@
 -- Laws of refusals: which one of two is answered, and what an accepted settings' fields are.
 -- Assumes nothing.
-use Prim.Native.Nat.{ℕ, zero, suc}
-use mathlib.Core.Path.{_≡_}
+use Prim.Native.Nat.{ℕ, zero, suc, _<_}
+use mathlib.Core.Path.{_≡_, refl, sym}
 use native.Mathlib.Omega.{arith}
 use lib.ListN.{length}
 use borrow.Author.Tests.{lt-ltb, le-ltb, le-leb, lt-leb, eq-eqb, ne-eqb}
@@ -31,3 +31,7 @@ module _ (s : Settings) (n k size : ℕ) (asked : k ≡ settingsRefusal s) (none
   pub with-window : (size ≡ 0 → ⊥) → 0 ≡ windowRefusal s n
   unfolding windowRefusal noWindowRefusal
   with-window e = refused-next k _ 0 _ asked none (rw (← read, ne-eqb size 0 e))
+
+-- A subframe with a window is not refused where the settings are not.
+pub window-accepted : (s : Settings) (n : ℕ) → settingsRefusal s ≡ 0 → 0 < length (windowOf (s .config) n) → windowRefusal s n ≡ 0
+window-accepted s n e some = sym (with-window s n 0 (length (windowOf (s .config) n)) (sym e) refl refl (λ z. omega arith))

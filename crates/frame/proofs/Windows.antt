@@ -13,11 +13,14 @@ use lib.Dec.{T, leb→le, eqb, leb, lit≤, eqb→eq}
 use lib.Ieee.Bits.{is-true}
 use lib.Ieee.Fits.{and-l, and-r}
 use lib.ListN.{length, getD, List·getD-eq-default}
-use borrow.Author.Tests.{eqb-true, leb-true}
-use Rattle.frame.specs.Layout.{Letter, D, S, U, layouts, letterOf, carries, downlink}
+use borrow.Author.Tests.{eqb-true, eqb-false, leb-true}
+use Rattle.frame.specs.declared.Settings.{Settings}
+use Rattle.frame.specs.Layout.{layouts, letterOf, downlink}
 use Rattle.frame.specs.Once.{InWindow, InExactlyOne}
 use Rattle.frame.specs.Order.{member, positionOf}
+use Rattle.frame.specs.Settings.{bundles}
 use Rattle.frame.specs.Table.{Printed, table, findIn, windowOf}
+use Rattle.frame.proofs.Accepted.{Accepted}
 use Rattle.frame.proofs.Below.{below, below-at}
 
 -- the test, of configuration, n and K, passes at every row
@@ -110,20 +113,17 @@ pub position-window : (c n k : ℕ) → member k (windowOf c n) ≡ true
     → (positionOf k (windowOf c n) < length (windowOf c n)) × (getD (windowOf c n) (positionOf k (windowOf c n)) 0 ≡ k)
 position-window c n k e = member-position k (windowOf c n) e
 
--- A letter that is not downlink is U.
-not-downlink : (l : Letter) → T (not (carries l)) → l ≡ U
-not-downlink D t = absurd t
-not-downlink S t = absurd t
-not-downlink U t = refl
+not-so : (b : Bool) → T (not b) → b ≡ false
+not-so true t = absurd t
+not-so false t = refl
 
 uplink-tested : T (everyPosition (λ c n ks m. not (downlink c n)) table)
 unfolding table layouts letterOf downlink
 uplink-tested = tt
 
 -- Only uplink subframes have windows.
-pub window-uplink : (c n : ℕ) → 0 < length (windowOf c n) → letterOf c n ≡ U
-unfolding downlink
-window-uplink c n h = not-downlink (letterOf c n) (position-passes _ uplink-tested c n 0 h)
+pub window-uplink : (c n : ℕ) → 0 < length (windowOf c n) → downlink c n ≡ false
+window-uplink c n h = not-so (downlink c n) (position-passes _ uplink-tested c n 0 h)
 
 downlink-tested : T (everyPosition (λ c n ks m. downlink c ((n + 20 - getD ks m 0) % 10)) table)
 unfolding table layouts letterOf downlink
@@ -224,3 +224,19 @@ small-windows c n h = go (leb (length (windowOf c n)) 4) refl (eqb c 5) refl (wi
     go true e b f t = leb-true (length (windowOf c n)) 4 e
     go false e true f t = absurd (h (eqb-true c 5 f))
     go false e false f t = absurd t
+
+-- A multiplexed window has 2 to 4 positions.
+module _ (s : Settings) (n : ℕ) (ok : Accepted s) (some : 0 < length (windowOf (s .config) n)) where
+  pub multiplexed-size : bundles s (length (windowOf (s .config) n)) ≡ false
+      → (2 ≤ length (windowOf (s .config) n)) × (length (windowOf (s .config) n) ≤ 4)
+  unfolding bundles
+  multiplexed-size e = go (eqb (s .mode) 0) refl (eqb (length (windowOf (s .config) n)) 1) refl e
+    where
+      go : (a : Bool) → eqb (s .mode) 0 ≡ a → (b : Bool) → eqb (length (windowOf (s .config) n)) 1 ≡ b → (a || b) ≡ false
+          → (2 ≤ length (windowOf (s .config) n)) × (length (windowOf (s .config) n) ≤ 4)
+      go true a b b′ e = absurd (false≢true (sym e))
+      go false a true b e = absurd (false≢true (sym e))
+      go false a false b e =
+          let mode = eqb-false (s .mode) 0 a in
+          let many = eqb-false (length (windowOf (s .config) n)) 1 b in
+          (omega arith, small-windows (s .config) n (λ five. ok .noFive (omega (arith, ok .mode)) five))

@@ -6,17 +6,16 @@ use Prim.Native.Nat.{ℕ, zero, suc, _-_, _<_}
 use mathlib.Core.Bool.{true}
 use mathlib.Core.List.{List, [], _∷_}
 use mathlib.Core.Logic.{_↔_}
-use mathlib.Core.Path.{_≡_, refl, sym}
+use mathlib.Core.Path.{_≡_}
 use native.Mathlib.Omega.{arith}
 use lib.Dec.{eqb, leb}
 use lib.ListN.{getD}
 use borrow.Author.Tests.{eqb-true}
 use Rattle.frame.specs.declared.Settings.{Settings}
-use Rattle.frame.specs.Layout.{downlink}
 use Rattle.frame.specs.Settings.{windowRefusal}
 use Rattle.frame.specs.Table.{windowOf}
 use Rattle.frame.proofs.Accepted.{accepting}
-use Rattle.frame.proofs.Causes.{with-window}
+use Rattle.frame.proofs.Causes.{window-accepted}
 use Rattle.frame.proofs.Windows.{window-uplink}
 use Rattle.resource.specs.Calls.{sizeOf}
 use Rattle.resource.specs.Formula.{edge}
@@ -61,9 +60,7 @@ past-low s (t ∷ ts) n e (suc i) g v = past-low s ts (previous n) (both (slotSo
 
 module _ (h : Handset) (accepted : stateRefusal h ≡ 0) (window : 0 < sizeOf (h .settings) (h .next)) where
   call-accepted : windowRefusal (h .settings) (h .next) ≡ 0
-  call-accepted =
-      let ok = accepting (h .settings) (sound h accepted .settings) in
-      sym (with-window (h .settings) (h .next) 0 (sizeOf (h .settings) (h .next)) (sym ok) refl refl (λ z. omega arith))
+  call-accepted = window-accepted (h .settings) (h .next) (accepting (h .settings) (sound h accepted .settings)) window
 
   -- The resource call for a heard position of the window is never refused.
   pub heard-mapped : HeardMapped (h .settings) (h .next) (viewAgo (h .past))
@@ -75,7 +72,7 @@ module _ (h : Handset) (accepted : stateRefusal h ≡ 0) (window : 0 < sizeOf (h
 
   -- The answer due is silence exactly for 01's causes: bundled, U = 0 or a miss shown; multiplexed, every position D.
   pub due-silent : (dueOf h ≡ Silent) ↔ SilentCause (h .settings) (h .next) (viewAgo (h .past))
-  unfolding dueOf answerOf downlink
+  unfolding dueOf answerOf
   due-silent =
       let exactly = silent-cause (h .settings) (h .next) (viewAgo (h .past)) heard-mapped (sound h accepted .settings) window in
       rw (window-uplink (h .settings .config) (h .next) window) exactly

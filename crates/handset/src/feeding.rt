@@ -7,20 +7,10 @@ use reply::Heard;
 use reply::Slot;
 ghost use mathlib.Core.Path.{_≡_};
 ghost use mathlib.Core.List.{_∷_};
-ghost use Prim.Native.Nat.{_≤_};
-ghost use Rattle.reply.specs.Memory.{bit, slotOf};
+ghost use Rattle.reply.specs.Memory.{slotOf};
 ghost use Rattle.handset.specs.Feed.{dueOf, pushed, feedRefusal, feedOf};
 ghost use Rattle.handset.specs.Make.{slotsFrom};
 ghost use Rattle.handset.specs.Stored.{Storable};
-
-fn bit_of(b: bool) -> u8
-    ensures { λ r. ⌜ (r ≡ bit b) × (r ≤ 1) ⌝ }
-{
-    if b {
-        return 1;
-    }
-    0
-}
 
 // What is remembered of a subframe.
 fn slot_of(x: Heard) -> Slot
@@ -37,9 +27,9 @@ fn slot_of(x: Heard) -> Slot
         Heard::Granted(g) => {
             let cce = g.cce.number() as u8;
             let dai = g.dai as u8;
-            let first = bit_of(g.first);
-            let second = bit_of(g.second);
-            let two = bit_of(g.blocks == 2);
+            let first = g.first as u8;
+            let second = g.second as u8;
+            let two = (g.blocks == 2) as u8;
             Slot {
                 kind: 1,
                 cce,

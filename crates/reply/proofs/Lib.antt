@@ -1,3 +1,4 @@
+pub mod Bits
 pub mod Folding
 pub mod Multiplexing
 pub mod Silences

@@ -1,7 +1,7 @@
 -- A window in which every heard position has a resource is silent exactly for the causes that 01 has.
 -- Assumes nothing.
 use Prim.Native.Nat.{ℕ, suc, _<_, _≤_, suc-le-suc}
-use mathlib.Core.Bool.{Bool, true, false, _||_, false≢true}
+use mathlib.Core.Bool.{Bool, true, false, false≢true}
 use mathlib.Core.List.{List, [], _∷_}
 use mathlib.Core.Logic.{_⊎_, inl, inr, _↔_}
 use mathlib.Core.Path.{_≡_, refl, sym, ap, _∙_}
@@ -16,7 +16,7 @@ use Rattle.frame.specs.Table.{windowOf}
 use Rattle.frame.proofs.Accepted.{Accepted}
 use Rattle.frame.proofs.Lists.{entry}
 use Rattle.frame.proofs.Times.{order-size, order-below}
-use Rattle.frame.proofs.Windows.{small-windows}
+use Rattle.frame.proofs.Windows.{multiplexed-size}
 use Rattle.resource.specs.declared.Mapped.{Mapped}
 use Rattle.resource.specs.declared.Mapped.the-variants as mapped
 use Rattle.resource.specs.declared.Resource.{Resource}
@@ -133,19 +133,6 @@ module _ (s : Settings) (n : ℕ) (view : ℕ → View) (all-mapped : HeardMappe
         λ d. let z : _≡_ {A = ℕ} 0 1 = cc (e, exactly .1 d) in absurd (omega arith),
       )
 
-  -- A window that is not bundled has 2 to 4 positions.
-  two-to-four : Accepted s → 0 < sizeOf s n → bundles s (sizeOf s n) ≡ false → (2 ≤ sizeOf s n) × (sizeOf s n ≤ 4)
-  unfolding bundles
-  two-to-four ok some e = go (eqb (s .mode) 0) refl (eqb (sizeOf s n) 1) refl e
-    where
-      go : (a : Bool) → eqb (s .mode) 0 ≡ a → (b : Bool) → eqb (sizeOf s n) 1 ≡ b → (a || b) ≡ false → (2 ≤ sizeOf s n) × (sizeOf s n ≤ 4)
-      go true a b b′ e = absurd (false≢true (sym e))
-      go false a true b e = absurd (false≢true (sym e))
-      go false a false b e =
-          let mode = eqb-false (s .mode) 0 a in
-          let many = eqb-false (sizeOf s n) 1 b in
-          (omega arith, small-windows (s .config) n (λ five. ok .noFive (omega (arith, ok .mode)) five))
-
   -- Silence has 01's causes and no other.
   pub silent-cause : Accepted s → 0 < sizeOf s n → (windowAnswer s n view ≡ answer.Silent) ↔ SilentCause s n view
   unfolding windowAnswer
@@ -161,7 +148,7 @@ module _ (s : Settings) (n : ℕ) (view : ℕ → View) (all-mapped : HeardMappe
             λ c. rw (window, e) (exactly .1 (c .bundled e)),
           )
       go false e =
-          let size = two-to-four ok some e in
+          let size = multiplexed-size s n ok some e in
           let exactly = multiplexed-silent (size .0) (size .1) in (
             λ a. record { bundled = λ f. absurd (false≢true (sym e ∙ f)); multiplexed = λ b. exactly .0 (rw (window, e) at a) },
             λ c. rw (window, e) (exactly .1 (c .multiplexed e)),

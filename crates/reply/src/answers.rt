@@ -17,18 +17,9 @@ ghost use lib.ListN.{length};
 ghost use Rattle.frame.specs.Coded.{codedWindow};
 ghost use Rattle.frame.specs.Table.{windowOf};
 ghost use Rattle.symbols.specs.Coded.{digitOf, codeOf};
-ghost use Rattle.reply.specs.Memory.{bit, viewAgo};
+ghost use Rattle.reply.specs.Memory.{viewAgo};
 ghost use Rattle.reply.specs.Replies.{replyOn, missShown, secondBit, bundledAnswer};
 ghost use Rattle.reply.specs.Replies.{stateOf, cceOf, windowState, multiplexedAnswer, windowAnswer};
-
-fn bit_of(b: bool) -> u16
-    ensures { λ r. ⌜ r ≡ bit b ⌝ }
-{
-    if b {
-        return 1;
-    }
-    0
-}
 
 fn reply_on(kind: u16, mapped: Mapped, b0: u16, b1: u16) -> Answer
     ensures { λ r. ⌜ r ≡ replyOn kind mapped b0 b1 ⌝ }
@@ -59,7 +50,7 @@ fn second_bit(s: Settings, seen: Seen) -> u16
     ensures { λ r. ⌜ r ≡ secondBit s seen ⌝ }
 {
     if s.blocks == 2 {
-        return bit_of(seen.second);
+        return seen.second as u16;
     }
     0
 }
@@ -77,7 +68,7 @@ fn bundled_answer(s: Settings, n: u16, size: u16, seen: Seen) -> Answer
     }
     let cce = seen.cce;
     let mapped = resource::resource_sized(s, size, seen.position, cce);
-    let b0 = bit_of(seen.first);
+    let b0 = seen.first as u16;
     let b1 = second_bit(s, seen);
     reply_on(1, mapped, b0, b1)
 }

@@ -9,6 +9,7 @@ use Rattle.reply.specs.declared.Heard.{Heard}
 use Rattle.reply.specs.declared.Heard.the-variants.{Nothing, Granted}
 use Rattle.reply.specs.declared.Slot.{Slot}
 use Rattle.reply.specs.Memory.{none, bit, slotOf}
+use Rattle.reply.proofs.Bits.{cast-bit, cast-small}
 use Rattle.handset.specs.Stored.{Storable}
 use Rattle.handset.proofs.feeding.slot_of.Statement.{statement}
 use Rattle.handset.proofs.feeding.slot_of.Tie as tie
@@ -41,35 +42,44 @@ cast-cce c = omega (arith, c .number .ensures, small _ _ (c .before .before .x .
 cast-dai : tie.Need-cast-dai
 cast-dai c = omega (arith, small _ _ (c .before .before .before .x .given .1) (c .before .before .before .before .before .pre))
 
-bit-of-requires : tie.Need-bit-of-requires
-bit-of-requires c κs = search needs
+cast-first : tie.Need-cast-first
+cast-first c = tt
 
-bit-of-requires-2 : tie.Need-bit-of-requires-2
-bit-of-requires-2 c κs = search needs
+cast-second : tie.Need-cast-second
+cast-second c = tt
 
-bit-of-requires-3 : tie.Need-bit-of-requires-3
-bit-of-requires-3 c κs = search needs
+cast-two : tie.Need-cast-two
+cast-two c = tt
+
+-- the grant that is remembered
+heard : tie.After-struct-known4 → Grant
+heard c = c .before .before .before .before .before .before .x .given .0 .0
 
 mul-t11 : tie.Need-mul-t11
-mul-t11 c = search needs
+unfolding heard
+mul-t11 c = omega (arith, cast-small (heard c .second))
 
 add-t12 : tie.Need-add-t12
-add-t12 c = search needs
+unfolding heard
+add-t12 c = omega (arith, cast-small (heard c .first), cast-small (heard c .second))
 
 mul-t13 : tie.Need-mul-t13
-mul-t13 c = search needs
+unfolding heard
+mul-t13 c = omega (arith, cast-small (eqb (heard c .blocks) 2))
 
 add-t14 : tie.Need-add-t14
-add-t14 c = search needs
+unfolding heard
+add-t14 c = omega (arith, cast-small (heard c .first), cast-small (heard c .second), cast-small (eqb (heard c .blocks) 2))
 
 returns : tie.Need-returns
 returns c = nothing _ (c .enum-told .given .1)
 
 returns-2 : tie.Need-returns-2
+unfolding heard
 returns-2 c =
-    let number = c .before .before .before .before .before in
-    granted _ _ (number .before .before .x .given .1) _ (number .number .ensures) _ (c .before .before .before .bit-of .ensures .0) _ (c .before .before .bit-of2 .ensures .0)
-    _ (c .bit-of3 .ensures .0)
+    let number = c .before .before .before .before in
+    granted _ _ (number .before .before .x .given .1) _ (number .number .ensures) _ (cast-bit (heard c .first)) _ (cast-bit (heard c .second))
+    _ (cast-bit (eqb (heard c .blocks) 2))
 
 pub slot-of-spec : {M : Type 1} → statement M
 slot-of-spec =
@@ -80,9 +90,9 @@ slot-of-spec =
     number-requires
     cast-cce
     cast-dai
-    bit-of-requires
-    bit-of-requires-2
-    bit-of-requires-3
+    cast-first
+    cast-second
+    cast-two
     mul-t11
     add-t12
     mul-t13

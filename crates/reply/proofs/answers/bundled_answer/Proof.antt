@@ -13,6 +13,7 @@ use Rattle.reply.specs.declared.Answer.the-variants.{Silent}
 use Rattle.reply.specs.declared.Seen.{Seen}
 use Rattle.reply.specs.Memory.{bit}
 use Rattle.reply.specs.Replies.{replyOn, missShown, secondBit, bundledAnswer}
+use Rattle.reply.proofs.Bits.{cast-bit}
 use Rattle.reply.proofs.answers.bundled_answer.Statement.{statement}
 use Rattle.reply.proofs.answers.bundled_answer.Tie as tie
 
@@ -43,14 +44,14 @@ returns-2 c = missed _ _ _ (c .before .before .if1 .left) (sym (c .before .miss-
 resource-sized-requires : tie.Need-resource-sized-requires
 resource-sized-requires c κs = search needs
 
-bit-of-requires : tie.Need-bit-of-requires
-bit-of-requires c κs = search needs
-
 second-bit-requires : tie.Need-second-bit-requires
 second-bit-requires c κs = search needs
 
 reply-on-requires : tie.Need-reply-on-requires
 reply-on-requires c κs = search needs
+
+cast-b0 : tie.Need-cast-b0
+cast-b0 c = tt
 
 returns-3 : tie.Need-returns-3
 returns-3 c =
@@ -58,7 +59,7 @@ returns-3 c =
     let branch = mapped .before .before in
     sent _ _ _ (branch .before .before .if1 .left) (sym (branch .before .miss-shown .ensures) ∙ branch .if2 .left) _
     (mapped .resource-sized .ensures ∙ resource-told _ _ _ (branch .before .before .before .before .pre) _ _)
-    _ (c .before .before .bit-of .ensures) _ (c .before .second-bit .ensures) _ (c .reply-on .ensures)
+    _ (cast-bit (branch .before .before .before .before .args .seen .first)) _ (c .before .second-bit .ensures) _ (c .reply-on .ensures)
 
 pub bundled-answer-spec : {M : Type 1} → statement M
 bundled-answer-spec =
@@ -68,7 +69,7 @@ bundled-answer-spec =
     miss-shown-requires
     returns-2
     resource-sized-requires
-    bit-of-requires
+    cast-b0
     second-bit-requires
     reply-on-requires
     returns-3)
