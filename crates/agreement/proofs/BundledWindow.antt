@@ -21,15 +21,15 @@ use Rattle.resource.specs.Calls.{sizeOf, resourceOf}
 use Rattle.resource.specs.Formula.{edge}
 use Rattle.resource.proofs.OneToOne.{calls-one-to-one}
 use Rattle.reply.specs.declared.Answer.the-variants as answer
-use Rattle.reply.specs.declared.Grant.{Grant}
-use Rattle.reply.specs.declared.Heard.{Heard}
-use Rattle.reply.specs.declared.Heard.the-variants.{Granted}
+use Rattle.heard.specs.declared.Grant.{Grant}
+use Rattle.heard.specs.declared.Heard.{Heard}
+use Rattle.heard.specs.declared.Heard.the-variants.{Granted}
 use Rattle.reply.specs.declared.Reply.{Reply}
-use Rattle.reply.specs.declared.Seen.{Seen}
-use Rattle.reply.specs.declared.View.{View}
-use Rattle.reply.specs.Fold.{unseen, stepOf, seenOf}
-use Rattle.reply.specs.Heard.{viewOf}
-use Rattle.reply.specs.Memory.{bit}
+use Rattle.fold.specs.declared.Seen.{Seen}
+use Rattle.heard.specs.declared.View.{View}
+use Rattle.fold.specs.Fold.{unseen, stepOf, seenOf}
+use Rattle.heard.specs.Heard.{viewOf}
+use Rattle.heard.specs.Memory.{bit}
 use Rattle.reply.specs.Replies.{replyOn, expected, missShown, secondBit, bundledAnswer}
 use Rattle.station.specs.declared.Reading.the-variants as reading
 use Rattle.station.specs.Readings.{badBits, bundledReading, readAt, readOf}

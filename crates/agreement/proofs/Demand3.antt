@@ -14,9 +14,9 @@ use Rattle.frame.specs.Settings.{settingsRefusal}
 use Rattle.frame.proofs.Windows.{exactly-one}
 use Rattle.resource.proofs.OneToOne.{calls-one-to-one, resource-call, paired}
 use Rattle.resource.specs.Calls.{sizeOf}
-use Rattle.reply.specs.declared.Heard.{Heard}
-use Rattle.reply.specs.declared.Heard.the-variants.{Nothing}
-use Rattle.reply.specs.Heard.{heardRefusal}
+use Rattle.heard.specs.declared.Heard.{Heard}
+use Rattle.heard.specs.declared.Heard.the-variants.{Nothing}
+use Rattle.heard.specs.Heard.{heardRefusal}
 use Rattle.handset.specs.declared.Fed.{Fed}
 use Rattle.handset.specs.Feed.{feedOf}
 use Rattle.handset.specs.Make.{makeOf}

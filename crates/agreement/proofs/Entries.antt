@@ -12,13 +12,13 @@ use Rattle.frame.specs.Order.{member, positionOf, timesOf}
 use Rattle.frame.specs.Table.{windowOf}
 use Rattle.frame.proofs.Times.{in-time-order}
 use Rattle.frame.proofs.Windows.{position-window, window-k}
-use Rattle.reply.specs.declared.Grant.{Grant}
-use Rattle.reply.specs.declared.Heard.{Heard}
-use Rattle.reply.specs.declared.Heard.the-variants.{Nothing, Granted}
-use Rattle.reply.specs.declared.Seen.{Seen}
-use Rattle.reply.specs.declared.View.{View}
-use Rattle.reply.specs.Fold.{stepOf, seenFrom}
-use Rattle.reply.specs.Heard.{viewOf}
+use Rattle.heard.specs.declared.Grant.{Grant}
+use Rattle.heard.specs.declared.Heard.{Heard}
+use Rattle.heard.specs.declared.Heard.the-variants.{Nothing, Granted}
+use Rattle.fold.specs.declared.Seen.{Seen}
+use Rattle.heard.specs.declared.View.{View}
+use Rattle.fold.specs.Fold.{stepOf, seenFrom}
+use Rattle.heard.specs.Heard.{viewOf}
 use Rattle.agreement.specs.Run.{Send, nothing, grant, RuleFrom, Brings}
 use Rattle.agreement.specs.Window.{Entry, at, isHeard, anyHeard, Last, unheard, heardAt, asLast, later, lastHeard}
 use Rattle.agreement.proofs.Folded.{foldIn, Brought, Ruled}

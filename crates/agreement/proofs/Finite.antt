@@ -15,9 +15,9 @@ use Rattle.frame.specs.declared.Settings.{Settings}
 use Rattle.frame.specs.Order.{timesOf}
 use Rattle.frame.specs.Table.{windowOf}
 use Rattle.frame.proofs.Below.{below, below-at}
-use Rattle.reply.specs.declared.Heard.{Heard}
-use Rattle.reply.specs.declared.Heard.the-variants.{Nothing, Granted}
-use Rattle.reply.specs.Heard.{heardRefusal}
+use Rattle.heard.specs.declared.Heard.{Heard}
+use Rattle.heard.specs.declared.Heard.the-variants.{Nothing, Granted}
+use Rattle.heard.specs.Heard.{heardRefusal}
 use Rattle.agreement.specs.Run.{Send, nothing, grant, sentOf, asHeard, sentAgo, heardFrom, Item, RuleFrom, Schedule, Brings, BringsSent}
 use Rattle.agreement.proofs.Entries.{AllOf, all-of, of-window, in-time}
 

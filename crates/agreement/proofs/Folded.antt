@@ -9,12 +9,12 @@ use mathlib.Core.Path.{_≡_, refl, sym, ap, _∙_}
 use native.Mathlib.Omega.{arith}
 use lib.ListN.{length}
 use Rattle.frame.specs.Order.{positionOf}
-use Rattle.reply.specs.declared.Grant.{Grant}
-use Rattle.reply.specs.declared.Heard.{Heard}
-use Rattle.reply.specs.declared.Heard.the-variants.{Nothing, Granted}
-use Rattle.reply.specs.declared.Seen.{Seen}
-use Rattle.reply.specs.Fold.{stepOf}
-use Rattle.reply.specs.Heard.{viewOf}
+use Rattle.heard.specs.declared.Grant.{Grant}
+use Rattle.heard.specs.declared.Heard.{Heard}
+use Rattle.heard.specs.declared.Heard.the-variants.{Nothing, Granted}
+use Rattle.fold.specs.declared.Seen.{Seen}
+use Rattle.fold.specs.Fold.{stepOf}
+use Rattle.heard.specs.Heard.{viewOf}
 use Rattle.agreement.specs.Run.{Send, nothing, grant, Brings}
 use Rattle.agreement.specs.Window.{Entry, at, isHeard, anyHeard, isLost, lostBefore, Last, unheard, heardAt, asLast, later, lastHeard, EveryHeard}
 

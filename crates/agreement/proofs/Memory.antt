@@ -13,13 +13,13 @@ use Rattle.frame.specs.declared.Settings.{Settings}
 use Rattle.frame.specs.Settings.{settingsRefusal}
 use Rattle.frame.proofs.Accepted.{Accepted}
 use Rattle.resource.specs.Formula.{edge}
-use Rattle.reply.specs.declared.Grant.{Grant}
-use Rattle.reply.specs.declared.Heard.{Heard}
-use Rattle.reply.specs.declared.Heard.the-variants.{Nothing, Granted}
-use Rattle.reply.specs.declared.Slot.{Slot}
-use Rattle.reply.specs.Heard.{heardRefusal, viewOf}
-use Rattle.reply.specs.Memory.{none, bit, slotOf, heardIn, viewIn, viewAgo}
-use Rattle.reply.proofs.Valid.{valid}
+use Rattle.heard.specs.declared.Grant.{Grant}
+use Rattle.heard.specs.declared.Heard.{Heard}
+use Rattle.heard.specs.declared.Heard.the-variants.{Nothing, Granted}
+use Rattle.heard.specs.declared.Slot.{Slot}
+use Rattle.heard.specs.Heard.{heardRefusal, viewOf}
+use Rattle.heard.specs.Memory.{none, bit, slotOf, heardIn, viewIn, viewAgo}
+use Rattle.heard.proofs.Valid.{valid}
 use Rattle.handset.specs.declared.Handset.{Handset}
 use Rattle.handset.specs.Feed.{pushed}
 use Rattle.handset.specs.Make.{slotsFrom, memory, fresh}

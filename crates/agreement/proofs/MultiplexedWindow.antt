@@ -26,12 +26,12 @@ use Rattle.symbols.specs.Selection.{symbolOf, AllDtx}
 use Rattle.symbols.proofs.Reading.{delivered-exactly, set-below, set-bit}
 use Rattle.symbols.proofs.Rows.{silent-exactly, index-heard}
 use Rattle.reply.specs.declared.Answer.the-variants as answer
-use Rattle.reply.specs.declared.Grant.{Grant}
-use Rattle.reply.specs.declared.Heard.{Heard}
-use Rattle.reply.specs.declared.Heard.the-variants.{Nothing, Granted}
+use Rattle.heard.specs.declared.Grant.{Grant}
+use Rattle.heard.specs.declared.Heard.{Heard}
+use Rattle.heard.specs.declared.Heard.the-variants.{Nothing, Granted}
 use Rattle.reply.specs.declared.Reply.{Reply}
-use Rattle.reply.specs.declared.View.{View}
-use Rattle.reply.specs.Heard.{viewOf}
+use Rattle.heard.specs.declared.View.{View}
+use Rattle.heard.specs.Heard.{viewOf}
 use Rattle.reply.specs.Replies.{replyOn, stateOf, cceOf, windowState, symbolAnswer, multiplexedAnswer}
 use Rattle.station.specs.Readings.{readOf}
 use Rattle.station.proofs.Back.{read-symbol}

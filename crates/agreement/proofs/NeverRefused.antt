@@ -18,10 +18,10 @@ use Rattle.symbols.specs.declared.Symbol.the-variants as symbol
 use Rattle.symbols.specs.Selection.{symbolOf}
 use Rattle.reply.specs.declared.Answer.{Answer}
 use Rattle.reply.specs.declared.Answer.the-variants as answer
-use Rattle.reply.specs.declared.Seen.{Seen}
-use Rattle.reply.specs.declared.View.{View}
-use Rattle.reply.specs.Fold.{seenOf}
-use Rattle.reply.specs.Memory.{bit}
+use Rattle.fold.specs.declared.Seen.{Seen}
+use Rattle.heard.specs.declared.View.{View}
+use Rattle.fold.specs.Fold.{seenOf}
+use Rattle.heard.specs.Memory.{bit}
 use Rattle.reply.specs.Replies.{replyOn, missShown, secondBit, cceOf, windowState, bundledAnswer, symbolAnswer, multiplexedAnswer, windowAnswer}
 use Rattle.handset.specs.Feed.{answerOf}
 

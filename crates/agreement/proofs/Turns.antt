@@ -21,13 +21,13 @@ use Rattle.resource.specs.Calls.{resourceOf}
 use Rattle.resource.specs.Formula.{edge}
 use Rattle.reply.specs.declared.Answer.{Answer}
 use Rattle.reply.specs.declared.Answer.the-variants as answer
-use Rattle.reply.specs.declared.Grant.{Grant}
-use Rattle.reply.specs.declared.Heard.{Heard}
-use Rattle.reply.specs.declared.Heard.the-variants.{Nothing, Granted}
-use Rattle.reply.specs.declared.View.{View}
-use Rattle.reply.specs.Fold.{seenOf}
-use Rattle.reply.specs.Heard.{heardRefusal, viewOf}
-use Rattle.reply.specs.Memory.{slotOf, viewAgo}
+use Rattle.heard.specs.declared.Grant.{Grant}
+use Rattle.heard.specs.declared.Heard.{Heard}
+use Rattle.heard.specs.declared.Heard.the-variants.{Nothing, Granted}
+use Rattle.heard.specs.declared.View.{View}
+use Rattle.fold.specs.Fold.{seenOf}
+use Rattle.heard.specs.Heard.{heardRefusal, viewOf}
+use Rattle.heard.specs.Memory.{slotOf, viewAgo}
 use Rattle.reply.specs.Replies.{bundledAnswer, multiplexedAnswer, windowAnswer}
 use Rattle.handset.specs.declared.Fed.{Fed}
 use Rattle.handset.specs.Feed.{answerOf, dueOf, feedRefusal, fedAs, feedOf}

@@ -15,10 +15,10 @@ use Rattle.resource.specs.Formula.{edge, regionOf, resourceNumber}
 use Rattle.symbols.specs.Selection.{symbolOf, tableOf, table2, table3, table4}
 use Rattle.reply.specs.declared.Answer.{Answer}
 use Rattle.reply.specs.declared.Answer.the-variants as answer
-use Rattle.reply.specs.declared.Heard.the-variants.{Nothing, Granted}
-use Rattle.reply.specs.Fold.{stepOf, seenFrom, seenOf}
-use Rattle.reply.specs.Heard.{uplinkRefusal, grantRefusal, heardRefusal, viewOf}
-use Rattle.reply.specs.Memory.{slotOf, heardIn, viewIn, viewAgo}
+use Rattle.heard.specs.declared.Heard.the-variants.{Nothing, Granted}
+use Rattle.fold.specs.Fold.{stepOf, seenFrom, seenOf}
+use Rattle.heard.specs.Heard.{uplinkRefusal, grantRefusal, heardRefusal, viewOf}
+use Rattle.heard.specs.Memory.{slotOf, heardIn, viewIn, viewAgo}
 use Rattle.reply.specs.Replies.{replyOn, expected, missShown, secondBit, bundledAnswer, stateOf, cceOf, windowState, symbolAnswer, multiplexedAnswer, windowAnswer}
 use Rattle.handset.specs.Feed.{answerOf, dueOf, pushed, feedRefusal, feedOf}
 use Rattle.handset.specs.Make.{fresh, makeOf}

@@ -29,12 +29,12 @@ use Rattle.symbols.proofs.Reading.{delivered-exactly}
 use Rattle.symbols.specs.Selection.{symbolOf, tableOf, table4}
 use Rattle.reply.specs.declared.Answer.{Answer}
 use Rattle.reply.specs.declared.Answer.the-variants as answer
-use Rattle.reply.specs.declared.Heard.{Heard}
-use Rattle.reply.specs.declared.Heard.the-variants.{Nothing}
+use Rattle.heard.specs.declared.Heard.{Heard}
+use Rattle.heard.specs.declared.Heard.the-variants.{Nothing}
 use Rattle.reply.specs.declared.Reply.{Reply}
-use Rattle.reply.specs.Fold.{stepOf, seenFrom, seenOf}
-use Rattle.reply.specs.Heard.{uplinkRefusal, grantRefusal, heardRefusal, viewOf}
-use Rattle.reply.specs.Memory.{slotOf, heardIn, viewIn, viewAgo}
+use Rattle.fold.specs.Fold.{stepOf, seenFrom, seenOf}
+use Rattle.heard.specs.Heard.{uplinkRefusal, grantRefusal, heardRefusal, viewOf}
+use Rattle.heard.specs.Memory.{slotOf, heardIn, viewIn, viewAgo}
 use Rattle.reply.specs.Replies.{replyOn, expected, missShown, secondBit, bundledAnswer, windowAnswer}
 use Rattle.handset.specs.declared.Fed.{Fed}
 use Rattle.handset.specs.declared.Handset.{Handset}

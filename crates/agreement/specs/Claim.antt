@@ -20,9 +20,9 @@ use Rattle.resource.specs.Calls.{sizeOf, resourceOf, inverseOf}
 use Rattle.resource.specs.Formula.{edge, resourceNumber}
 use Rattle.resource.specs.OneToOne.{OneToOne}
 use Rattle.reply.specs.declared.Answer.the-variants as answer
-use Rattle.reply.specs.declared.Heard.{Heard}
-use Rattle.reply.specs.declared.Heard.the-variants.{Nothing}
-use Rattle.reply.specs.Heard.{heardRefusal}
+use Rattle.heard.specs.declared.Heard.{Heard}
+use Rattle.heard.specs.declared.Heard.the-variants.{Nothing}
+use Rattle.heard.specs.Heard.{heardRefusal}
 use Rattle.handset.specs.declared.Fed.{Fed}
 use Rattle.handset.specs.declared.Handset.{Handset}
 use Rattle.handset.specs.declared.Made.{Made}

@@ -6,8 +6,8 @@ use Rattle.frame.specs.Settings.{bundles, cellRefusal, modeRefusal, blocksRefus
 use Rattle.frame.specs.Table.{table, windowOf}
 use Rattle.resource.specs.Calls.{pairRefusal, rangeRefusal, resourceOf, inverseOf}
 use Rattle.resource.specs.Formula.{edge, regionOf, resourceNumber}
-use Rattle.reply.specs.Fold.{stepOf, seenFrom, seenOf}
-use Rattle.reply.specs.Heard.{viewOf}
+use Rattle.fold.specs.Fold.{stepOf, seenFrom, seenOf}
+use Rattle.heard.specs.Heard.{viewOf}
 use Rattle.reply.specs.Replies.{expected, missShown, bundledAnswer, windowAnswer}
 use Rattle.cases.specs.Tabled.{Tabled}
 

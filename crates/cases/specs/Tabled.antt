@@ -13,11 +13,11 @@ use Rattle.resource.specs.declared.Mapped.the-variants as mapped
 use Rattle.resource.specs.Calls.{sizeOf, resourceOf, inverseOf}
 use Rattle.resource.specs.Formula.{edge}
 use Rattle.reply.specs.declared.Answer.the-variants as answer
-use Rattle.reply.specs.declared.Grant.{Grant}
-use Rattle.reply.specs.declared.Heard.{Heard}
-use Rattle.reply.specs.declared.Heard.the-variants.{Nothing, Granted}
-use Rattle.reply.specs.declared.View.{View}
-use Rattle.reply.specs.Heard.{viewOf}
+use Rattle.heard.specs.declared.Grant.{Grant}
+use Rattle.heard.specs.declared.Heard.{Heard}
+use Rattle.heard.specs.declared.Heard.the-variants.{Nothing, Granted}
+use Rattle.heard.specs.declared.View.{View}
+use Rattle.heard.specs.Heard.{viewOf}
 use Rattle.reply.specs.Replies.{windowAnswer}
 
 -- N_0, N_1, .., N_4

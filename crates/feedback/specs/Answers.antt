@@ -13,8 +13,8 @@ use Rattle.claims.specs.declared.Verdict.{Verdict}
 use Rattle.claims.specs.declared.Verdict.the-variants as verdict
 use Rattle.reply.specs.declared.Answer.{Answer}
 use Rattle.reply.specs.declared.Answer.the-variants as answer
-use Rattle.reply.specs.declared.Heard.{Heard}
-use Rattle.reply.specs.declared.Heard.the-variants.{Granted}
+use Rattle.heard.specs.declared.Heard.{Heard}
+use Rattle.heard.specs.declared.Heard.the-variants.{Granted}
 use Rattle.handset.specs.declared.Fed.{Fed}
 use Rattle.handset.specs.declared.Handset.{Handset}
 use Rattle.feedback.specs.declared.ClaimsAnswer.{ClaimsAnswer}

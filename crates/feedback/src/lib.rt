@@ -5,9 +5,9 @@ use frame::Settings;
 use handset::Fed;
 use handset::Handset;
 use handset::Made;
+use heard::Grant;
+use heard::Heard;
 use reply::Answer;
-use reply::Grant;
-use reply::Heard;
 use resource::Cce;
 use resource::Inverted;
 use resource::Mapped;
@@ -21,7 +21,7 @@ ghost use lib.ListN.{length};
 ghost use Rattle.feedback.specs.Answers.{resourceAnswer, inverseAnswer, readingAnswer, claimsAnswer, noReply, answerNumbers, fedAnswer, grantOf};
 ghost use Rattle.handset.specs.Feed.{feedOf};
 ghost use Rattle.handset.specs.Make.{makeOf};
-ghost use Rattle.reply.specs.declared.Heard.the-variants.{Nothing};
+ghost use Rattle.heard.specs.declared.Heard.the-variants.{Nothing};
 
 #[repr(C)]
 pub struct ResourceAnswer {

@@ -10,10 +10,10 @@ use Rattle.frame.specs.declared.Settings.{Settings}
 use Rattle.frame.specs.Settings.{settingsRefusal}
 use Rattle.frame.proofs.Accepted.{Accepted, accepted, neither}
 use Rattle.resource.proofs.Edges.{edge-most}
-use Rattle.reply.specs.declared.Heard.{Heard}
-use Rattle.reply.specs.declared.Heard.the-variants.{Nothing, Granted}
-use Rattle.reply.specs.Heard.{heardRefusal}
-use Rattle.reply.proofs.Valid.{Valid, valid, held}
+use Rattle.heard.specs.declared.Heard.{Heard}
+use Rattle.heard.specs.declared.Heard.the-variants.{Nothing, Granted}
+use Rattle.heard.specs.Heard.{heardRefusal}
+use Rattle.heard.proofs.Valid.{Valid, valid, held}
 use Rattle.handset.specs.declared.Handset.{Handset}
 use Rattle.handset.specs.Feed.{feedRefusal}
 use Rattle.handset.specs.Sound.{allSound, stateSound, stateRefusal}

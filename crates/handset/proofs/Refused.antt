@@ -6,7 +6,7 @@ use borrow.Author.Tests.{ne-eqb}
 use Rattle.frame.specs.declared.Settings.{Settings}
 use Rattle.frame.specs.Settings.{cellRefusal, settingsRefusal}
 use Rattle.reply.specs.declared.Answer.the-variants.{Refused}
-use Rattle.reply.specs.declared.Heard.{Heard}
+use Rattle.heard.specs.declared.Heard.{Heard}
 use Rattle.handset.specs.Feed.{feedRefusal, feedOf}
 use Rattle.handset.specs.Make.{fresh, noSettings, makeOf}
 use Rattle.handset.specs.Sound.{stateSound, stateRefusal}

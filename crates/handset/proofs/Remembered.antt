@@ -8,8 +8,8 @@ use native.Mathlib.Numerals.{add-one}
 use lib.ListN.{length, getD, drop, drop-of-length-le}
 use lib.Seq.{drop-cons}
 use Rattle.frame.specs.declared.Settings.{Settings}
-use Rattle.reply.specs.declared.Slot.{Slot}
-use Rattle.reply.specs.Memory.{none}
+use Rattle.heard.specs.declared.Slot.{Slot}
+use Rattle.heard.specs.Memory.{none}
 use Rattle.handset.specs.Sound.{slotSound, previous, allSound}
 
 -- The slots before i passed, and n is the subframe that the slot before i was fed in.

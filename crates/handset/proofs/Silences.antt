@@ -21,16 +21,16 @@ use Rattle.resource.specs.Calls.{sizeOf}
 use Rattle.resource.specs.Formula.{edge}
 use Rattle.resource.proofs.OneToOne.{calls-one-to-one}
 use Rattle.reply.specs.declared.Answer.the-variants.{Silent}
-use Rattle.reply.specs.declared.Control.{Control}
-use Rattle.reply.specs.declared.Heard.{Heard}
-use Rattle.reply.specs.declared.Heard.the-variants.{Nothing, Granted}
-use Rattle.reply.specs.declared.Slot.{Slot}
-use Rattle.reply.specs.declared.View.the-variants.{Pdcch}
-use Rattle.reply.specs.Heard.{heardRefusal, viewOf}
-use Rattle.reply.specs.Memory.{none, heardIn, viewIn, viewAgo}
+use Rattle.heard.specs.declared.Control.{Control}
+use Rattle.heard.specs.declared.Heard.{Heard}
+use Rattle.heard.specs.declared.Heard.the-variants.{Nothing, Granted}
+use Rattle.heard.specs.declared.Slot.{Slot}
+use Rattle.heard.specs.declared.View.the-variants.{Pdcch}
+use Rattle.heard.specs.Heard.{heardRefusal, viewOf}
+use Rattle.heard.specs.Memory.{none, heardIn, viewIn, viewAgo}
 use Rattle.reply.specs.Silence.{HeardMapped, SilentCause}
 use Rattle.reply.proofs.Silences.{silent-cause}
-use Rattle.reply.proofs.Valid.{valid}
+use Rattle.heard.proofs.Valid.{valid}
 use Rattle.handset.specs.declared.Handset.{Handset}
 use Rattle.handset.specs.Feed.{answerOf, dueOf}
 use Rattle.handset.specs.Sound.{slotSound, previous, allSound, stateRefusal}

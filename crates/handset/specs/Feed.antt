@@ -8,10 +8,10 @@ use Rattle.frame.specs.Layout.{downlink}
 use Rattle.frame.specs.Settings.{orElse}
 use Rattle.reply.specs.declared.Answer.{Answer}
 use Rattle.reply.specs.declared.Answer.the-variants.{Taken, Refused}
-use Rattle.reply.specs.declared.Heard.{Heard}
-use Rattle.reply.specs.declared.View.{View}
-use Rattle.reply.specs.Heard.{heardRefusal}
-use Rattle.reply.specs.Memory.{slotOf, viewAgo}
+use Rattle.heard.specs.declared.Heard.{Heard}
+use Rattle.heard.specs.declared.View.{View}
+use Rattle.heard.specs.Heard.{heardRefusal}
+use Rattle.heard.specs.Memory.{slotOf, viewAgo}
 use Rattle.reply.specs.Replies.{windowAnswer}
 use Rattle.handset.specs.declared.Fed.{Fed}
 use Rattle.handset.specs.declared.Handset.{Handset}

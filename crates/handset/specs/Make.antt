@@ -7,8 +7,8 @@ use lib.Dec.{eqb}
 use lib.ListN.{getD}
 use Rattle.frame.specs.declared.Settings.{Settings}
 use Rattle.frame.specs.Settings.{settingsRefusal}
-use Rattle.reply.specs.declared.Slot.{Slot}
-use Rattle.reply.specs.Memory.{none}
+use Rattle.heard.specs.declared.Slot.{Slot}
+use Rattle.heard.specs.Memory.{none}
 use Rattle.handset.specs.declared.Handset.{Handset}
 use Rattle.handset.specs.declared.Made.{Made}
 

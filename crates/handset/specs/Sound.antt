@@ -6,9 +6,9 @@ use mathlib.Core.List.{List, [], _∷_}
 use lib.Dec.{eqb, leb}
 use Rattle.frame.specs.declared.Settings.{Settings}
 use Rattle.frame.specs.Settings.{settingsRefusal}
-use Rattle.reply.specs.declared.Slot.{Slot}
-use Rattle.reply.specs.Heard.{heardRefusal}
-use Rattle.reply.specs.Memory.{heardIn}
+use Rattle.heard.specs.declared.Slot.{Slot}
+use Rattle.heard.specs.Heard.{heardRefusal}
+use Rattle.heard.specs.Memory.{heardIn}
 use Rattle.handset.specs.declared.Handset.{Handset}
 
 -- A remembered subframe is of a kind that there is, and what it heard is valid in subframe n.

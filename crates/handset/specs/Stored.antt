@@ -1,8 +1,8 @@
 -- What the bytes of a slot can hold. A feed that is not refused brings nothing else.
 -- Assumes nothing.
 use Prim.Native.Nat.{_≤_}
-use Rattle.reply.specs.declared.Heard.{Heard}
-use Rattle.reply.specs.declared.Heard.the-variants.{Nothing, Granted}
+use Rattle.heard.specs.declared.Heard.{Heard}
+use Rattle.heard.specs.declared.Heard.the-variants.{Nothing, Granted}
 
 abbrev pub Storable : Heard → Type 0
 Storable Nothing = Unit {0}

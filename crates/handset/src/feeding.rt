@@ -2,12 +2,12 @@
 use crate::Fed;
 use crate::Handset;
 use crate::state::state_refusal;
+use heard::Heard;
+use heard::Slot;
 use reply::Answer;
-use reply::Heard;
-use reply::Slot;
 ghost use mathlib.Core.Path.{_≡_};
 ghost use mathlib.Core.List.{_∷_};
-ghost use Rattle.reply.specs.Memory.{slotOf};
+ghost use Rattle.heard.specs.Memory.{slotOf};
 ghost use Rattle.handset.specs.Feed.{dueOf, pushed, feedRefusal, feedOf};
 ghost use Rattle.handset.specs.Make.{slotsFrom};
 ghost use Rattle.handset.specs.Stored.{Storable};
@@ -97,7 +97,7 @@ fn feed_refusal(h: Handset, x: Heard) -> u16
         return state;
     }
     let s = h.settings;
-    reply::heard_refusal(s, h.next, x)
+    heard::heard_refusal(s, h.next, x)
 }
 
 // The answer to what the next subframe heard, and the handset after it; a refusal leaves the handset as it was.

@@ -5,9 +5,9 @@ mod state;
 
 pub use feeding::feed;
 use frame::Settings;
+use heard::Slot;
 pub use making::make;
 use reply::Answer;
-use reply::Slot;
 
 // The handset's state, 64 bytes: its settings, the subframe it expects, and what the last 13 subframes heard, newest first.
 #[repr(C)]

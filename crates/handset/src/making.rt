@@ -2,7 +2,7 @@
 use crate::Handset;
 use crate::Made;
 use frame::Settings;
-use reply::Slot;
+use heard::Slot;
 ghost use mathlib.Core.Path.{_≡_};
 ghost use Rattle.handset.specs.Make.{fresh, makeOf};
 

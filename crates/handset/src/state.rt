@@ -1,7 +1,7 @@
 // Refusal 8: what a lent state must be (document 01, "Causes and their numbers").
 use crate::Handset;
 use frame::Settings;
-use reply::Slot;
+use heard::Slot;
 ghost use mathlib.Core.Path.{_≡_};
 ghost use Prim.Native.Nat.{_≤_};
 ghost use Rattle.handset.specs.Sound.{slotSound, previous, allSound, stateRefusal};
@@ -13,8 +13,8 @@ fn is_sound(s: Settings, n: u16, t: Slot) -> bool
     if 1 < t.kind {
         return false;
     }
-    let x = reply::heard_in(t);
-    reply::heard_refusal(s, n, x) == 0
+    let x = heard::heard_in(t);
+    heard::heard_refusal(s, n, x) == 0
 }
 
 // The subframe before n; before 0 comes 9. No division: the check below asks thirteen times.

@@ -5,7 +5,7 @@ use mathlib.Core.Bool.{Bool, true, false}
 use mathlib.Core.Path.{_≡_, refl}
 use native.Mathlib.Omega.{arith}
 use mir.Val.{boolByte}
-use Rattle.reply.specs.Memory.{bit}
+use Rattle.heard.specs.Memory.{bit}
 
 pub cast-bit : (b : Bool) → boolByte b ≡ bit b
 cast-bit true = refl

@@ -1,5 +1,3 @@
 pub mod Bits
-pub mod Folding
 pub mod Multiplexing
 pub mod Silences
-pub mod Valid

@@ -26,9 +26,9 @@ use Rattle.symbols.proofs.Codes.{code-below, states-of-code}
 use Rattle.symbols.proofs.Rows.{index-heard}
 use Rattle.reply.specs.declared.Answer.{Answer}
 use Rattle.reply.specs.declared.Answer.the-variants as answer
-use Rattle.reply.specs.declared.View.{View}
+use Rattle.heard.specs.declared.View.{View}
 use Rattle.reply.specs.Replies.{replyOn, stateOf, cceOf, windowState, symbolAnswer, multiplexedAnswer}
-use Rattle.reply.proofs.Folding.{size-read, size-small, k-read}
+use Rattle.fold.proofs.Folding.{size-read, size-small, k-read}
 
 -- One position more is one digit more.
 pub code-more : (ss : List State) (s : State) → codeOf (ss ++ (s ∷ [])) ≡ codeOf ss * 3 + digitOf s

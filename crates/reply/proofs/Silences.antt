@@ -27,12 +27,12 @@ use Rattle.symbols.specs.declared.Symbol.the-variants as symbol
 use Rattle.symbols.specs.Selection.{symbolOf, AllDtx}
 use Rattle.symbols.proofs.Rows.{silent-exactly, index-heard}
 use Rattle.reply.specs.declared.Answer.the-variants as answer
-use Rattle.reply.specs.declared.Control.{Control}
-use Rattle.reply.specs.declared.Seen.{Seen}
-use Rattle.reply.specs.declared.View.{View}
-use Rattle.reply.specs.declared.View.the-variants.{Unheard, Pdcch}
-use Rattle.reply.specs.Fold.{unseen, stepOf, seenFrom, seenOf}
-use Rattle.reply.specs.Memory.{bit}
+use Rattle.heard.specs.declared.Control.{Control}
+use Rattle.fold.specs.declared.Seen.{Seen}
+use Rattle.heard.specs.declared.View.{View}
+use Rattle.heard.specs.declared.View.the-variants.{Unheard, Pdcch}
+use Rattle.fold.specs.Fold.{unseen, stepOf, seenFrom, seenOf}
+use Rattle.heard.specs.Memory.{bit}
 use Rattle.reply.specs.Replies.{replyOn, missShown, secondBit, bundledAnswer, stateOf, cceOf, windowState, symbolAnswer, multiplexedAnswer, windowAnswer}
 use Rattle.reply.specs.Silence.{HeardMapped, NoneOrMissed, SilentCause}
 use Rattle.reply.proofs.Multiplexing.{state-length}

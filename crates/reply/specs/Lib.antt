@@ -1,5 +1,2 @@
-pub mod Fold
-pub mod Heard
-pub mod Memory
 pub mod Replies
 pub mod Silence

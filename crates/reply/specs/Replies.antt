@@ -19,11 +19,11 @@ use Rattle.symbols.specs.declared.Symbol.the-variants as symbol
 use Rattle.symbols.specs.Selection.{symbolOf}
 use Rattle.reply.specs.declared.Answer.{Answer}
 use Rattle.reply.specs.declared.Answer.the-variants.{NoWindow, Silent, Sent, Refused}
-use Rattle.reply.specs.declared.Seen.{Seen}
-use Rattle.reply.specs.declared.View.{View}
-use Rattle.reply.specs.declared.View.the-variants.{Unheard, Pdcch}
-use Rattle.reply.specs.Fold.{seenOf}
-use Rattle.reply.specs.Memory.{bit}
+use Rattle.fold.specs.declared.Seen.{Seen}
+use Rattle.heard.specs.declared.View.{View}
+use Rattle.heard.specs.declared.View.the-variants.{Unheard, Pdcch}
+use Rattle.fold.specs.Fold.{seenOf}
+use Rattle.heard.specs.Memory.{bit}
 
 -- A reply of a kind, 1 bundled or 2 multiplexed, with two bits, on the resource that the map gives. The one place that makes a
 -- reply. A valid grant has a resource; without one nothing is sent, which no state that 8 accepts comes to

@@ -13,11 +13,11 @@ use Rattle.resource.specs.declared.Mapped.the-variants as mapped
 use Rattle.resource.specs.declared.Resource.{Resource}
 use Rattle.resource.specs.Calls.{sizeOf, resourceOf}
 use Rattle.symbols.specs.Selection.{AllDtx}
-use Rattle.reply.specs.declared.Control.{Control}
-use Rattle.reply.specs.declared.Seen.{Seen}
-use Rattle.reply.specs.declared.View.{View}
-use Rattle.reply.specs.declared.View.the-variants.{Pdcch}
-use Rattle.reply.specs.Fold.{seenOf}
+use Rattle.heard.specs.declared.Control.{Control}
+use Rattle.fold.specs.declared.Seen.{Seen}
+use Rattle.heard.specs.declared.View.{View}
+use Rattle.heard.specs.declared.View.the-variants.{Pdcch}
+use Rattle.fold.specs.Fold.{seenOf}
 use Rattle.reply.specs.Replies.{missShown, windowState}
 
 -- Every heard position of subframe n's window has a resource: the resource call for it is not refused.

@@ -1,13 +1,13 @@
 // The reply of a window (document 01, "The bundled reply" and "The multiplexed reply").
 use crate::Answer;
 use crate::Reply;
-use crate::Seen;
-use crate::Slot;
-use crate::View;
-use crate::fold::seen_in;
-use crate::view_in;
+use fold::Seen;
+use fold::seen_in;
 use frame::Settings;
 use frame::Window;
+use heard::Slot;
+use heard::View;
+use heard::view_in;
 use resource::Cce;
 use resource::Mapped;
 use symbols::Symbol;
@@ -17,7 +17,7 @@ ghost use lib.ListN.{length};
 ghost use Rattle.frame.specs.Coded.{codedWindow};
 ghost use Rattle.frame.specs.Table.{windowOf};
 ghost use Rattle.symbols.specs.Coded.{digitOf, codeOf};
-ghost use Rattle.reply.specs.Memory.{viewAgo};
+ghost use Rattle.heard.specs.Memory.{viewAgo};
 ghost use Rattle.reply.specs.Replies.{replyOn, missShown, secondBit, bundledAnswer};
 ghost use Rattle.reply.specs.Replies.{stateOf, cceOf, windowState, multiplexedAnswer, windowAnswer};
 

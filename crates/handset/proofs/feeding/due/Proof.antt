@@ -5,7 +5,7 @@ use borrow.Author.Needs.{needs}
 use Rattle.frame.specs.Layout.{downlink}
 use Rattle.reply.specs.declared.Answer.{Answer}
 use Rattle.reply.specs.declared.Answer.the-variants.{Taken}
-use Rattle.reply.specs.Memory.{viewAgo}
+use Rattle.heard.specs.Memory.{viewAgo}
 use Rattle.reply.specs.Replies.{windowAnswer}
 use Rattle.handset.specs.declared.Handset.{Handset}
 use Rattle.handset.specs.Feed.{answerOf, dueOf}

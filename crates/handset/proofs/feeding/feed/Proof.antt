@@ -4,7 +4,7 @@ use mathlib.Core.Path.{_≡_, sym, _∙_}
 use borrow.Author.Needs.{needs}
 use Rattle.reply.specs.declared.Answer.{Answer}
 use Rattle.reply.specs.declared.Answer.the-variants.{Refused}
-use Rattle.reply.specs.declared.Heard.{Heard}
+use Rattle.heard.specs.declared.Heard.{Heard}
 use Rattle.handset.specs.declared.Fed.{Fed}
 use Rattle.handset.specs.declared.Handset.{Handset}
 use Rattle.handset.specs.Feed.{dueOf, pushed, feedRefusal, fedAs, feedOf}

@@ -4,11 +4,11 @@ use mathlib.Core.Path.{_≡_}
 use native.Mathlib.Omega.{arith}
 use lib.Dec.{eqb}
 use borrow.Author.Needs.{needs}
-use Rattle.reply.specs.declared.Grant.{Grant}
-use Rattle.reply.specs.declared.Heard.{Heard}
-use Rattle.reply.specs.declared.Heard.the-variants.{Nothing, Granted}
-use Rattle.reply.specs.declared.Slot.{Slot}
-use Rattle.reply.specs.Memory.{none, bit, slotOf}
+use Rattle.heard.specs.declared.Grant.{Grant}
+use Rattle.heard.specs.declared.Heard.{Heard}
+use Rattle.heard.specs.declared.Heard.the-variants.{Nothing, Granted}
+use Rattle.heard.specs.declared.Slot.{Slot}
+use Rattle.heard.specs.Memory.{none, bit, slotOf}
 use Rattle.reply.proofs.Bits.{cast-bit, cast-small}
 use Rattle.handset.specs.Stored.{Storable}
 use Rattle.handset.proofs.feeding.slot_of.Statement.{statement}

@@ -11,9 +11,9 @@ use Rattle.frame.specs.Settings.{bundles}
 use Rattle.frame.specs.Table.{windowOf}
 use Rattle.reply.specs.declared.Answer.{Answer}
 use Rattle.reply.specs.declared.Answer.the-variants.{NoWindow}
-use Rattle.reply.specs.declared.Seen.{Seen}
-use Rattle.reply.specs.declared.View.{View}
-use Rattle.reply.specs.Fold.{seenOf}
+use Rattle.fold.specs.declared.Seen.{Seen}
+use Rattle.heard.specs.declared.View.{View}
+use Rattle.fold.specs.Fold.{seenOf}
 use Rattle.reply.specs.Replies.{bundledAnswer, multiplexedAnswer, windowAnswer}
 use Rattle.reply.proofs.answers.answer_in.Statement.{statement}
 use Rattle.reply.proofs.answers.answer_in.Tie as tie

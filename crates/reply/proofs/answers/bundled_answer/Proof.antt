@@ -10,8 +10,8 @@ use Rattle.resource.specs.Calls.{resourceOf}
 use Rattle.resource.proofs.Sized.{resource-told}
 use Rattle.reply.specs.declared.Answer.{Answer}
 use Rattle.reply.specs.declared.Answer.the-variants.{Silent}
-use Rattle.reply.specs.declared.Seen.{Seen}
-use Rattle.reply.specs.Memory.{bit}
+use Rattle.fold.specs.declared.Seen.{Seen}
+use Rattle.heard.specs.Memory.{bit}
 use Rattle.reply.specs.Replies.{replyOn, missShown, secondBit, bundledAnswer}
 use Rattle.reply.proofs.Bits.{cast-bit}
 use Rattle.reply.proofs.answers.bundled_answer.Statement.{statement}

@@ -2,9 +2,9 @@
 use Prim.Native.Nat.{ℕ}
 use mathlib.Core.Path.{_≡_}
 use borrow.Author.Needs.{needs}
-use Rattle.reply.specs.declared.Control.{Control}
-use Rattle.reply.specs.declared.View.{View}
-use Rattle.reply.specs.declared.View.the-variants.{Unheard, Pdcch}
+use Rattle.heard.specs.declared.Control.{Control}
+use Rattle.heard.specs.declared.View.{View}
+use Rattle.heard.specs.declared.View.the-variants.{Unheard, Pdcch}
 use Rattle.reply.specs.Replies.{cceOf}
 use Rattle.reply.proofs.answers.cce_of.Statement.{statement}
 use Rattle.reply.proofs.answers.cce_of.Tie as tie

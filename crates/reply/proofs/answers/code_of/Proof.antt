@@ -4,9 +4,9 @@ use Prim.Native.Nat.{_-_, _≤_}
 use mathlib.Core.Path.{_≡_, refl}
 use native.Mathlib.Omega.{arith}
 use Rattle.frame.specs.Table.{windowOf}
-use Rattle.reply.specs.Memory.{viewAgo}
+use Rattle.heard.specs.Memory.{viewAgo}
 use Rattle.reply.specs.Replies.{stateOf, windowState}
-use Rattle.reply.proofs.Folding.{size-small, view-read}
+use Rattle.fold.proofs.Folding.{size-small, view-read}
 use Rattle.reply.proofs.Multiplexing.{codeTo, digit-most, k-range, code-small, code-next, code-end}
 use Rattle.reply.proofs.answers.code_of.Statement.{statement}
 use Rattle.reply.proofs.answers.code_of.Tie as tie

@@ -5,9 +5,9 @@ use mathlib.Core.Path.{_≡_}
 use borrow.Author.Needs.{needs}
 use Rattle.symbols.specs.declared.State.the-variants.{Ack, Nack}
 use Rattle.symbols.specs.Coded.{digitOf}
-use Rattle.reply.specs.declared.Control.{Control}
-use Rattle.reply.specs.declared.View.{View}
-use Rattle.reply.specs.declared.View.the-variants.{Unheard, Pdcch}
+use Rattle.heard.specs.declared.Control.{Control}
+use Rattle.heard.specs.declared.View.{View}
+use Rattle.heard.specs.declared.View.the-variants.{Unheard, Pdcch}
 use Rattle.reply.specs.Replies.{stateOf}
 use Rattle.reply.proofs.answers.digit_of.Statement.{statement}
 use Rattle.reply.proofs.answers.digit_of.Tie as tie

@@ -5,7 +5,7 @@ use native.Mathlib.Omega.{arith}
 use borrow.Author.Needs.{needs}
 use Rattle.frame.specs.declared.Window.{Window}
 use Rattle.resource.proofs.Sized.{resource-told}
-use Rattle.reply.proofs.Folding.{size-small, view-read}
+use Rattle.fold.proofs.Folding.{size-small, view-read}
 use Rattle.reply.proofs.Multiplexing.{k-range, index-small, symbol-silent, symbol-sent}
 use Rattle.reply.proofs.answers.multiplexed_answer.Statement.{statement}
 use Rattle.reply.proofs.answers.multiplexed_answer.Tie as tie

@@ -1,0 +1,89 @@
+-- The steps of the fold over a window, for a recursion or a loop alike.
+-- Assumes nothing.
+use Prim.Native.Nat.{ℕ, _+_, _-_, _<_, _≤_}
+use mathlib.Core.List.{List}
+use mathlib.Core.Path.{_≡_, sym, ap, _∙_}
+use native.Mathlib.Numerals.{add-one}
+use native.Mathlib.Omega.{arith}
+use lib.ListN.{length, getD, drop, drop-of-length-le}
+use lib.Seq.{drop-cons}
+use Rattle.frame.specs.declared.Window.{Window}
+use Rattle.frame.specs.Coded.{codedWindow}
+use Rattle.frame.specs.Order.{orderOf}
+use Rattle.frame.specs.Table.{windowOf}
+use Rattle.frame.proofs.Padded.{padded-at}
+use Rattle.frame.proofs.Times.{order-size, order-below}
+use Rattle.frame.proofs.Windows.{window-size, window-k}
+use Rattle.fold.specs.declared.Seen.{Seen}
+use Rattle.heard.specs.declared.Slot.{Slot}
+use Rattle.heard.specs.declared.View.{View}
+use Rattle.heard.specs.declared.View.the-variants.{Unheard, Pdcch}
+use Rattle.fold.specs.Fold.{stepOf, seenFrom}
+use Rattle.heard.specs.Memory.{none, viewIn, viewAgo}
+
+-- One position more.
+pub seen-more : (F : ℕ → View) (ks ms : List ℕ) (j : ℕ) (seen : Seen) → j < length ms
+    → seenFrom F ks (drop j ms) seen ≡ seenFrom F ks (drop (j + 1) ms) (stepOf seen (getD ms j 0) (F (getD ks (getD ms j 0) 0)))
+unfolding seenFrom
+seen-more F ks ms j seen h = rw (add-one, drop-cons ms j 0 h)
+
+-- No position left.
+pub seen-all : (F : ℕ → View) (ks ms : List ℕ) (j : ℕ) (seen : Seen) → length ms ≤ j → seenFrom F ks (drop j ms) seen ≡ seen
+unfolding seenFrom
+seen-all F ks ms j seen h = rw (drop-of-length-le ms {i = j} h)
+
+-- A step counts at most one more.
+step-counts : (seen : Seen) (m : ℕ) (x : View) → stepOf seen m x .u ≤ seen .u + 1
+unfolding stepOf
+step-counts seen m Unheard = omega arith
+step-counts seen m (Pdcch g) = omega arith
+
+pub step-left : (seen : Seen) (m : ℕ) (x : View) (next : Seen) (j : ℕ) → next ≡ stepOf seen m x → seen .u ≤ j → next .u ≤ j + 1
+step-left seen m x next j e h = rw e (omega (arith, step-counts seen m x))
+
+-- What a reply sees of the subframe k ago, as the code reads it.
+pub view-read : (past : List Slot) (k : ℕ) (x : View) → x ≡ viewIn (getD past (k - 1) none) → x ≡ viewAgo past k
+unfolding viewAgo
+view-read past k x e = e
+
+-- The window that was read, at its j-th position in time order.
+module _ (c n : ℕ) (w : Window) (read : w ≡ codedWindow (windowOf c n)) where
+  pub size-read : w .size ≡ length (windowOf c n)
+  size-read = ap (λ (w : Window). w .size) read
+
+  -- its time order has as many positions
+  pub order-length : length (orderOf (windowOf c n)) ≡ w .size
+  order-length = order-size c n ∙ sym size-read
+
+  pub position-read : (j : ℕ) → getD (w .order) j 0 ≡ getD (orderOf (windowOf c n)) j 0
+  position-read j =
+      ap (λ (w : Window). getD (w .order) j 0) read
+      ∙ padded-at 9 (orderOf (windowOf c n)) j (omega (arith, order-size c n, window-size c n))
+
+  pub k-read : (m : ℕ) → getD (w .k) m 0 ≡ getD (windowOf c n) m 0
+  k-read m = ap (λ (w : Window). getD (w .k) m 0) read ∙ padded-at 9 (windowOf c n) m (window-size c n)
+
+  pub position-small : (j : ℕ) → j < w .size → getD (w .order) j 0 < w .size
+  position-small j h = omega (arith, position-read j, order-below c n j (rw size-read at h), size-read)
+
+  pub size-small : w .size ≤ 9
+  size-small = omega (arith, size-read, window-size c n)
+
+  pub k-small : (j : ℕ) → j < w .size → (1 ≤ getD (w .k) (getD (w .order) j 0) 0) × (getD (w .k) (getD (w .order) j 0) 0 ≤ 13)
+  k-small j h =
+      let m : ℕ = getD (w .order) j 0 in
+      omega (arith, k-read m, window-k c n m (rw size-read at (position-small j h)))
+
+  -- No position left, as the code reads it.
+  pub seen-end : (F : ℕ → View) (j : ℕ) (seen : Seen) → w .size ≤ j
+      → seen ≡ seenFrom F (windowOf c n) (drop j (orderOf (windowOf c n))) seen
+  seen-end F j seen h = sym (seen-all F (windowOf c n) (orderOf (windowOf c n)) j seen (rw order-length h))
+
+  -- One position more, as the code reads it.
+  pub seen-next : (F : ℕ → View) (j : ℕ) (seen : Seen) → j < w .size
+      → (x : View) → x ≡ F (getD (w .k) (getD (w .order) j 0) 0) → (next : Seen) → next ≡ stepOf seen (getD (w .order) j 0) x
+      → seenFrom F (windowOf c n) (drop (j + 1) (orderOf (windowOf c n))) next
+      ≡ seenFrom F (windowOf c n) (drop j (orderOf (windowOf c n))) seen
+  seen-next F j seen h x ex next en =
+      rw (en, ex, k-read (getD (w .order) j 0), position-read j)
+      (sym (seen-more F (windowOf c n) (orderOf (windowOf c n)) j seen (rw order-length h)))

@@ -1,0 +1,43 @@
+// What a bundled reply needs of a window, found subframe by subframe (document 01, "The bundled reply").
+mod window;
+
+use heard::View;
+use heard::pick;
+use resource::Cce;
+pub use window::seen_in;
+ghost use mathlib.Core.Path.{_≡_};
+ghost use Prim.Native.Nat.{_≤_};
+ghost use Rattle.fold.specs.Fold.{stepOf};
+
+// What the fold over a window finds: U, V, the position and first CCE of the last heard grant, and each block's AND.
+pub struct Seen {
+    pub u: u16,
+    pub v: u16,
+    pub position: u16,
+    pub cce: Cce,
+    pub first: bool,
+    pub second: bool,
+}
+
+// One subframe more, at position m.
+fn step(seen: Seen, m: u16, x: View) -> Seen
+    requires { ⌜ seen .u ≤ 9 ⌝ }
+    ensures { λ r. ⌜ r ≡ stepOf seen m x ⌝ }
+{
+    match x {
+        View::Unheard => seen,
+        View::Pdcch(g) => {
+            let cce = g.cce;
+            let first = pick(seen.first, g.first, false);
+            let second = pick(seen.second, g.second, false);
+            Seen {
+                u: seen.u + 1,
+                v: g.dai,
+                position: m,
+                cce,
+                first,
+                second,
+            }
+        }
+    }
+}

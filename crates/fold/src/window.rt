@@ -1,0 +1,44 @@
+// U and V of a window, found by recursion over its positions in time order (document 01, "The bundled reply").
+use crate::Seen;
+use crate::step;
+use frame::Window;
+use heard::Slot;
+use heard::view_in;
+use resource::Cce;
+ghost use mathlib.Core.Path.{_≡_};
+ghost use lib.ListN.{drop};
+ghost use Rattle.frame.specs.Order.{orderOf};
+ghost use Rattle.frame.specs.Table.{windowOf};
+ghost use Rattle.fold.specs.Fold.{Before, seenFrom, seenOf};
+ghost use Rattle.heard.specs.Memory.{viewAgo};
+
+// The positions from the j-th in time order on: one subframe fewer at each call.
+fn seen_from(past: [Slot; 13], config: u16, n: u16, w: Window, j: u16, seen: Seen) -> Seen
+    requires { ⌜ Before config n w j seen ⌝ }
+    ensures { λ r. ⌜ r ≡ seenFrom (viewAgo past) (windowOf config n) (drop j (orderOf (windowOf config n))) seen ⌝ }
+{
+    if w.size <= j {
+        return seen;
+    }
+    let order = w.order;
+    let m = order[j as usize];
+    let k = w.k;
+    let t = past[(k[m as usize] - 1) as usize];
+    seen_from(past, config, n, w, j + 1, step(seen, m, view_in(t)))
+}
+
+// U, V and the rest for the window of subframe n, over what is remembered.
+pub fn seen_in(past: [Slot; 13], config: u16, n: u16) -> Seen
+    ensures { λ r. ⌜ r ≡ seenOf (viewAgo past) (windowOf config n) ⌝ }
+{
+    let w = frame::window_of(config, n);
+    let unseen = Seen {
+        u: 0,
+        v: 0,
+        position: 0,
+        cce: Cce::new(0),
+        first: true,
+        second: true,
+    };
+    seen_from(past, config, n, w, 0, unseen)
+}
