@@ -1,7 +1,7 @@
 -- One bundled window, from what was sent and heard in it alone: demand 3's sentences on a window that 01 bundles.
 -- Assumes nothing.
 use Prim.Native.Nat.{ℕ, _+_, _-_, _%_, _<_, _≤_}
-use mathlib.Core.Bool.{Bool, true, false, cond, not, _&&_, false≢true}
+use mathlib.Core.Bool.{Bool, true, false, cond, not, _&&_, and-true, false≢true}
 use mathlib.Core.List.{List, map}
 use mathlib.Core.Logic.{_⊎_, inl, inr, _↔_, ⊎-elim}
 use mathlib.Core.Path.{_≡_, refl, sym, ap, _∙_}
@@ -20,10 +20,11 @@ use Rattle.resource.specs.declared.Mapped.the-variants as mapped
 use Rattle.resource.specs.Calls.{sizeOf, resourceOf}
 use Rattle.resource.specs.Formula.{edge}
 use Rattle.resource.proofs.OneToOne.{calls-one-to-one}
+use Rattle.confirmation.specs.declared.Send.{Send}
 use Rattle.reply.specs.declared.Answer.the-variants as answer
 use Rattle.heard.specs.declared.Grant.{Grant}
 use Rattle.heard.specs.declared.Heard.{Heard}
-use Rattle.heard.specs.declared.Heard.the-variants.{Granted}
+use Rattle.heard.specs.declared.Heard.the-variants.{Nothing, Granted}
 use Rattle.reply.specs.declared.Reply.{Reply}
 use Rattle.fold.specs.declared.Seen.{Seen}
 use Rattle.heard.specs.declared.View.{View}
@@ -34,7 +35,7 @@ use Rattle.reply.specs.Replies.{replyOn, expected, missShown, secondBit, bundle
 use Rattle.station.specs.declared.Reading.the-variants as reading
 use Rattle.station.specs.Readings.{badBits, bundledReading, readAt, readOf}
 use Rattle.station.proofs.Back.{read-there}
-use Rattle.agreement.specs.Run.{Send, RuleFrom, Brings}
+use Rattle.agreement.specs.Run.{RuleFrom, Brings}
 use Rattle.agreement.specs.Window.{Entry, at, anyHeard, lostBefore, heardAt, lastHeard, decodedFirst, decodedSecond, EveryHeard, BundledReply, Bundled}
 use Rattle.agreement.proofs.Entries.{all-of, OfWindow, of-window, in-time, entry, seen-entries, ruled, brought, entries-length, last-of, some-last}
 use Rattle.agreement.proofs.Exactly.{sent-exactly}
@@ -77,6 +78,17 @@ fits-only u lost h few e = go (ℕ-discrete lost 0) (ℕ-discrete lost 4)
     go (yes a) b = inl a
     go (no a) (yes b) = inr (inl b)
     go (no a) (no b) = inr (inr (omega arith))
+
+-- A subframe more joins each block's AND.
+first-joined : (s : Seen) (m : ℕ) (x : Heard) → stepOf s m (viewOf x) .first ≡ (s .first && decodedFirst x)
+unfolding stepOf viewOf
+first-joined s m Nothing = sym (and-true (s .first))
+first-joined s m (Granted g) = refl
+
+second-joined : (s : Seen) (m : ℕ) (x : Heard) → stepOf s m (viewOf x) .second ≡ (s .second && decodedSecond x)
+unfolding stepOf viewOf
+second-joined s m Nothing = sym (and-true (s .second))
+second-joined s m (Granted g) = refl
 
 module _ (set : Settings) (n : ℕ) (good : windowRefusal set n ≡ 0) (ok : Accepted set) (mode : bundles set (sizeOf set n) ≡ true)
     (S : ℕ → Send) (H : ℕ → Heard) (F : ℕ → View)
@@ -181,14 +193,14 @@ module _ (set : Settings) (n : ℕ) (good : windowRefusal set n ≡ 0) (ok : Acc
   first-all : (seen .first ≡ true) ↔ EveryHeard decodedFirst es
   unfolding seen es stepOf viewOf
   first-all =
-      let a = all-decoded (windowOf (set .config) n) (λ (s : Seen). s .first) decodedFirst (λ s m. refl) (λ s m g. refl)
+      let a = all-decoded (windowOf (set .config) n) (λ (s : Seen). s .first) decodedFirst first-joined
       (map (entry S H) (timesOf (windowOf (set .config) n))) unseen in
       (λ e. a .0 e .1, λ h. a .1 (refl, h))
 
   second-all : (seen .second ≡ true) ↔ EveryHeard decodedSecond es
   unfolding seen es stepOf viewOf
   second-all =
-      let a = all-decoded (windowOf (set .config) n) (λ (s : Seen). s .second) decodedSecond (λ s m. refl) (λ s m g. refl)
+      let a = all-decoded (windowOf (set .config) n) (λ (s : Seen). s .second) decodedSecond second-joined
       (map (entry S H) (timesOf (windowOf (set .config) n))) unseen in
       (λ e. a .0 e .1, λ h. a .1 (refl, h))
 

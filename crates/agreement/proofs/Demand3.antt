@@ -1,4 +1,4 @@
--- Demand 3 of the engine of this repository: specs/Claim.antt, proved.
+-- Demand 3 of the engine of this repository: specs/Demand3.antt, proved.
 -- Assumes nothing.
 use Prim.Native.Nat.{ℕ, zero, suc, _+_, _%_, _<_}
 use mathlib.Core.Bool.{Bool, true, false, cond}
@@ -14,6 +14,7 @@ use Rattle.frame.specs.Settings.{settingsRefusal}
 use Rattle.frame.proofs.Windows.{exactly-one}
 use Rattle.resource.proofs.OneToOne.{calls-one-to-one, resource-call, paired}
 use Rattle.resource.specs.Calls.{sizeOf}
+use Rattle.confirmation.specs.declared.Send.{Send}
 use Rattle.heard.specs.declared.Heard.{Heard}
 use Rattle.heard.specs.declared.Heard.the-variants.{Nothing}
 use Rattle.heard.specs.Heard.{heardRefusal}
@@ -21,43 +22,47 @@ use Rattle.handset.specs.declared.Fed.{Fed}
 use Rattle.handset.specs.Feed.{feedOf}
 use Rattle.handset.specs.Make.{makeOf}
 use Rattle.station.proofs.Back.{read-back}
-use Rattle.agreement.specs.Claim.{ours, turnAt, IsSubframe, Demand3}
-use Rattle.agreement.specs.Run.{Send, Item, feed, heardFrom, Turn, turns, Schedule, Brings, subframeAt, BringsSent}
+use Rattle.agreement.specs.Demand3.{feedbackEngine, handsetAt, fedAt, IsFeed, IsSubframe, Demand3}
+use Rattle.agreement.specs.Run.{Item, feed, itemAt, handsetAfter, heardFrom, heardInRun, Schedule, Brings, subframeAt, BringsSent}
 use Rattle.agreement.proofs.Memory.{ValidPast, after, fresh-after}
-use Rattle.agreement.proofs.Turns.{Past, accepted-after, refused-after, turn-claim, Answered, TurnClaim}
+use Rattle.agreement.proofs.Feeds.{Past, accepted-after, refused-after, feed-holds, Answered, FeedHolds}
 
 module _ (set : Settings) (good : settingsRefusal set ≡ 0) (sent : ℕ → Send) (schedule : Schedule set sent) (heard : List Heard)
     (brings : (s : ℕ) → s < length heard → Brings (sent s) (getD heard s Nothing)) where
-  -- The run's list of heard things goes on, from subframe s, with what the feeds still to come bring.
-  abbrev Rest : ℕ → List Item → Type 0
-  Rest s items = (j : ℕ) → getD heard (s + j) Nothing ≡ getD (heardFrom set s items) j Nothing
+  -- The run's list of heard things goes on, after the history l, with what the feeds still to come bring.
+  abbrev Rest : List Heard → List Item → Type 0
+  Rest l items = (j : ℕ) → getD heard (length l + j) Nothing ≡ getD (heardFrom set l items) j Nothing
 
-  -- Every feed of a list is as claimed, from the handset after any history.
-  every-turn : (items : List Item) (l : List Heard) → ValidPast set l → Past heard l → Rest (length l) items
-      → (i : ℕ) → i < length items → (d : Turn)
-      → TurnClaim set sent heard (length l + length (heardFrom set (length l) (take i items))) (getD (turns feedOf (after set l) items) i d)
-  every-turn [] l valid past rest i h d = absurd (not-suc-le-zero h)
-  every-turn (feed x ∷ items) l valid past rest zero h d = rw (add-zero (length l)) (turn-claim set good sent schedule heard brings l valid past x)
-  every-turn (feed x ∷ items) l valid past rest (suc i) h d =
-      go (eqb (heardRefusal set (length l % 10) x) 0) refl rest
-      (λ l′ valid′ past′ rest′. every-turn items l′ valid′ past′ rest′ i (le-of-suc-le-suc h) d)
+  same-feed : (x y : Heard) → feed x ≡ feed y → x ≡ y
+  same-feed x y e = cc
+
+  -- Every feed of a list is as demanded, from the handset after any history.
+  every-feed : (items : List Item) (l : List Heard) → ValidPast set l → Past heard l → Rest l items
+      → (i : ℕ) (x : Heard) → i < length items → itemAt items i ≡ feed x
+      → FeedHolds set sent heard (length l + length (heardFrom set l (take i items))) (handsetAfter feedOf (after set l) (take i items)) x
+  every-feed [] l valid past rest i x h e = absurd (not-suc-le-zero h)
+  every-feed (feed y ∷ items) l valid past rest zero x h e =
+      rw (add-zero (length l), ← same-feed y x e) (feed-holds set good sent schedule heard brings l valid past y)
+  every-feed (feed y ∷ items) l valid past rest (suc i) x h e =
+      go (eqb (heardRefusal set (length l % 10) y) 0) refl rest
+      (λ l′ valid′ past′ rest′. every-feed items l′ valid′ past′ rest′ i x (le-of-suc-le-suc h) e)
     where
-      go : (b : Bool) → eqb (heardRefusal set (length l % 10) x) 0 ≡ b
-          → ((j : ℕ) → getD heard (length l + j) Nothing ≡ getD (cond b (x ∷ heardFrom set (suc (length l)) items) (heardFrom set (length l) items)) j Nothing)
-          → ((l′ : List Heard) → ValidPast set l′ → Past heard l′ → Rest (length l′) items
-          → TurnClaim set sent heard (length l′ + length (heardFrom set (length l′) (take i items))) (getD (turns feedOf (after set l′) items) i d))
-          → TurnClaim set sent heard (length l + length (cond b (x ∷ heardFrom set (suc (length l)) (take i items)) (heardFrom set (length l) (take i items))))
-          (getD (turns feedOf (feedOf (after set l) x .handset) items) i d)
+      go : (b : Bool) → eqb (heardRefusal set (length l % 10) y) 0 ≡ b
+          → ((j : ℕ) → getD heard (length l + j) Nothing ≡ getD (cond b (y ∷ heardFrom set (y ∷ l) items) (heardFrom set l items)) j Nothing)
+          → ((l′ : List Heard) → ValidPast set l′ → Past heard l′ → Rest l′ items
+          → FeedHolds set sent heard (length l′ + length (heardFrom set l′ (take i items))) (handsetAfter feedOf (after set l′) (take i items)) x)
+          → FeedHolds set sent heard (length l + length (cond b (y ∷ heardFrom set (y ∷ l) (take i items)) (heardFrom set l (take i items))))
+          (handsetAfter feedOf (feedOf (after set l) y .handset) (take i items)) x
       go true b rest next =
-          let e : heardRefusal set (length l % 10) x ≡ 0 = eqb-true (heardRefusal set (length l % 10) x) 0 b in
-          let here : getD heard (length l) Nothing ≡ x = ap (λ (s : ℕ). getD heard s Nothing) (sym (add-zero (length l))) ∙ rest 0 in
-          let more : Rest (suc (length l)) items = λ j.
+          let ok : heardRefusal set (length l % 10) y ≡ 0 = eqb-true (heardRefusal set (length l % 10) y) 0 b in
+          let here : getD heard (length l) Nothing ≡ y = ap (λ (s : ℕ). getD heard s Nothing) (sym (add-zero (length l))) ∙ rest 0 in
+          let more : Rest (y ∷ l) items = λ j.
           ap (λ (s : ℕ). getD heard s Nothing) (suc-add (length l) j ∙ sym (add-suc (length l) j)) ∙ rest (suc j) in
-          let count : length l + suc (length (heardFrom set (suc (length l)) (take i items))) ≡ suc (length l) + length (heardFrom set (suc (length l)) (take i items)) = omega arith in
-          rw (count, ap (λ (f : Fed). f .handset) (accepted-after set good sent schedule heard brings l valid past x e))
-          (next (x ∷ l) (e, valid) (here, past) more)
+          let count : length l + suc (length (heardFrom set (y ∷ l) (take i items))) ≡ suc (length l) + length (heardFrom set (y ∷ l) (take i items)) = omega arith in
+          rw (count, ap (λ (f : Fed). f .handset) (accepted-after set good sent schedule heard brings l valid past y ok))
+          (next (y ∷ l) (ok, valid) (here, past) more)
       go false b rest next =
-          rw (ap (λ (f : Fed). f .handset) (refused-after set good sent schedule heard brings l valid past x (eqb-false (heardRefusal set (length l % 10) x) 0 b)))
+          rw (ap (λ (f : Fed). f .handset) (refused-after set good sent schedule heard brings l valid past y (eqb-false (heardRefusal set (length l % 10) y) 0 b)))
           (next l valid past rest)
 
 -- Making from accepted settings gives a fresh handset.
@@ -69,22 +74,22 @@ made-accepted : (set : Settings) → settingsRefusal set ≡ 0 → makeOf set .r
 unfolding makeOf
 made-accepted set good = good
 
--- Every feed of a run is as claimed.
-every-feed : (set : Settings) → settingsRefusal set ≡ 0 → (sent : ℕ → Send) → Schedule set sent → (items : List Item) → BringsSent set sent items
-    → (i : ℕ) → i < length items → TurnClaim set sent (heardFrom set 0 items) (subframeAt set items i) (turnAt ours set items i)
-every-feed set good sent schedule items brings i h =
-    rw (made-fresh set good, ← zero-add (length (heardFrom set 0 (take i items))))
-    (every-turn set good sent schedule (heardFrom set 0 items) brings items [] tt tt
-    (λ j. ap (λ (s : ℕ). getD (heardFrom set 0 items) s Nothing) (zero-add j)) i h _)
+-- Every feed of a run is as demanded.
+run-feed : (set : Settings) → settingsRefusal set ≡ 0 → (sent : ℕ → Send) → Schedule set sent → (items : List Item) → BringsSent set sent items
+    → (i : ℕ) (x : Heard) → IsFeed items i x → FeedHolds set sent (heardInRun set items) (subframeAt set items i) (handsetAt feedbackEngine set items i) x
+run-feed set good sent schedule items brings i x f =
+    rw (made-fresh set good, ← zero-add (length (heardFrom set [] (take i items))))
+    (every-feed set good sent schedule (heardInRun set items) brings items [] tt tt
+    (λ j. ap (λ (s : ℕ). getD (heardInRun set items) s Nothing) (zero-add j)) i x (f .inside) (f .brings))
 
 -- So is every subframe of the run.
-every-subframe : (set : Settings) → settingsRefusal set ≡ 0 → (sent : ℕ → Send) → Schedule set sent → (items : List Item) → BringsSent set sent items
-    → (i s : ℕ) → IsSubframe ours set items i s → Answered set sent (heardFrom set 0 items) s (turnAt ours set items i .fed .answer)
-every-subframe set good sent schedule items brings i s at =
-    rw (at .counted) at (every-feed set good sent schedule items brings i (at .inside) .accepted (at .accepted))
+run-subframe : (set : Settings) → settingsRefusal set ≡ 0 → (sent : ℕ → Send) → Schedule set sent → (items : List Item) → BringsSent set sent items
+    → (i s : ℕ) (x : Heard) → IsSubframe set items i s x → Answered set sent (heardInRun set items) s (fedAt feedbackEngine set items i x .answer)
+run-subframe set good sent schedule items brings i s x at =
+    rw (at .counted) at (run-feed set good sent schedule items brings i x (at .isFeed) .accepted (at .accepted))
 
 -- The theorem of the third demand: it holds of the engine of this repository.
-pub demand3 : Demand3 ours
+pub demand3 : Demand3 feedbackEngine
 demand3 =
     record {
       byFormula = λ set n m c good h top. resource-call set n good m c ∙ paired (set .nrb) (set .n1) (sizeOf set n) m c h top .there;
@@ -94,11 +99,11 @@ demand3 =
       made = made-accepted;
       run = λ set good sent schedule items brings.
           record {
-            refusedExactly = λ i h. every-feed set good sent schedule items brings i h .refusedExactly;
-            leaves = λ i h. every-feed set good sent schedule items brings i h .refused;
-            taken = λ i s at. every-subframe set good sent schedule items brings i s at .taken;
-            noWindow = λ i s at. every-subframe set good sent schedule items brings i s at .noWindow;
-            bundled = λ i s at. every-subframe set good sent schedule items brings i s at .bundled;
-            multiplexed = λ i s at. every-subframe set good sent schedule items brings i s at .multiplexed;
+            refusedExactly = λ i x f. run-feed set good sent schedule items brings i x f .refusedExactly;
+            leaves = λ i x f. run-feed set good sent schedule items brings i x f .refused;
+            taken = λ i s x at. run-subframe set good sent schedule items brings i s x at .taken;
+            noWindow = λ i s x at. run-subframe set good sent schedule items brings i s x at .noWindow;
+            bundled = λ i s x at. run-subframe set good sent schedule items brings i s x at .bundled;
+            multiplexed = λ i s x at. run-subframe set good sent schedule items brings i s x at .multiplexed;
           };
     }

@@ -1,7 +1,7 @@
 -- The entries of a window, made k by k from what was sent and what was heard k ago.
 -- Assumes nothing.
-use Prim.Native.Nat.{ℕ, suc, _<_, _≤_}
-use mathlib.Core.Bool.{Bool, true, false, _||_, false≢true, or-true}
+use Prim.Native.Nat.{ℕ, suc, _+_, _<_, _≤_}
+use mathlib.Core.Bool.{Bool, true, false, cond, _||_, false≢true, or-true}
 use mathlib.Core.List.{List, [], _∷_, map}
 use mathlib.Core.Path.{_≡_, refl, sym, ap, _∙_}
 use native.Mathlib.Omega.{arith}
@@ -12,6 +12,8 @@ use Rattle.frame.specs.Order.{member, positionOf, timesOf}
 use Rattle.frame.specs.Table.{windowOf}
 use Rattle.frame.proofs.Times.{in-time-order}
 use Rattle.frame.proofs.Windows.{position-window, window-k}
+use Rattle.confirmation.specs.declared.Send.{Send}
+use Rattle.confirmation.specs.Sent.{isGrant}
 use Rattle.heard.specs.declared.Grant.{Grant}
 use Rattle.heard.specs.declared.Heard.{Heard}
 use Rattle.heard.specs.declared.Heard.the-variants.{Nothing, Granted}
@@ -19,7 +21,7 @@ use Rattle.fold.specs.declared.Seen.{Seen}
 use Rattle.heard.specs.declared.View.{View}
 use Rattle.fold.specs.Fold.{stepOf, seenFrom}
 use Rattle.heard.specs.Heard.{viewOf}
-use Rattle.agreement.specs.Run.{Send, nothing, grant, RuleFrom, Brings}
+use Rattle.agreement.specs.Run.{RuleFrom, Brings}
 use Rattle.agreement.specs.Window.{Entry, at, isHeard, anyHeard, Last, unheard, heardAt, asLast, later, lastHeard}
 use Rattle.agreement.proofs.Folded.{foldIn, Brought, Ruled}
 
@@ -82,11 +84,7 @@ module _ (S : ℕ → Send) (H : ℕ → Heard) where
 
   pub ruled : (ts : List ℕ) (j : ℕ) → RuleFrom j (map S ts) → Ruled j (map entry ts)
   ruled [] j r = tt
-  ruled (k ∷ ts) j r = go (S k) (λ i. ruled ts i) r
-    where
-      go : (s : Send) → ((i : ℕ) → RuleFrom i (map S ts) → Ruled i (map entry ts)) → RuleFrom j (s ∷ map S ts) → Ruled j (at k s (H k) ∷ map entry ts)
-      go nothing rest r = rest j r
-      go (grant b c d) rest r = (r .0, rest (suc j) (r .1))
+  ruled (k ∷ ts) j r = (r .0, ruled ts (cond (isGrant (S k)) 1 0 + j) (r .1))
 
   pub brought : (ts : List ℕ) → AllOf (λ (k : ℕ). Brings (S k) (H k)) ts → Brought (map entry ts)
   brought [] h = tt

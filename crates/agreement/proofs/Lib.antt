@@ -2,11 +2,8 @@ pub mod BundledWindow
 pub mod Demand3
 pub mod Entries
 pub mod Exactly
-pub mod Finite
+pub mod Feeds
 pub mod Folded
 pub mod Memory
 pub mod MultiplexedWindow
 pub mod NeverRefused
-pub mod Turns
-pub mod Worked
-pub mod WrongEngines

@@ -26,6 +26,7 @@ use Rattle.symbols.specs.Selection.{symbolOf, AllDtx}
 use Rattle.symbols.proofs.Reading.{delivered-exactly, set-below, set-bit}
 use Rattle.symbols.proofs.Rows.{silent-exactly, index-heard}
 use Rattle.reply.specs.declared.Answer.the-variants as answer
+use Rattle.confirmation.specs.declared.Send.{Send}
 use Rattle.heard.specs.declared.Grant.{Grant}
 use Rattle.heard.specs.declared.Heard.{Heard}
 use Rattle.heard.specs.declared.Heard.the-variants.{Nothing, Granted}
@@ -35,7 +36,6 @@ use Rattle.heard.specs.Heard.{viewOf}
 use Rattle.reply.specs.Replies.{replyOn, stateOf, cceOf, windowState, symbolAnswer, multiplexedAnswer}
 use Rattle.station.specs.Readings.{readOf}
 use Rattle.station.proofs.Back.{read-symbol}
-use Rattle.agreement.specs.Run.{Send}
 use Rattle.agreement.specs.Window.{Entry, anyHeard, decodedFirst, decodedSecond, stateIn, MultiplexedReply, Multiplexed}
 use Rattle.agreement.proofs.Entries.{AllOf, all-of, of-all, of-window, in-time, in-window, entry, none-heard, all-nothing}
 use Rattle.agreement.proofs.Exactly.{sent-exactly}
@@ -57,7 +57,7 @@ heard-state (Granted g) h = (g, refl)
 
 dtx-unheard : (x : Heard) → stateIn x ≡ Dtx → x ≡ Nothing
 dtx-unheard Nothing e = refl
-dtx-unheard (Granted g) e = go (decodedFirst g && decodedSecond g) e
+dtx-unheard (Granted g) e = go (decodedFirst (Granted g) && decodedSecond (Granted g)) e
   where
     go : (b : Bool) → cond b Ack Nack ≡ Dtx → Granted g ≡ Nothing
     go true e = let z : _≡_ {A = ℕ} 0 1 = cc in absurd (omega arith)

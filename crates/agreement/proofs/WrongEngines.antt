@@ -44,7 +44,7 @@ use Rattle.handset.specs.Sound.{slotSound, allSound, stateSound, stateRefusal}
 use Rattle.station.specs.declared.Reading.{Reading}
 use Rattle.station.specs.declared.Reading.the-variants as reading
 use Rattle.station.specs.Readings.{readOf}
-use Rattle.agreement.specs.Claim.{Engine, turnAt, Demand3}
+use Rattle.agreement.specs.Demand3.{Engine, turnAt, Demand3}
 use Rattle.agreement.specs.Run.{grant, Turn, turns}
 use Rattle.agreement.proofs.Finite.{sending, scheduled, brought}
 use Rattle.agreement.proofs.Worked.{cell, hearsNothing, hears, Run, allHeard, shared, runs}

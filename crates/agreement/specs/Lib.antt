@@ -1,3 +1,4 @@
-pub mod Claim
+pub mod Confirmation
+pub mod Demand3
 pub mod Run
 pub mod Window

@@ -1,7 +1,7 @@
 -- The runs of demand 3: document 01, "The runs of demand 3". Its sentences stand above the definitions that they give.
 -- Assumes nothing.
-use Prim.Native.Nat.{ℕ, suc, _+_, _-_, _%_, _<_}
-use mathlib.Core.Bool.{false, cond}
+use Prim.Native.Nat.{ℕ, suc, _-_, _%_, _+_, _<_}
+use mathlib.Core.Bool.{true, false, cond}
 use mathlib.Core.List.{List, [], _∷_, map}
 use mathlib.Core.Logic.{_⊎_}
 use mathlib.Core.Path.{_≡_}
@@ -10,6 +10,9 @@ use lib.ListN.{length, getD, take}
 use Rattle.frame.specs.declared.Settings.{Settings}
 use Rattle.frame.specs.Order.{timesOf}
 use Rattle.frame.specs.Table.{windowOf}
+use Rattle.confirmation.specs.declared.Send.{Send}
+use Rattle.confirmation.specs.declared.Send.the-variants as send
+use Rattle.confirmation.specs.Sent.{isGrant, daiOf}
 use Rattle.heard.specs.declared.Heard.{Heard}
 use Rattle.heard.specs.declared.Heard.the-variants.{Nothing, Granted}
 use Rattle.heard.specs.Heard.{heardRefusal}
@@ -20,46 +23,44 @@ use Rattle.handset.specs.declared.Handset.{Handset}
 pub data Item : Type 0 where
   feed : Heard → Item
 
+-- Item i of a run, where it has one.
+abbrev pub itemAt : List Item → ℕ → Item
+itemAt items i = getD items i (feed Nothing)
+
+-- "Each gets the handset that the one before returned or left": the handset after a list of items.
+abbrev pub handsetAfter : (Handset → Heard → Fed) → Handset → List Item → Handset
+handsetAfter step h [] = h
+handsetAfter step h (feed x ∷ items) = handsetAfter step (step h x .handset) items
+
 -- "A feed is refused exactly when a cause for a feed, .., is met at the run's next subframe, ..; .. what it brought is neither sent
 -- nor heard. The other feeds, counted s = 0, 1, 2, .., are the run's subframes, s mod 10 in the frame."
--- What the run's subframes heard, from subframe s on.
-abbrev pub heardFrom : Settings → ℕ → List Item → List Heard
-heardFrom set s [] = []
-heardFrom set s (feed x ∷ items) =
-    cond (eqb (heardRefusal set (s % 10) x) 0) (x ∷ heardFrom set (suc s) items) (heardFrom set s items)
+-- What the run's subframes hear from here on, where those before heard `past`, the newest first.
+abbrev pub heardFrom : Settings → List Heard → List Item → List Heard
+heardFrom set past [] = []
+heardFrom set past (feed x ∷ items) =
+    cond (eqb (heardRefusal set (length past % 10) x) 0) (x ∷ heardFrom set (x ∷ past) items) (heardFrom set past items)
 
--- The run's next subframe at feed i: as many feeds before it were not refused.
+-- What the run's subframes heard, subframe 0 first.
+abbrev pub heardInRun : Settings → List Item → List Heard
+heardInRun set items = heardFrom set [] items
+
+-- The run's next subframe at item i: as many feeds before it were not refused.
 abbrev pub subframeAt : Settings → List Item → ℕ → ℕ
-subframeAt set items i = length (heardFrom set 0 (take i items))
-
--- "Each gets the handset that the one before returned or left": a feed, the handset it got and what came of it.
-pub record Turn : Type 0 where
-  pub handset : Handset
-  pub brought : Heard
-  pub fed : Fed
-
-abbrev pub turns : (Handset → Heard → Fed) → Handset → List Item → List Turn
-turns step h [] = []
-turns step h (feed x ∷ items) = record { handset = h; brought = x; fed = step h x } ∷ turns step (step h x .handset) items
-
--- "In a downlink one the station sent a valid grant or nothing": a grant has blocks, first CCE and DAI.
-pub data Send : Type 0 where
-  nothing : Send
-  grant : (blocks cce dai : ℕ) → Send
+subframeAt set items i = length (heardInRun set (take i items))
 
 -- What a feed brings, its decoding left out.
 abbrev pub sentOf : Heard → Send
-sentOf Nothing = nothing
-sentOf (Granted g) = grant (g .blocks) (g .cce .0) (g .dai)
+sentOf Nothing = send.Nothing
+sentOf (Granted g) = send.Granted (record { blocks = g .blocks; cce = g .cce; dai = g .dai })
 
 -- A sent grant as 9 to 12 look at it; they don't look at its decoding.
 abbrev pub asHeard : Send → Heard
-asHeard nothing = Nothing
-asHeard (grant b c d) = Granted (record { blocks = b; first = false; second = false; cce = record { 0 = c }; dai = d })
+asHeard send.Nothing = Nothing
+asHeard (send.Granted g) = Granted (record { blocks = g .blocks; first = false; second = false; cce = g .cce; dai = g .dai })
 
 -- What was sent, and what was heard, k before subframe s; "before the start .. nothing".
 abbrev pub sentAgo : (ℕ → Send) → ℕ → ℕ → Send
-sentAgo sent s k = cond (leb k s) (sent (s - k)) nothing
+sentAgo sent s k = cond (leb k s) (sent (s - k)) send.Nothing
 
 abbrev pub heardAgo : List Heard → ℕ → ℕ → Heard
 heardAgo heard s k = cond (leb k s) (getD heard (s - k) Nothing) Nothing
@@ -72,10 +73,10 @@ windowAt set s = windowOf (set .config) (s % 10)
 -- ((j − 1) mod 4) + 1; here j grants came before.
 abbrev pub RuleFrom : ℕ → List Send → Type 0
 RuleFrom j [] = Unit {0}
-RuleFrom j (nothing ∷ sends) = RuleFrom j sends
-RuleFrom j (grant b c d ∷ sends) = (d ≡ j % 4 + 1) × RuleFrom (suc j) sends
+RuleFrom j (x ∷ sends) = (isGrant x ≡ true → daiOf x ≡ j % 4 + 1) × RuleFrom (cond (isGrant x) 1 0 + j) sends
 
 -- What the station sends over an endless run: s is any subframe, past the end of the list too.
+-- "In a downlink one the station sent a valid grant or nothing; before the start and in uplink subframes, nothing."
 pub record Schedule (set : Settings) (sent : ℕ → Send) : Type 0 where
   -- "A grant, heard or lost, is valid if neither 9 to 12 .. would refuse it"; 9 leaves uplink subframes nothing.
   pub valid : (s : ℕ) → heardRefusal set (s % 10) (asHeard (sent s)) ≡ 0
@@ -88,4 +89,4 @@ Brings sent heard = (heard ≡ Nothing) ⊎ (sentOf heard ≡ sent)
 
 abbrev pub BringsSent : Settings → (ℕ → Send) → List Item → Type 0
 BringsSent set sent items =
-    (s : ℕ) → s < length (heardFrom set 0 items) → Brings (sent s) (getD (heardFrom set 0 items) s Nothing)
+    (s : ℕ) → s < length (heardInRun set items) → Brings (sent s) (getD (heardInRun set items) s Nothing)

@@ -1,7 +1,7 @@
 -- What demand 3 says of one window whose uplink subframe was fed: document 00, demand 3, and document 01, "The runs of demand 3".
 -- Assumes nothing.
 use Prim.Native.Nat.{ℕ, _+_, _/_, _%_, _^_, _<_, _≤_}
-use mathlib.Core.Bool.{Bool, true, false, cond, _&&_, _||_}
+use mathlib.Core.Bool.{Bool, true, false, cond, not, _&&_, _||_}
 use mathlib.Core.List.{List, [], _∷_, map}
 use mathlib.Core.Logic.{_⊎_, _↔_}
 use mathlib.Core.Path.{_≡_}
@@ -9,6 +9,8 @@ use lib.Dec.{eqb}
 use lib.ListN.{length, getD}
 use Rattle.frame.specs.declared.Settings.{Settings}
 use Rattle.frame.specs.Order.{timesOf}
+use Rattle.confirmation.specs.declared.Send.{Send}
+use Rattle.confirmation.specs.Sent.{isGrant}
 use Rattle.resource.specs.declared.Mapped.{Mapped}
 use Rattle.resource.specs.declared.Mapped.the-variants as mapped
 use Rattle.reply.specs.declared.Answer.{Answer}
@@ -23,7 +25,6 @@ use Rattle.symbols.specs.declared.State.{State}
 use Rattle.symbols.specs.declared.State.the-variants.{Ack, Nack, Dtx}
 use Rattle.symbols.specs.declared.Symbol.the-variants as symbol
 use Rattle.symbols.specs.Selection.{symbolOf}
-use Rattle.agreement.specs.Run.{Send, nothing, grant}
 
 -- A subframe of a window: its k, what was sent there and what was heard.
 pub data Entry : Type 0 where
@@ -44,9 +45,7 @@ anyHeard (at k sent heard ∷ es) = isHeard heard || anyHeard es
 
 -- A grant that was sent and not heard.
 abbrev pub isLost : Send → Heard → Bool
-isLost nothing heard = false
-isLost (grant b c d) Nothing = true
-isLost (grant b c d) (Granted g) = false
+isLost sent heard = isGrant sent && not (isHeard heard)
 
 -- The lost grants before the last heard one, the subframes in time order.
 abbrev pub lostBefore : List Entry → ℕ
@@ -70,23 +69,23 @@ abbrev pub lastHeard : List Entry → Last
 lastHeard [] = unheard
 lastHeard (at k sent heard ∷ es) = later (asLast k heard) (lastHeard es)
 
--- A grant decoded a block; a one-block grant stands for both blocks.
-abbrev pub decodedFirst : Grant → Bool
-decodedFirst g = g .first
+-- What was heard decoded a block; a one-block grant stands for both blocks, and nothing heard leaves none undecoded.
+abbrev pub decodedFirst : Heard → Bool
+decodedFirst Nothing = true
+decodedFirst (Granted g) = g .first
 
-abbrev pub decodedSecond : Grant → Bool
-decodedSecond g = cond (eqb (g .blocks) 2) (g .second) (g .first)
+abbrev pub decodedSecond : Heard → Bool
+decodedSecond Nothing = true
+decodedSecond (Granted g) = cond (eqb (g .blocks) 2) (g .second) (g .first)
 
 -- Every heard grant decoded the block.
-abbrev pub EveryHeard : (Grant → Bool) → List Entry → Type 0
+abbrev pub EveryHeard : (Heard → Bool) → List Entry → Type 0
 EveryHeard decoded [] = Unit {0}
-EveryHeard decoded (at k sent Nothing ∷ es) = EveryHeard decoded es
-EveryHeard decoded (at k sent (Granted g) ∷ es) = (decoded g ≡ true) × EveryHeard decoded es
+EveryHeard decoded (at k sent heard ∷ es) = (decoded heard ≡ true) × EveryHeard decoded es
 
 -- State of a position: A if heard with every carried block decoded, N if heard otherwise, D if unheard.
 abbrev pub stateIn : Heard → State
-stateIn Nothing = Dtx
-stateIn (Granted g) = cond (decodedFirst g && decodedSecond g) Ack Nack
+stateIn heard = cond (isHeard heard) (cond (decodedFirst heard && decodedSecond heard) Ack Nack) Dtx
 
 -- A reply is sent, and it is this one; no reply is sent, and the answer is "silent".
 abbrev pub SentExactly : Answer → Type 0 → (Reply → Type 0) → Type 0

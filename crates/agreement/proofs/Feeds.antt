@@ -17,6 +17,7 @@ use Rattle.frame.specs.Table.{windowOf}
 use Rattle.frame.proofs.Accepted.{Accepted, accepted}
 use Rattle.frame.proofs.Causes.{window-accepted}
 use Rattle.frame.proofs.Windows.{window-uplink, multiplexed-size}
+use Rattle.confirmation.specs.declared.Send.{Send}
 use Rattle.resource.specs.Calls.{resourceOf}
 use Rattle.resource.specs.Formula.{edge}
 use Rattle.reply.specs.declared.Answer.{Answer}
@@ -30,10 +31,11 @@ use Rattle.heard.specs.Heard.{heardRefusal, viewOf}
 use Rattle.heard.specs.Memory.{slotOf, viewAgo}
 use Rattle.reply.specs.Replies.{bundledAnswer, multiplexedAnswer, windowAnswer}
 use Rattle.handset.specs.declared.Fed.{Fed}
+use Rattle.handset.specs.declared.Handset.{Handset}
 use Rattle.handset.specs.Feed.{answerOf, dueOf, feedRefusal, fedAs, feedOf}
 use Rattle.handset.specs.Make.{memory}
 use Rattle.station.specs.Readings.{readOf}
-use Rattle.agreement.specs.Run.{Send, sentAgo, heardAgo, Schedule, Brings, Turn, windowAt}
+use Rattle.agreement.specs.Run.{sentAgo, heardAgo, Schedule, Brings, windowAt}
 use Rattle.agreement.specs.Window.{inTime, Bundled, Multiplexed}
 use Rattle.agreement.proofs.BundledWindow.{bundled-window}
 use Rattle.agreement.proofs.Memory.{ValidPast, after, pushed-after, view-after, low-after, sound-after}
@@ -49,12 +51,11 @@ pub record Answered (set : Settings) (sent : ℕ → Send) (heard : List Heard) 
   pub multiplexed : 0 < length (windowAt set s) → set .mode ≡ 1 → (length (windowAt set s) ≡ 1 → ⊥)
       → Multiplexed (resourceOf set (s % 10)) (readOf set (s % 10)) (windowAt set s) (heardAgo heard s) (inTime (sentAgo sent s) (heardAgo heard s) (windowAt set s)) a
 
--- What it says of a feed at the run's next subframe s.
-pub record TurnClaim (set : Settings) (sent : ℕ → Send) (heard : List Heard) (s : ℕ) (t : Turn) : Type 0 where
-  pub refusedExactly : ((k : ℕ) × (t .fed .answer ≡ answer.Refused k)) ↔ (heardRefusal set (s % 10) (t .brought) ≡ 0 → ⊥)
-  pub refused : (heardRefusal set (s % 10) (t .brought) ≡ 0 → ⊥)
-      → t .fed ≡ record { answer = answer.Refused (heardRefusal set (s % 10) (t .brought)); handset = t .handset }
-  pub accepted : heardRefusal set (s % 10) (t .brought) ≡ 0 → Answered set sent heard s (t .fed .answer)
+-- What it says of a feed that brings x to the handset h at the run's next subframe s.
+pub record FeedHolds (set : Settings) (sent : ℕ → Send) (heard : List Heard) (s : ℕ) (h : Handset) (x : Heard) : Type 0 where
+  pub refusedExactly : ((k : ℕ) × (feedOf h x .answer ≡ answer.Refused k)) ↔ (heardRefusal set (s % 10) x ≡ 0 → ⊥)
+  pub refused : (heardRefusal set (s % 10) x ≡ 0 → ⊥) → feedOf h x ≡ record { answer = answer.Refused (heardRefusal set (s % 10) x); handset = h }
+  pub accepted : heardRefusal set (s % 10) x ≡ 0 → Answered set sent heard s (feedOf h x .answer)
 
 -- The run's list of heard things has the history, newest first, at its subframes.
 abbrev pub Past : List Heard → List Heard → Type 0
@@ -122,7 +123,7 @@ module _ (set : Settings) (good : settingsRefusal set ≡ 0) (sent : ℕ → Sen
   unfolding bundles
   multiplexed-mode e h = rw (ne-eqb (set .mode) 0 (λ z. omega arith), ne-eqb (length (windowOf (set .config) n)) 1 h)
 
-  -- the answer that is owed in each case
+  -- the answer in each case
   bundled-due : 0 < length (windowOf (set .config) n) → bundles set (length (windowOf (set .config) n)) ≡ true
       → bundledAnswer set n (seenOf F (windowOf (set .config) n)) ≡ dueOf (after set l)
   unfolding dueOf answerOf windowAnswer
@@ -178,8 +179,8 @@ module _ (set : Settings) (good : settingsRefusal set ≡ 0) (sent : ℕ → Sen
       go zero e = absurd (h e)
       go (suc k) e = refl
 
-  pub turn-claim : (x : Heard) → TurnClaim set sent heard (length l) (record { handset = after set l; brought = x; fed = feedOf (after set l) x })
-  turn-claim x =
+  pub feed-holds : (x : Heard) → FeedHolds set sent heard (length l) (after set l) x
+  feed-holds x =
       record {
         refusedExactly = (
           λ p e. not-refused (p .0) (sym (ap (λ (f : Fed). f .answer) (accepted-after x e)) ∙ p .1),
