@@ -32,7 +32,7 @@ use Rattle.heard.specs.Memory.{slotOf, viewAgo}
 use Rattle.reply.specs.Replies.{bundledAnswer, multiplexedAnswer, windowAnswer}
 use Rattle.handset.specs.declared.Fed.{Fed}
 use Rattle.handset.specs.declared.Handset.{Handset}
-use Rattle.handset.specs.Feed.{answerOf, dueOf, feedRefusal, fedAs, feedOf}
+use Rattle.handset.specs.Feed.{answerOf, nextAnswer, feedRefusal, fedAs, feedOf}
 use Rattle.handset.specs.Make.{memory}
 use Rattle.station.specs.Readings.{readOf}
 use Rattle.agreement.specs.Run.{sentAgo, heardAgo, Schedule, Brings, windowAt}
@@ -84,6 +84,19 @@ ago-past heard (x ∷ l) p k h = go k h (ago-past heard l (p .1))
         shift (yes h) e = rw (le-leb (suc (suc j)) (suc (length l)) (omega arith), le-leb (suc j) (length l) h, e)
         shift (no h) e = rw (lt-leb (suc (suc j)) (suc (length l)) (omega arith), lt-leb (suc j) (length l) (omega arith))
 
+-- k before any subframe s the run brought nothing or what was sent.
+pub ago-brings : (sent : ℕ → Send) (heard : List Heard) → ((s : ℕ) → s < length heard → Brings (sent s) (getD heard s Nothing))
+    → (s k : ℕ) → Brings (sentAgo sent s k) (heardAgo heard s k)
+ago-brings sent heard brings s k = go (decLe k s)
+  where
+    inside : Dec (s - k < length heard) → Brings (sent (s - k)) (getD heard (s - k) Nothing)
+    inside (yes h) = brings (s - k) h
+    inside (no h) = inl (List·getD-eq-default heard Nothing {n = s - k} (omega arith))
+
+    go : Dec (k ≤ s) → Brings (sentAgo sent s k) (heardAgo heard s k)
+    go (yes h) = rw (le-leb k s h) (inside (decLt (s - k) (length heard)))
+    go (no h) = rw (lt-leb k s (omega arith)) (inl refl)
+
 module _ (set : Settings) (good : settingsRefusal set ≡ 0) (sent : ℕ → Send) (schedule : Schedule set sent) (heard : List Heard)
     (brings : (s : ℕ) → s < length heard → Brings (sent s) (getD heard s Nothing))
     (l : List Heard) (valid : ValidPast set l) (past : Past heard l) where
@@ -102,18 +115,6 @@ module _ (set : Settings) (good : settingsRefusal set ≡ 0) (sent : ℕ → Sen
   low : (k : ℕ) → 1 ≤ k → k ≤ 13 → (g : Grant) → heardAgo heard (length l) k ≡ Granted g → g .cce .0 < edge (set .nrb) 4
   low k least most g e = low-after set l valid (k - 1) g (sym (ago-past heard l past k least) ∙ e)
 
-  -- k before the next subframe the run brought nothing or what was sent
-  ago-brings : (k : ℕ) → 1 ≤ k → k ≤ 13 → Brings (sentAgo sent (length l) k) (heardAgo heard (length l) k)
-  ago-brings k least most = go (decLe k (length l))
-    where
-      inside : Dec (length l - k < length heard) → Brings (sent (length l - k)) (getD heard (length l - k) Nothing)
-      inside (yes h) = brings (length l - k) h
-      inside (no h) = inl (List·getD-eq-default heard Nothing {n = length l - k} (omega arith))
-
-      go : Dec (k ≤ length l) → Brings (sentAgo sent (length l) k) (heardAgo heard (length l) k)
-      go (yes h) = rw (le-leb k (length l) h) (inside (decLt (length l - k) (length heard)))
-      go (no h) = rw (lt-leb k (length l) (omega arith)) (inl refl)
-
   bundled-mode : (set .mode ≡ 0) ⊎ (length (windowOf (set .config) n) ≡ 1) → bundles set (length (windowOf (set .config) n)) ≡ true
   unfolding bundles
   bundled-mode (inl e) = rw (eq-eqb (set .mode) 0 e)
@@ -124,43 +125,43 @@ module _ (set : Settings) (good : settingsRefusal set ≡ 0) (sent : ℕ → Sen
   multiplexed-mode e h = rw (ne-eqb (set .mode) 0 (λ z. omega arith), ne-eqb (length (windowOf (set .config) n)) 1 h)
 
   -- the answer in each case
-  bundled-due : 0 < length (windowOf (set .config) n) → bundles set (length (windowOf (set .config) n)) ≡ true
-      → bundledAnswer set n (seenOf F (windowOf (set .config) n)) ≡ dueOf (after set l)
-  unfolding dueOf answerOf windowAnswer
-  bundled-due some mode = rw (window-uplink (set .config) n some, ne-eqb (length (windowOf (set .config) n)) 0 (λ z. omega arith), mode)
+  bundled-answer : 0 < length (windowOf (set .config) n) → bundles set (length (windowOf (set .config) n)) ≡ true
+      → bundledAnswer set n (seenOf F (windowOf (set .config) n)) ≡ nextAnswer (after set l)
+  unfolding nextAnswer answerOf windowAnswer
+  bundled-answer some mode = rw (window-uplink (set .config) n some, ne-eqb (length (windowOf (set .config) n)) 0 (λ z. omega arith), mode)
 
-  multiplexed-due : 0 < length (windowOf (set .config) n) → bundles set (length (windowOf (set .config) n)) ≡ false
-      → multiplexedAnswer set n F (windowOf (set .config) n) ≡ dueOf (after set l)
-  unfolding dueOf answerOf windowAnswer
-  multiplexed-due some mode = rw (window-uplink (set .config) n some, ne-eqb (length (windowOf (set .config) n)) 0 (λ z. omega arith), mode)
+  multiplexed-answer : 0 < length (windowOf (set .config) n) → bundles set (length (windowOf (set .config) n)) ≡ false
+      → multiplexedAnswer set n F (windowOf (set .config) n) ≡ nextAnswer (after set l)
+  unfolding nextAnswer answerOf windowAnswer
+  multiplexed-answer some mode = rw (window-uplink (set .config) n some, ne-eqb (length (windowOf (set .config) n)) 0 (λ z. omega arith), mode)
 
-  taken-due : downlink (set .config) n ≡ true → dueOf (after set l) ≡ answer.Taken
-  unfolding dueOf answerOf
-  taken-due e = rw e
+  taken-answer : downlink (set .config) n ≡ true → nextAnswer (after set l) ≡ answer.Taken
+  unfolding nextAnswer answerOf
+  taken-answer e = rw e
 
-  no-window-due : downlink (set .config) n ≡ false → windowOf (set .config) n ≡ [] → dueOf (after set l) ≡ answer.NoWindow
-  unfolding dueOf answerOf windowAnswer
-  no-window-due e f = rw (e, f)
+  no-window-answer : downlink (set .config) n ≡ false → windowOf (set .config) n ≡ [] → nextAnswer (after set l) ≡ answer.NoWindow
+  unfolding nextAnswer answerOf windowAnswer
+  no-window-answer e f = rw (e, f)
 
-  answered : Answered set sent heard (length l) (dueOf (after set l))
+  answered : Answered set sent heard (length l) (nextAnswer (after set l))
   answered =
       record {
-        taken = taken-due;
-        noWindow = no-window-due;
+        taken = taken-answer;
+        noWindow = no-window-answer;
         bundled = λ some mode.
-            rw (bundled-due some (bundled-mode mode)) at
+            rw (bundled-answer some (bundled-mode mode)) at
             (bundled-window set n (window-accepted set n good some) ok (bundled-mode mode) (sentAgo sent (length l)) (heardAgo heard (length l)) F
-            (schedule .rule (length l)) ago-brings low seen);
+            (schedule .rule (length l)) (λ k least most. ago-brings sent heard brings (length l) k) low seen);
         multiplexed = λ some mode many.
             let size = multiplexed-size set n ok some (multiplexed-mode mode many) in
-            rw (multiplexed-due some (multiplexed-mode mode many)) at
+            rw (multiplexed-answer some (multiplexed-mode mode many)) at
             (multiplexed-window set n (window-accepted set n good some) (multiplexed-mode mode many) (size .0) (size .1)
             (sentAgo sent (length l)) (heardAgo heard (length l)) F low seen);
       }
 
   -- no answer of an accepted feed is a refusal
-  not-refused : (k : ℕ) → dueOf (after set l) ≡ answer.Refused k → ⊥
-  unfolding dueOf
+  not-refused : (k : ℕ) → nextAnswer (after set l) ≡ answer.Refused k → ⊥
+  unfolding nextAnswer
   not-refused k e = never-refused set n F k e
 
   -- what a feed of the handset comes to
@@ -168,7 +169,7 @@ module _ (set : Settings) (good : settingsRefusal set ≡ 0) (sent : ℕ → Sen
   unfolding feedOf feedRefusal
   fed-after x = rw (sound-after set good ok l valid)
 
-  pub accepted-after : (x : Heard) → heardRefusal set n x ≡ 0 → feedOf (after set l) x ≡ record { answer = dueOf (after set l); handset = after set (x ∷ l) }
+  pub accepted-after : (x : Heard) → heardRefusal set n x ≡ 0 → feedOf (after set l) x ≡ record { answer = nextAnswer (after set l); handset = after set (x ∷ l) }
   accepted-after x e = fed-after x ∙ rw (e, pushed-after set l x)
 
   pub refused-after : (x : Heard) → (heardRefusal set n x ≡ 0 → ⊥)

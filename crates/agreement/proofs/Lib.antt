@@ -1,4 +1,5 @@
 pub mod BundledWindow
+pub mod Confirmation
 pub mod Demand3
 pub mod Entries
 pub mod Exactly

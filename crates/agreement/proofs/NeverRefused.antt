@@ -1,4 +1,4 @@
--- What a sound handset owes is never a refusal: taken, no window, silent or a reply.
+-- What an accepted feed answers is never a refusal: taken, no window, silent or a reply.
 -- Assumes nothing.
 use Prim.Native.Nat.{ℕ}
 use mathlib.Core.Bool.{Bool, true, false, cond, false≢true}

@@ -1,6 +1,6 @@
 -- The runs of demand 3: document 01, "The runs of demand 3". Its sentences stand above the definitions that they give.
 -- Assumes nothing.
-use Prim.Native.Nat.{ℕ, suc, _-_, _%_, _+_, _<_}
+use Prim.Native.Nat.{ℕ, _-_, _%_, _+_, _<_}
 use mathlib.Core.Bool.{true, false, cond}
 use mathlib.Core.List.{List, [], _∷_, map}
 use mathlib.Core.Logic.{_⊎_}

@@ -1,1 +1,2 @@
 pub mod Confirmed
+pub mod Received

@@ -32,7 +32,7 @@ use Rattle.reply.specs.Silence.{HeardMapped, SilentCause}
 use Rattle.reply.proofs.Silences.{silent-cause}
 use Rattle.heard.proofs.Valid.{valid}
 use Rattle.handset.specs.declared.Handset.{Handset}
-use Rattle.handset.specs.Feed.{answerOf, dueOf}
+use Rattle.handset.specs.Feed.{answerOf, nextAnswer}
 use Rattle.handset.specs.Sound.{slotSound, previous, allSound, stateRefusal}
 use Rattle.handset.proofs.Passing.{both, sound}
 
@@ -70,9 +70,9 @@ module _ (h : Handset) (accepted : stateRefusal h ≡ 0) (window : 0 < sizeOf (h
       let p = calls-one-to-one (h .settings) (h .next) call-accepted .into m (g .cce .0) inside low in
       (record { 0 = p .0 }, p .3 .there)
 
-  -- The answer due is silence exactly for 01's causes: bundled, U = 0 or a miss shown; multiplexed, every position D.
-  pub due-silent : (dueOf h ≡ Silent) ↔ SilentCause (h .settings) (h .next) (viewAgo (h .past))
-  unfolding dueOf answerOf
-  due-silent =
+  -- The answer is silence exactly for 01's causes: bundled, U = 0 or a miss shown; multiplexed, every position D.
+  pub answer-silent : (nextAnswer h ≡ Silent) ↔ SilentCause (h .settings) (h .next) (viewAgo (h .past))
+  unfolding nextAnswer answerOf
+  answer-silent =
       let exactly = silent-cause (h .settings) (h .next) (viewAgo (h .past)) heard-mapped (sound h accepted .settings) window in
       rw (window-uplink (h .settings .config) (h .next) window) exactly

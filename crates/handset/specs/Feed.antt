@@ -22,9 +22,9 @@ use Rattle.handset.specs.Sound.{stateRefusal}
 unfoldable pub answerOf : Settings → ℕ → (ℕ → View) → Answer
 answerOf s n view = cond (downlink (s .config) n) Taken (windowAnswer s n view)
 
--- The answer that a state owes at the subframe it expects.
-unfoldable pub dueOf : Handset → Answer
-dueOf h = answerOf (h .settings) (h .next) (viewAgo (h .past))
+-- The answer of a state at the subframe it expects.
+unfoldable pub nextAnswer : Handset → Answer
+nextAnswer h = answerOf (h .settings) (h .next) (viewAgo (h .past))
 
 -- The handset with the subframe remembered; after 9 comes 0.
 unfoldable pub pushed : Handset → Heard → Handset
@@ -36,7 +36,7 @@ feedRefusal h x = orElse (stateRefusal h) (heardRefusal (h .settings) (h .next) 
 
 -- A refusal leaves the handset as it was.
 abbrev pub fedAs : ℕ → Handset → Heard → Fed
-fedAs zero h x = record { answer = dueOf h; handset = pushed h x }
+fedAs zero h x = record { answer = nextAnswer h; handset = pushed h x }
 fedAs (suc k) h x = record { answer = Refused (suc k); handset = h }
 
 unfoldable pub feedOf : Handset → Heard → Fed

@@ -8,7 +8,7 @@ use reply::Answer;
 ghost use mathlib.Core.Path.{_≡_};
 ghost use mathlib.Core.List.{_∷_};
 ghost use Rattle.heard.specs.Memory.{slotOf};
-ghost use Rattle.handset.specs.Feed.{dueOf, pushed, feedRefusal, feedOf};
+ghost use Rattle.handset.specs.Feed.{nextAnswer, pushed, feedRefusal, feedOf};
 ghost use Rattle.handset.specs.Make.{slotsFrom};
 ghost use Rattle.handset.specs.Stored.{Storable};
 
@@ -77,8 +77,8 @@ fn push(h: Handset, x: Heard) -> Handset
 }
 
 // The answer at the subframe that is expected: "taken" in a downlink one, else what its window says.
-fn due(h: Handset) -> Answer
-    ensures { λ r. ⌜ r ≡ dueOf h ⌝ }
+fn next_answer(h: Handset) -> Answer
+    ensures { λ r. ⌜ r ≡ nextAnswer h ⌝ }
 {
     let s = h.settings;
     if frame::is_downlink(s.config, h.next) {
@@ -111,7 +111,7 @@ pub fn feed(h: Handset, x: Heard) -> Fed
             handset: h,
         };
     }
-    let answer = due(h);
+    let answer = next_answer(h);
     let handset = push(h, x);
     Fed { answer, handset }
 }

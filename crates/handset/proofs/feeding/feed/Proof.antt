@@ -7,7 +7,7 @@ use Rattle.reply.specs.declared.Answer.the-variants.{Refused}
 use Rattle.heard.specs.declared.Heard.{Heard}
 use Rattle.handset.specs.declared.Fed.{Fed}
 use Rattle.handset.specs.declared.Handset.{Handset}
-use Rattle.handset.specs.Feed.{dueOf, pushed, feedRefusal, fedAs, feedOf}
+use Rattle.handset.specs.Feed.{nextAnswer, pushed, feedRefusal, fedAs, feedOf}
 use Rattle.handset.proofs.feeding.feed.Statement.{statement}
 use Rattle.handset.proofs.feeding.feed.Tie as tie
 
@@ -21,7 +21,7 @@ refused : (h : Handset) (x : Heard) (r : ℕ) → r ≡ feedRefusal h x → (r �
 unfolding feedOf
 refused h x r e k = refused-as h x r (feedRefusal h x) e k
 
-taken : (h : Handset) (x : Heard) (a : Answer) (g : Handset) → feedRefusal h x ≡ 0 → a ≡ dueOf h → g ≡ pushed h x
+taken : (h : Handset) (x : Heard) (a : Answer) (g : Handset) → feedRefusal h x ≡ 0 → a ≡ nextAnswer h → g ≡ pushed h x
     → _≡_ {A = Fed} (record { answer = a; handset = g }) (feedOf h x)
 unfolding feedOf
 taken h x a g e f p = rw (e, f, p)
@@ -32,8 +32,8 @@ feed-refusal-requires c κs = search needs
 returns : tie.Need-returns
 returns c = refused _ _ _ (c .before .feed-refusal .ensures) (c .if1 .taken)
 
-due-requires : tie.Need-due-requires
-due-requires c κs = search needs
+next-answer-requires : tie.Need-next-answer-requires
+next-answer-requires c κs = search needs
 
 push-requires : tie.Need-push-requires
 push-requires c κs = sym (c .before .before .feed-refusal .ensures) ∙ c .before .if1 .left
@@ -41,7 +41,7 @@ push-requires c κs = sym (c .before .before .feed-refusal .ensures) ∙ c .befo
 returns-2 : tie.Need-returns-2
 returns-2 c =
     let branch = c .before .before in
-    taken _ _ _ _ (sym (branch .before .feed-refusal .ensures) ∙ branch .if1 .left) (c .before .due .ensures) (c .push .ensures)
+    taken _ _ _ _ (sym (branch .before .feed-refusal .ensures) ∙ branch .if1 .left) (c .before .next-answer .ensures) (c .push .ensures)
 
 pub feed-spec : {M : Type 1} → statement M
-feed-spec = tie.close (tie.spec feed-refusal-requires returns due-requires push-requires returns-2)
+feed-spec = tie.close (tie.spec feed-refusal-requires returns next-answer-requires push-requires returns-2)
