@@ -46,10 +46,10 @@ abbrev pub saidOf : ℕ → ℕ → ℕ → Symbol
 saidOf i b0 b1 = cond (eqb i 9) N/A (Sent i b0 b1)
 
 -- the digit of a state
-abbrev pub digitOf : State → ℕ
-digitOf Ack = 0
-digitOf Nack = 1
-digitOf Dtx = 2
+abbrev pub stateDigit : State → ℕ
+stateDigit Ack = 0
+stateDigit Nack = 1
+stateDigit Dtx = 2
 
 -- the state of a digit
 abbrev pub stateAt : ℕ → State
@@ -60,7 +60,7 @@ stateAt (suc (suc d)) = Dtx
 -- the number of a window's state: its digits in base 3, that of position 0 first
 abbrev pub codeOf : List State → ℕ
 codeOf [] = 0
-codeOf (s ∷ ss) = digitOf s * 3 ^ length ss + codeOf ss
+codeOf (s ∷ ss) = stateDigit s * 3 ^ length ss + codeOf ss
 
 -- the states of n positions that a number gives; numbers that differ by 3^n give the same
 abbrev pub statesOf : ℕ → ℕ → List State
