@@ -6,12 +6,12 @@ use mathlib.Core.List.{List, [], _∷_, _++_}
 use lib.Dec.{ltb}
 
 -- The last decimal digit of a number, in ASCII: 48 is `0`.
-abbrev pub digitOf : ℕ → ℕ
-digitOf x = 48 + x % 10
+abbrev pub decimalDigit : ℕ → ℕ
+decimalDigit x = 48 + x % 10
 
 -- A number up to 99 in decimal: one digit below 10, else two. Of a greater number, its last two digits.
 unfoldable pub decimal : ℕ → List ℕ
-decimal x = cond (ltb x 10) (digitOf x ∷ []) (digitOf (x / 10) ∷ digitOf x ∷ [])
+decimal x = cond (ltb x 10) (decimalDigit x ∷ []) (decimalDigit (x / 10) ∷ decimalDigit x ∷ [])
 
 -- Numbers in decimal, a text before each.
 unfoldable pub listed : List ℕ → List ℕ → List ℕ

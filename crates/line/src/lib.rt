@@ -1,7 +1,7 @@
 // A text of at most 100 bytes, filled byte by byte, and numbers in decimal: what `listing` and `printing` write with.
 ghost use mathlib.Core.Path.{_≡_};
 ghost use mathlib.Core.List.{[], _++_};
-ghost use Rattle.line.specs.Decimal.{digitOf, decimal, listed};
+ghost use Rattle.line.specs.Decimal.{decimalDigit, decimal, listed};
 ghost use Rattle.line.specs.Put.{paged, putOf, added};
 
 // A text of at most 100 bytes, its length and its bytes; the bytes after it are 0.
@@ -51,7 +51,7 @@ pub fn put_text(p: Line, text: &[u8]) -> Line
 
 // The last decimal digit of a number, in ASCII: 48 is `0`.
 pub fn digit(x: u16) -> u8
-    ensures { λ r. ⌜ r ≡ digitOf x ⌝ }
+    ensures { λ r. ⌜ r ≡ decimalDigit x ⌝ }
 {
     (48 + x % 10) as u8
 }

@@ -17,7 +17,7 @@ use Rattle.line.proofs.Paged.{alone}
 use Rattle.line.specs.Decimal.{decimal, listed}
 use Rattle.line.specs.Put.{paged, added}
 use Rattle.line.specs.declared.Line.{Line}
-use Rattle.symbols.specs.Coded.{noRow}
+use Rattle.symbols.specs.Coded.{blankRow}
 use Rattle.symbols.specs.Selection.{table2, table3, table4, tableOf}
 use Rattle.printing.specs.Text.{cell, kText, cellsBelow, windowRow, windowTable}
 use Rattle.printing.specs.Text.{words, said, symbolRow, title, heading, symbolTable, allLines, ended, lineText}
@@ -25,14 +25,14 @@ use Rattle.printing.proofs.Every.{every, every-at}
 
 -- A row of the table for M = size.
 pub row-line : (size i : ℕ) → 3 ≤ i → i < length (symbolTable size)
-    → getD (symbolTable size) i [] ≡ symbolRow (getD (tableOf size) (i - 3) noRow)
+    → getD (symbolTable size) i [] ≡ symbolRow (getD (tableOf size) (i - 3) blankRow)
 unfolding symbolTable
 row-line size zero l h = absurd (omega arith)
 row-line size (suc zero) l h = absurd (omega arith)
 row-line size (suc (suc zero)) l h = absurd (omega arith)
 row-line size (suc (suc (suc j))) l h =
     let e : suc (suc (suc j)) - 3 ≡ j = omega arith in
-    rw e (entry symbolRow (tableOf size) j [] noRow (omega (arith, length-map (tableOf size) symbolRow)))
+    rw e (entry symbolRow (tableOf size) j [] blankRow (omega (arith, length-map (tableOf size) symbolRow)))
 
 -- A row of Table 10.1-1.
 pub window-row-line : (i : ℕ) → 3 ≤ i → i < 10 → getD windowTable i [] ≡ windowRow (i - 3)

@@ -11,8 +11,8 @@ use lib.ListN.{length, getD}
 use Rattle.line.proofs.Adding.{added-append}
 use Rattle.line.specs.Put.{added}
 use Rattle.line.specs.declared.Line.{Line}
-use Rattle.symbols.specs.Coded.{cellOf, noRow}
-use Rattle.symbols.specs.Selection.{Mark, ACK, NACK, DTX, NACK/DTX, Row, table2, table3, table4, tableOf}
+use Rattle.symbols.specs.Coded.{cellOf, blankRow}
+use Rattle.symbols.specs.Selection.{RowState, ACK, NACK, DTX, NACK/DTX, Row, table2, table3, table4, tableOf}
 use Rattle.printing.specs.Column.{columnOf}
 use Rattle.printing.specs.Text.{cell, word, words, said, symbolRow}
 use Rattle.printing.proofs.Every.{every, every-at}
@@ -32,7 +32,7 @@ small-tested size = go (eqb size 2) (eqb size 3) (eqb size 4)
     go false false false = tt
 
 -- The column of a cell's number is that of the cell.
-column : (m : Mark) → columnOf (cellOf m) ≡ cell 13 (word m)
+column : (c : RowState) → columnOf (cellOf c) ≡ cell 13 (word c)
 unfolding columnOf
 column ACK = refl
 column NACK = refl
@@ -40,27 +40,27 @@ column DTX = refl
 column NACK/DTX = refl
 
 -- the column of position i; nothing past the last
-abbrev columnAt : List Mark → ℕ → List ℕ
-columnAt ms i = columnOf (getD (map cellOf ms) i 4)
+abbrev columnAt : List RowState → ℕ → List ℕ
+columnAt cs i = columnOf (getD (map cellOf cs) i 4)
 
-four : (ms : List Mark) → length ms ≤ 4 → columnAt ms 0 ++ (columnAt ms 1 ++ (columnAt ms 2 ++ (columnAt ms 3 ++ []))) ≡ words ms
+four : (cs : List RowState) → length cs ≤ 4 → columnAt cs 0 ++ (columnAt cs 1 ++ (columnAt cs 2 ++ (columnAt cs 3 ++ []))) ≡ words cs
 unfolding columnOf words
 four [] h = refl
 four (a ∷ []) h = rw (column a)
 four (a ∷ b ∷ []) h = rw (column a, column b)
 four (a ∷ b ∷ c ∷ []) h = rw (column a, column b, column c)
 four (a ∷ b ∷ c ∷ d ∷ []) h = rw (column a, column b, column c, column d)
-four (a ∷ b ∷ c ∷ d ∷ e ∷ ms) h = absurd (omega arith)
+four (a ∷ b ∷ c ∷ d ∷ e ∷ cs) h = absurd (omega arith)
 
 -- the line with four cells, one after the other
-abbrev put-cells : Line → List Mark → Line
-put-cells p ms = added (added (added (added p (columnAt ms 0)) (columnAt ms 1)) (columnAt ms 2)) (columnAt ms 3)
+abbrev put-cells : Line → List RowState → Line
+put-cells p cs = added (added (added (added p (columnAt cs 0)) (columnAt cs 1)) (columnAt cs 2)) (columnAt cs 3)
 
 pub added-row : (p : Line) (size i : ℕ)
-    → let r = getD (tableOf size) i noRow in
+    → let r = getD (tableOf size) i blankRow in
     added (put-cells p (r .cells)) (said (r .says)) ≡ added p (symbolRow r)
 unfolding symbolRow
 added-row p size i =
-    let r = getD (tableOf size) i noRow in
-    let h : length (r .cells) ≤ 4 = lit≤ (every-at small (tableOf size) noRow (small-tested size) tt i) in
+    let r = getD (tableOf size) i blankRow in
+    let h : length (r .cells) ≤ 4 = lit≤ (every-at small (tableOf size) blankRow (small-tested size) tt i) in
     rw (← four (r .cells) h) (simp (added-append, append-assoc))

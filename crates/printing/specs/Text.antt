@@ -7,8 +7,8 @@ use Prim.Native.String.{String, [] as []ˢ, _∷_ as _∷ˢ_}
 use mathlib.Core.List.{List, [], _∷_, _++_, map}
 use lib.ListN.{getD, take}
 use Rattle.frame.specs.Table.{windowOf}
-use Rattle.line.specs.Decimal.{digitOf, decimal, listed}
-use Rattle.symbols.specs.Selection.{Mark, ACK, NACK, DTX, NACK/DTX, Row, tableOf}
+use Rattle.line.specs.Decimal.{decimalDigit, decimal, listed}
+use Rattle.symbols.specs.Selection.{RowState, ACK, NACK, DTX, NACK/DTX, Row, tableOf}
 use Rattle.symbols.specs.declared.Symbol.the-variants.{Sent, Silent}
 use Rattle.symbols.specs.declared.Symbol.{Symbol}
 
@@ -41,7 +41,7 @@ cellsBelow (suc n) c = cellsBelow n c ++ cell (getD widths n 0) (kText (windowOf
 
 -- The row of configuration c: its number, then K for each subframe.
 unfoldable pub windowRow : ℕ → List ℕ
-windowRow c = cell 15 (digitOf c ∷ []) ++ cellsBelow 10 c
+windowRow c = cell 15 (decimalDigit c ∷ []) ++ cellsBelow 10 c
 
 -- Table 10.1-1: the title, the two lines of the heading, then a row for each configuration.
 unfoldable pub windowTable : List (List ℕ)
@@ -54,16 +54,16 @@ windowTable =
 -- Tables 10.1-2 to 10.1-4.
 
 -- A cell as the print spells it.
-abbrev pub word : Mark → List ℕ
+abbrev pub word : RowState → List ℕ
 word ACK = bytes "ACK"
 word NACK = bytes "NACK"
 word DTX = bytes "DTX"
 word NACK/DTX = bytes "NACK/DTX"
 
 -- The cells of a row, a column for each.
-unfoldable pub words : List Mark → List ℕ
+unfoldable pub words : List RowState → List ℕ
 words [] = []
-words (m ∷ ms) = cell 13 (word m) ++ words ms
+words (c ∷ cs) = cell 13 (word c) ++ words cs
 
 -- What a row says: the resource, in a column, then the bits b(0), b(1).
 unfoldable pub said : Symbol → List ℕ

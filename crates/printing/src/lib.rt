@@ -16,7 +16,7 @@ ghost use lib.ListN.{length, getD};
 ghost use Rattle.frame.specs.Table.{windowOf};
 ghost use Rattle.io.specs.Counts.{Counts};
 ghost use Rattle.line.specs.Put.{paged, added};
-ghost use Rattle.symbols.specs.Coded.{noRow};
+ghost use Rattle.symbols.specs.Coded.{blankRow};
 ghost use Rattle.symbols.specs.Selection.{tableOf};
 ghost use Rattle.printing.specs.Column.{columnOf};
 ghost use Rattle.printing.specs.Text.{cell, kText, widths, windowRow, windowTable};
@@ -101,19 +101,19 @@ fn window_line(i: u16) -> Line
 }
 
 // The line with a cell of Tables 10.1-2 to 10.1-4, in a column; a BLANK cell has none.
-fn put_word(p: Line, mark: u16) -> Line
-    ensures { λ r. ⌜ r ≡ added p (columnOf mark) ⌝ }
+fn put_word(p: Line, state: u16) -> Line
+    ensures { λ r. ⌜ r ≡ added p (columnOf state) ⌝ }
 {
-    if mark == symbols::ACK {
+    if state == symbols::ACK {
         return put_cell(p, b"ACK", 13);
     }
-    if mark == symbols::NACK {
+    if state == symbols::NACK {
         return put_cell(p, b"NACK", 13);
     }
-    if mark == symbols::DTX {
+    if state == symbols::DTX {
         return put_cell(p, b"DTX", 13);
     }
-    if mark == symbols::NACK_DTX {
+    if state == symbols::NACK_DTX {
         return put_cell(p, b"NACK/DTX", 13);
     }
     p
@@ -134,7 +134,7 @@ fn put_said(p: Line, says: Symbol) -> Line
 
 // Row i of the table for M = size.
 fn symbol_row(size: u16, i: u16) -> Line
-    ensures { λ r. ⌜ r ≡ added (paged []) (symbolRow (getD (tableOf size) i noRow)) ⌝ }
+    ensures { λ r. ⌜ r ≡ added (paged []) (symbolRow (getD (tableOf size) i blankRow)) ⌝ }
 {
     let row = symbols::table_row(size, i);
     let cells = row.cells;

@@ -20,7 +20,7 @@ use Rattle.symbols.specs.declared.State.{State}
 use Rattle.symbols.specs.declared.State.the-variants.{Ack, Nack, Dtx}
 use Rattle.symbols.specs.declared.Symbol.{Symbol}
 use Rattle.symbols.specs.declared.Symbol.the-variants as symbol
-use Rattle.symbols.specs.Coded.{digitOf, codeOf, statesOf}
+use Rattle.symbols.specs.Coded.{stateDigit, codeOf, statesOf}
 use Rattle.symbols.specs.Selection.{symbolOf}
 use Rattle.symbols.proofs.Codes.{code-below, states-of-code}
 use Rattle.symbols.proofs.Rows.{index-heard}
@@ -31,11 +31,11 @@ use Rattle.reply.specs.Replies.{replyOn, stateOf, cceOf, windowState, sy
 use Rattle.fold.proofs.Folding.{size-read, size-small, k-read}
 
 -- One position more is one digit more.
-pub code-more : (ss : List State) (s : State) → codeOf (ss ++ (s ∷ [])) ≡ codeOf ss * 3 + digitOf s
+pub code-more : (ss : List State) (s : State) → codeOf (ss ++ (s ∷ [])) ≡ codeOf ss * 3 + stateDigit s
 code-more [] s = omega arith
 code-more (t ∷ ss) s =
     rw (code-more ss s, length-append ss (s ∷ []), add-one (length ss), pow-suc 3 (length ss))
-    (omega (arith, mul-assoc (digitOf t) (3 ^ length ss) 3))
+    (omega (arith, mul-assoc (stateDigit t) (3 ^ length ss) 3))
 
 module _ (F : ℕ → View) where
   pub state-length : (ks : List ℕ) → length (windowState F ks) ≡ length ks
@@ -58,7 +58,7 @@ module _ (F : ℕ → View) where
       let top : 3 ^ length (windowState F (take m ks)) ≤ 3 ^ 8 = pow-le-pow-right (omega arith) size in
       omega (arith, code-below (windowState F (take m ks)))
 
-pub digit-most : (s : State) → digitOf s ≤ 2
+pub digit-most : (s : State) → stateDigit s ≤ 2
 digit-most Ack = omega arith
 digit-most Nack = omega arith
 digit-most Dtx = omega arith
@@ -76,7 +76,7 @@ module _ (c n : ℕ) (w : Window) (read : w ≡ codedWindow (windowOf c n)) wher
         omega arith
 
     -- One position more, as the code reads it.
-    pub code-next : m < w .size → (x : View) → x ≡ F (getD (w .k) m 0) → (digit : ℕ) → digit ≡ digitOf (stateOf x)
+    pub code-next : m < w .size → (x : View) → x ≡ F (getD (w .k) m 0) → (digit : ℕ) → digit ≡ stateDigit (stateOf x)
         → code * 3 + digit ≡ codeTo F (m + 1) (windowOf c n)
     code-next h x ex digit ed =
         rw (before, ed, ex, k-read c n w read m)

@@ -16,7 +16,7 @@ ghost use Prim.Native.Nat.{_≤_};
 ghost use lib.ListN.{length};
 ghost use Rattle.frame.specs.Coded.{codedWindow};
 ghost use Rattle.frame.specs.Table.{windowOf};
-ghost use Rattle.symbols.specs.Coded.{digitOf, codeOf};
+ghost use Rattle.symbols.specs.Coded.{stateDigit, codeOf};
 ghost use Rattle.heard.specs.Memory.{viewAgo};
 ghost use Rattle.reply.specs.Replies.{replyOn, missShown, secondBit, bundledAnswer};
 ghost use Rattle.reply.specs.Replies.{stateOf, cceOf, windowState, multiplexedAnswer, windowAnswer};
@@ -75,7 +75,7 @@ fn bundled_answer(s: Settings, n: u16, size: u16, seen: Seen) -> Answer
 
 // The digit of a position's state: 0 for A, 1 for N, 2 for D.
 fn digit_of(x: View) -> u16
-    ensures { λ r. ⌜ r ≡ digitOf (stateOf x) ⌝ }
+    ensures { λ r. ⌜ r ≡ stateDigit (stateOf x) ⌝ }
 {
     match x {
         View::Unheard => 2,

@@ -12,7 +12,7 @@ use Rattle.symbols.specs.declared.State.{State}
 use Rattle.symbols.specs.declared.State.the-variants.{Ack, Nack, Dtx}
 use Rattle.symbols.specs.declared.Symbol.{Symbol}
 use Rattle.symbols.specs.declared.Symbol.the-variants.{Sent, Silent}
-use Rattle.symbols.specs.Coded.{digitOf, stateAt, codeOf, statesOf, numberOf}
+use Rattle.symbols.specs.Coded.{stateDigit, stateAt, codeOf, statesOf, numberOf}
 use Rattle.symbols.specs.Selection.{symbolOf}
 use Rattle.symbols.proofs.Rows.{sent-size, index-heard, bits-small}
 
@@ -35,7 +35,7 @@ states-mod (suc n) code =
     let rest : code % 3 ^ suc n % 3 ^ n ≡ code % 3 ^ n = rw (split, digits-mod q below) in
     ap₂ _∷_ (ap stateAt first) (sym (states-mod n (code % 3 ^ suc n)) ∙ ap (statesOf n) rest ∙ states-mod n code)
 
-digit-below : (s : State) → digitOf s < 3
+digit-below : (s : State) → stateDigit s < 3
 digit-below Ack = omega arith
 digit-below Nack = omega arith
 digit-below Dtx = omega arith
@@ -44,7 +44,7 @@ pub code-below : (ss : List State) → codeOf ss < 3 ^ length ss
 code-below [] = omega arith
 code-below (s ∷ ss) = rw (pow-succ' 3 (length ss)) (digits-lt (digit-below s) (code-below ss))
 
-digit-back : (s : State) → stateAt (digitOf s) ≡ s
+digit-back : (s : State) → stateAt (stateDigit s) ≡ s
 digit-back Ack = refl
 digit-back Nack = refl
 digit-back Dtx = refl
@@ -54,9 +54,9 @@ pub states-of-code : (ss : List State) → statesOf (length ss) (codeOf ss) ≡ 
 states-of-code [] = refl
 states-of-code (s ∷ ss) =
     let n = length ss in
-    let first : codeOf (s ∷ ss) / 3 ^ n % 3 ≡ digitOf s =
-    rw (digits-div (digitOf s) (code-below ss), mod-eq-of-lt (digit-below s)) in
-    let rest : codeOf (s ∷ ss) % 3 ^ n ≡ codeOf ss = digits-mod (digitOf s) (code-below ss) in
+    let first : codeOf (s ∷ ss) / 3 ^ n % 3 ≡ stateDigit s =
+    rw (digits-div (stateDigit s) (code-below ss), mod-eq-of-lt (digit-below s)) in
+    let rest : codeOf (s ∷ ss) % 3 ^ n ≡ codeOf ss = digits-mod (stateDigit s) (code-below ss) in
     ap₂ _∷_ (ap stateAt first ∙ digit-back s) (sym (states-mod n (codeOf (s ∷ ss))) ∙ ap (statesOf n) rest ∙ states-of-code ss)
 
 -- The index and the bits in a symbol's number.

@@ -100,9 +100,9 @@ set-bit (suc n) f zero h = go (f zero) (setOf n (λ (p : ℕ). f (suc p)))
     go true r = (λ e. refl, λ e. omega arith)
     go false r = (λ e. absurd (omega arith), λ e. absurd (false≢true e))
 set-bit (suc n) f (suc p) h =
-    rw (pow-succ' 2 p, ← div-div-eq-div-mul (setOf (suc n) f) 2 (2 ^ p), half (f zero) (setOf n (λ (p : ℕ). f (suc p))))
+    rw (pow-succ' 2 p, ← div-div-eq-div-mul (setOf (suc n) f) 2 (2 ^ p), without-bit-0 (f zero) (setOf n (λ (p : ℕ). f (suc p))))
     (set-bit n (λ (p : ℕ). f (suc p)) p (le-of-suc-le-suc h))
   where
-    half : (b : Bool) (r : ℕ) → (cond b 1 0 + 2 * r) / 2 ≡ r
-    half true r = omega arith
-    half false r = omega arith
+    without-bit-0 : (b : Bool) (r : ℕ) → (cond b 1 0 + 2 * r) / 2 ≡ r
+    without-bit-0 true r = omega arith
+    without-bit-0 false r = omega arith

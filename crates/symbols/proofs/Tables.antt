@@ -6,7 +6,7 @@ use mathlib.Core.Path.{_≡_, refl, sym, ap, _∙_}
 use native.Mathlib.Nat.{le-of-suc-le-suc, not-suc-le-zero, add-zero, zero-add, add-suc, suc-add}
 use lib.ListN.{length, getD, List·getD-eq-default, List·getD-map}
 use Rattle.symbols.specs.declared.TableRow.{TableRow}
-use Rattle.symbols.specs.Coded.{codedRow, noRow}
+use Rattle.symbols.specs.Coded.{codedTableRow, blankRow}
 use Rattle.symbols.specs.Selection.{Row}
 
 coded : {A B : Type 0} (f : A → B) (l : List A) (i : ℕ) (d : B) (e : A) → i < length l → getD (map f l) i d ≡ f (getD l i e)
@@ -15,14 +15,14 @@ coded f (x ∷ l) zero d e h = refl
 coded f (x ∷ l) (suc i) d e h = coded f l i d e (le-of-suc-le-suc h)
 
 -- Where the rows of source in the common form are the coded rows of the print, each is. d is what a read past the end gives.
-pub entry : {A : Type 0} (f : A → TableRow) (l : List A) (t : List Row) → map f l ≡ map codedRow t → (i : ℕ) (d : A)
-    → i < length t → f (getD l i d) ≡ codedRow (getD t i noRow)
+pub entry : {A : Type 0} (f : A → TableRow) (l : List A) (t : List Row) → map f l ≡ map codedTableRow t → (i : ℕ) (d : A)
+    → i < length t → f (getD l i d) ≡ codedTableRow (getD t i blankRow)
 entry f l t same i d h =
-    sym (List·getD-map f l i d) ∙ ap (λ (rs : List TableRow). getD rs i (f d)) same ∙ coded codedRow t i (f d) noRow h
+    sym (List·getD-map f l i d) ∙ ap (λ (rs : List TableRow). getD rs i (f d)) same ∙ coded codedTableRow t i (f d) blankRow h
 
 -- Past the last row of a table stands no row.
-pub past : (t : List Row) (i : ℕ) → length t ≤ i → codedRow noRow ≡ codedRow (getD t i noRow)
-past t i h = ap codedRow (sym (List·getD-eq-default t noRow h))
+pub past : (t : List Row) (i : ℕ) → length t ≤ i → codedTableRow blankRow ≡ codedTableRow (getD t i blankRow)
+past t i h = ap codedTableRow (sym (List·getD-eq-default t blankRow h))
 
 -- 0, 1, .., n - 1
 abbrev from : ℕ → ℕ → List ℕ

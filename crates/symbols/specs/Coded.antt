@@ -11,10 +11,10 @@ use Rattle.symbols.specs.declared.Symbol.{Symbol}
 use Rattle.symbols.specs.declared.Symbol.the-variants.{Sent, Silent}
 use Rattle.symbols.specs.declared.TableRow.{TableRow}
 use Rattle.symbols.specs.Delivered.{inSomeRow, deliveredSet}
-use Rattle.symbols.specs.Selection.{Mark, ACK, NACK, DTX, NACK/DTX, Row, row, N/A}
+use Rattle.symbols.specs.Selection.{RowState, ACK, NACK, DTX, NACK/DTX, Row, row, N/A}
 
 -- a cell's number
-abbrev pub cellOf : Mark → ℕ
+abbrev pub cellOf : RowState → ℕ
 cellOf ACK = 0
 cellOf NACK = 1
 cellOf DTX = 2
@@ -25,12 +25,12 @@ abbrev pub cellAt : Row → ℕ → ℕ
 cellAt r p = getD (map cellOf (r .cells)) p 4
 
 -- a row in one form for every M: four cells, and what it says
-abbrev pub codedRow : Row → TableRow
-codedRow r = record { cells = cellAt r 0 ∷ cellAt r 1 ∷ cellAt r 2 ∷ cellAt r 3 ∷ []; says = r .says }
+abbrev pub codedTableRow : Row → TableRow
+codedTableRow r = record { cells = cellAt r 0 ∷ cellAt r 1 ∷ cellAt r 2 ∷ cellAt r 3 ∷ []; says = r .says }
 
 -- what stands for a row that a table does not have
-abbrev pub noRow : Row
-noRow = row [] N/A
+abbrev pub blankRow : Row
+blankRow = row [] N/A
 
 -- index, b0, b1
 abbrev saidNumbers : Symbol → List ℕ
@@ -46,10 +46,10 @@ abbrev pub saidOf : ℕ → ℕ → ℕ → Symbol
 saidOf i b0 b1 = cond (eqb i 9) N/A (Sent i b0 b1)
 
 -- the digit of a state
-abbrev pub digitOf : State → ℕ
-digitOf Ack = 0
-digitOf Nack = 1
-digitOf Dtx = 2
+abbrev pub stateDigit : State → ℕ
+stateDigit Ack = 0
+stateDigit Nack = 1
+stateDigit Dtx = 2
 
 -- the state of a digit
 abbrev pub stateAt : ℕ → State
@@ -60,7 +60,7 @@ stateAt (suc (suc d)) = Dtx
 -- the number of a window's state: its digits in base 3, that of position 0 first
 abbrev pub codeOf : List State → ℕ
 codeOf [] = 0
-codeOf (s ∷ ss) = digitOf s * 3 ^ length ss + codeOf ss
+codeOf (s ∷ ss) = stateDigit s * 3 ^ length ss + codeOf ss
 
 -- the states of n positions that a number gives; numbers that differ by 3^n give the same
 abbrev pub statesOf : ℕ → ℕ → List State

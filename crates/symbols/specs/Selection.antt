@@ -12,12 +12,12 @@ use Rattle.symbols.specs.declared.State.the-variants.{Ack, Nack, Dtx}
 use Rattle.symbols.specs.declared.Symbol.{Symbol}
 use Rattle.symbols.specs.declared.Symbol.the-variants.{Sent, Silent}
 
--- A cell of the print; "NACK/DTX" is 01's "N or D".
-pub data Mark : Type 0 where
-  ACK NACK DTX NACK/DTX : Mark
+-- What a row has for a position, in a cell of the print; "NACK/DTX" is 01's "N or D".
+pub data RowState : Type 0 where
+  ACK NACK DTX NACK/DTX : RowState
 
 -- 01's states A, N and D against a cell.
-abbrev pub fits : Mark → State → Bool
+abbrev pub fits : RowState → State → Bool
 fits ACK Ack = true
 fits ACK Nack = false
 fits ACK Dtx = false
@@ -33,10 +33,10 @@ fits NACK/DTX Dtx = true
 
 -- A row: the cells of HARQ-ACK(0), HARQ-ACK(1), .., then what is sent: index i and bits b0 b1, or N/A.
 pub record Row : Type 0 where
-  pub cells : List Mark
+  pub cells : List RowState
   pub says : Symbol
 
-abbrev pub row : List Mark → Symbol → Row
+abbrev pub row : List RowState → Symbol → Row
 row cells says = record { cells = cells; says = says }
 
 abbrev pub N/A : Symbol
@@ -99,11 +99,11 @@ unfoldable pub tableOf : ℕ → List Row
 tableOf size = cond (eqb size 2) table2 (cond (eqb size 3) table3 (cond (eqb size 4) table4 []))
 
 -- The states fit the cells of a row, each in its place.
-abbrev pub fitsAll : List Mark → List State → Bool
+abbrev pub fitsAll : List RowState → List State → Bool
 fitsAll [] [] = true
 fitsAll [] (s ∷ ss) = false
-fitsAll (m ∷ ms) [] = false
-fitsAll (m ∷ ms) (s ∷ ss) = fits m s && fitsAll ms ss
+fitsAll (c ∷ cs) [] = false
+fitsAll (c ∷ cs) (s ∷ ss) = fits c s && fitsAll cs ss
 
 -- What the first row that fits says; silent where no row does.
 abbrev pub saidIn : List Row → List State → Symbol

@@ -3,7 +3,7 @@
 ghost use mathlib.Core.Path.{_≡_};
 ghost use Prim.Native.Nat.{_+_, _/_, _%_, _<_};
 ghost use lib.ListN.{getD};
-ghost use Rattle.symbols.specs.Coded.{codedRow, noRow, saidOf, numberOf, statesOf, setNumber};
+ghost use Rattle.symbols.specs.Coded.{codedTableRow, blankRow, saidOf, numberOf, statesOf, setNumber};
 ghost use Rattle.symbols.specs.Delivered.{deliveryOf};
 ghost use Rattle.symbols.specs.Selection.{table2, table3, table4, tableOf, symbolOf};
 
@@ -95,29 +95,29 @@ const TABLE4: [Row4; 20] = [
 
 // Derived from the tables: the numbers of the symbols of states 9 k to 9 k + 8 in row k. A state's number has a base-3 digit for
 // each position, position 0 first: 0 for A, 1 for N, 2 for D. A symbol's number is index × 4 + b0 × 2 + b1; 16 where silent.
-struct Nine([u16; 9]);
+struct SymbolNumbers([u16; 9]);
 
 // M = 2.
-const SYMBOLS2: [Nine; 1] = [Nine([7, 1, 1, 4, 6, 2, 4, 6, 16])];
+const SYMBOLS2: [SymbolNumbers; 1] = [SymbolNumbers([7, 1, 1, 4, 6, 2, 4, 6, 16])];
 
 // M = 3.
-const SYMBOLS3: [Nine; 3] = [
-    Nine([11, 7, 7, 3, 1, 1, 3, 1, 1]),
-    Nine([10, 4, 4, 8, 2, 2, 8, 2, 2]),
-    Nine([10, 4, 4, 8, 6, 6, 8, 9, 16]),
+const SYMBOLS3: [SymbolNumbers; 3] = [
+    SymbolNumbers([11, 7, 7, 3, 1, 1, 3, 1, 1]),
+    SymbolNumbers([10, 4, 4, 8, 2, 2, 8, 2, 2]),
+    SymbolNumbers([10, 4, 4, 8, 6, 6, 8, 9, 16]),
 ];
 
 // M = 4.
-const SYMBOLS4: [Nine; 9] = [
-    Nine([7, 6, 6, 6, 6, 6, 6, 6, 6]),
-    Nine([13, 9, 9, 1, 3, 3, 1, 3, 3]),
-    Nine([13, 9, 9, 1, 3, 3, 1, 3, 3]),
-    Nine([13, 10, 10, 14, 5, 5, 14, 5, 5]),
-    Nine([13, 8, 8, 12, 15, 11, 12, 15, 4]),
-    Nine([13, 8, 8, 12, 15, 11, 12, 15, 2]),
-    Nine([13, 10, 10, 14, 5, 5, 14, 5, 5]),
-    Nine([13, 8, 8, 12, 15, 11, 12, 15, 4]),
-    Nine([13, 8, 8, 12, 15, 11, 12, 15, 16]),
+const SYMBOLS4: [SymbolNumbers; 9] = [
+    SymbolNumbers([7, 6, 6, 6, 6, 6, 6, 6, 6]),
+    SymbolNumbers([13, 9, 9, 1, 3, 3, 1, 3, 3]),
+    SymbolNumbers([13, 9, 9, 1, 3, 3, 1, 3, 3]),
+    SymbolNumbers([13, 10, 10, 14, 5, 5, 14, 5, 5]),
+    SymbolNumbers([13, 8, 8, 12, 15, 11, 12, 15, 4]),
+    SymbolNumbers([13, 8, 8, 12, 15, 11, 12, 15, 2]),
+    SymbolNumbers([13, 10, 10, 14, 5, 5, 14, 5, 5]),
+    SymbolNumbers([13, 8, 8, 12, 15, 11, 12, 15, 4]),
+    SymbolNumbers([13, 8, 8, 12, 15, 11, 12, 15, 16]),
 ];
 
 // Derived from the tables: what the symbols with numbers 0 to 15 deliver; 16 for a symbol in no row. Bit p is set for position p.
@@ -146,8 +146,8 @@ fn said(i: u16, b0: u16, b1: u16) -> Symbol
     }
 }
 
-fn no_row() -> TableRow
-    ensures { λ r. ⌜ r ≡ codedRow noRow ⌝ }
+fn blank_row() -> TableRow
+    ensures { λ r. ⌜ r ≡ codedTableRow blankRow ⌝ }
 {
     TableRow {
         cells: [BLANK; 4],
@@ -156,10 +156,10 @@ fn no_row() -> TableRow
 }
 
 fn row2_at(i: usize) -> TableRow
-    ensures { λ r. ⌜ r ≡ codedRow (getD table2 i noRow) ⌝ }
+    ensures { λ r. ⌜ r ≡ codedTableRow (getD table2 i blankRow) ⌝ }
 {
     if 5 < i {
-        return no_row();
+        return blank_row();
     }
     let r = TABLE2[i];
     TableRow {
@@ -169,10 +169,10 @@ fn row2_at(i: usize) -> TableRow
 }
 
 fn row3_at(i: usize) -> TableRow
-    ensures { λ r. ⌜ r ≡ codedRow (getD table3 i noRow) ⌝ }
+    ensures { λ r. ⌜ r ≡ codedTableRow (getD table3 i blankRow) ⌝ }
 {
     if 10 < i {
-        return no_row();
+        return blank_row();
     }
     let r = TABLE3[i];
     TableRow {
@@ -182,10 +182,10 @@ fn row3_at(i: usize) -> TableRow
 }
 
 fn row4_at(i: usize) -> TableRow
-    ensures { λ r. ⌜ r ≡ codedRow (getD table4 i noRow) ⌝ }
+    ensures { λ r. ⌜ r ≡ codedTableRow (getD table4 i blankRow) ⌝ }
 {
     if 19 < i {
-        return no_row();
+        return blank_row();
     }
     let r = TABLE4[i];
     TableRow {
@@ -196,7 +196,7 @@ fn row4_at(i: usize) -> TableRow
 
 // Row i, from 0, of the table for M = size. Past the last row, and where no table is for M: four BLANK cells, silent.
 pub fn table_row(size: u16, i: u16) -> TableRow
-    ensures { λ r. ⌜ r ≡ codedRow (getD (tableOf size) i noRow) ⌝ }
+    ensures { λ r. ⌜ r ≡ codedTableRow (getD (tableOf size) i blankRow) ⌝ }
 {
     if size == 2 {
         return row2_at(i as usize);
@@ -207,7 +207,7 @@ pub fn table_row(size: u16, i: u16) -> TableRow
     if size == 4 {
         return row4_at(i as usize);
     }
-    no_row()
+    blank_row()
 }
 
 // The number of a state's symbol. A state's number counts modulo the number of states.
@@ -251,6 +251,7 @@ pub fn symbol_of(size: u16, code: u16) -> Symbol
 pub enum Delivery {
     // The positions that are A in every state whose symbol this is: bit p is set for position p.
     Set(u16),
+    // The symbol is in no row.
     NoRow,
 }
 

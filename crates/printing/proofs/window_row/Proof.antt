@@ -5,7 +5,7 @@ use mathlib.Core.List.{[], _∷_, _++_, append-nil}
 use mathlib.Core.Path.{_≡_, refl}
 use native.Mathlib.Omega.{arith}
 use borrow.Author.Needs.{needs}
-use Rattle.line.specs.Decimal.{digitOf}
+use Rattle.line.specs.Decimal.{decimalDigit}
 use Rattle.line.specs.Put.{paged, added}
 use Rattle.printing.specs.Text.{cell, cellsBelow, windowRow}
 use Rattle.printing.proofs.Adding.{added-cells}
@@ -13,7 +13,7 @@ use Rattle.printing.proofs.window_row.Statement.{statement}
 use Rattle.printing.proofs.window_row.Tie as tie
 
 abbrev Inv-loop : tie.InvT-loop
-Inv-loop c line₀ n₀ line n = (n ≤ 10) × (line ≡ added (paged []) (cell 15 (digitOf c ∷ []) ++ cellsBelow n c))
+Inv-loop c line₀ n₀ line n = (n ≤ 10) × (line ≡ added (paged []) (cell 15 (decimalDigit c ∷ []) ++ cellsBelow n c))
 
 abbrev μ-loop : tie.MeasureT-loop
 μ-loop c line₀ n₀ line n = 10 - n
@@ -49,7 +49,7 @@ loop-again : tie.Need-loop-again Inv-loop μ-loop
 loop-again c =
     let l = c .before .before .loop in
     let a = c .before .before .before .before .before .before .before .args in
-    (omega arith, rw (c .put-k .ensures, l .inv .1) (added-cells (paged []) (a .c) (l .n) (cell 15 (digitOf (a .c) ∷ []))))
+    (omega arith, rw (c .put-k .ensures, l .inv .1) (added-cells (paged []) (a .c) (l .n) (cell 15 (decimalDigit (a .c) ∷ []))))
 
 returns : tie.Need-returns Inv-loop μ-loop
 unfolding windowRow

@@ -6,7 +6,7 @@ use mathlib.Core.Path.{_≡_, sym, ap, _∙_}
 use native.Mathlib.Omega.{arith}
 use lib.ListN.{getD}
 use borrow.Author.Needs.{needs}
-use Rattle.symbols.specs.declared.Nine.{Nine}
+use Rattle.symbols.specs.declared.SymbolNumbers.{SymbolNumbers}
 use Rattle.symbols.specs.Coded.{numberOf, statesOf}
 use Rattle.symbols.specs.Selection.{table2, table3, table4, tableOf, symbolOf}
 use Rattle.symbols.proofs.Codes.{states-length, states-mod}
@@ -20,24 +20,24 @@ number : ℕ → ℕ → ℕ
 number size code = numberOf (symbolOf (statesOf size code))
 
 -- those of states 9 k to 9 k + 8
-nine : ℕ → ℕ → Nine
-nine size k = record { 0 = map (λ (j : ℕ). number size (k * 9 + j)) (upTo 9) }
+row-numbers : ℕ → ℕ → SymbolNumbers
+row-numbers size k = record { 0 = map (λ (j : ℕ). number size (k * 9 + j)) (upTo 9) }
 
--- The rows of nine, read at a state's number.
-nine-at : (size rows c : ℕ) → c < rows * 9
-    → getD (getD (map (nine size) (upTo rows)) (c / 9) (record { 0 = [] }) .0) (c % 9) 0 ≡ number size c
-unfolding nine
-nine-at size rows c h =
+-- The rows of numbers, read at a state's number.
+row-numbers-at : (size rows c : ℕ) → c < rows * 9
+    → getD (getD (map (row-numbers size) (upTo rows)) (c / 9) (record { 0 = [] }) .0) (c % 9) 0 ≡ number size c
+unfolding row-numbers
+row-numbers-at size rows c h =
     let whole : c / 9 * 9 + c % 9 ≡ c = omega arith in
-    ap (λ (r : Nine). getD (r .0) (c % 9) 0) (numbered (nine size) rows (c / 9) (record { 0 = [] }) (omega arith))
+    ap (λ (r : SymbolNumbers). getD (r .0) (c % 9) 0) (numbered (row-numbers size) rows (c / 9) (record { 0 = [] }) (omega arith))
     ∙ numbered (λ (j : ℕ). number size (c / 9 * 9 + j)) 9 (c % 9) 0 (omega arith)
     ∙ ap (number size) whole
 
 -- The rows for n positions, read at a state's number modulo 3^n.
 number-at : (n rows size code : ℕ) → size ≡ n → code % 3 ^ n < rows * 9
-    → getD (getD (map (nine n) (upTo rows)) (code % 3 ^ n / 9) (record { 0 = [] }) .0) (code % 3 ^ n % 9) 0 ≡ number size code
+    → getD (getD (map (row-numbers n) (upTo rows)) (code % 3 ^ n / 9) (record { 0 = [] }) .0) (code % 3 ^ n % 9) 0 ≡ number size code
 unfolding number
-number-at n rows size code e h = rw e (nine-at n rows (code % 3 ^ n) h ∙ ap (λ t. numberOf (symbolOf t)) (states-mod n code))
+number-at n rows size code e h = rw e (row-numbers-at n rows (code % 3 ^ n) h ∙ ap (λ t. numberOf (symbolOf t)) (states-mod n code))
 
 -- Windows of other sizes are silent.
 outside : (size code : ℕ) → (size ≡ 2 → ⊥) → (size ≡ 3 → ⊥) → (size ≡ 4 → ⊥) → 16 ≡ numberOf (symbolOf (statesOf size code))
@@ -60,7 +60,7 @@ array-read-result : tie.Need-array-read-result
 array-read-result c = search needs
 
 returns : tie.Need-returns
-unfolding number nine symbolOf tableOf table2
+unfolding number row-numbers symbolOf tableOf table2
 returns c =
     let a = c .before .before .before .args in
     number-at 2 1 (a .size) (a .code) (c .before .before .if1 .taken) (omega arith)
@@ -81,7 +81,7 @@ array-read-result-2 : tie.Need-array-read-result-2
 array-read-result-2 c = search needs
 
 returns-2 : tie.Need-returns-2
-unfolding number nine symbolOf tableOf table3
+unfolding number row-numbers symbolOf tableOf table3
 returns-2 c =
     let a = c .before .before .before .before .args in
     number-at 3 3 (a .size) (a .code) (c .before .before .if2 .taken) (omega arith)
@@ -102,7 +102,7 @@ array-read-result-3 : tie.Need-array-read-result-3
 array-read-result-3 c = search needs
 
 returns-3 : tie.Need-returns-3
-unfolding number nine symbolOf tableOf table4
+unfolding number row-numbers symbolOf tableOf table4
 returns-3 c =
     let a = c .before .before .before .before .before .args in
     number-at 4 9 (a .size) (a .code) (c .before .before .if3 .taken) (omega arith)

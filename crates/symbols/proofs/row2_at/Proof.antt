@@ -19,12 +19,12 @@ source r = record { 0 = cellAt r 0; 1 = cellAt r 1; 2 = saidAt r 0; 3 = saidAt r
 abbrev wide : Row2 → TableRow
 wide r = record { cells = r .0 ∷ r .1 ∷ 4 ∷ 4 ∷ []; says = saidOf (r .2) (r .3) (r .4) }
 
-no-row-requires : tie.Need-no-row-requires
-no-row-requires c κs = search needs
+blank-row-requires : tie.Need-blank-row-requires
+blank-row-requires c κs = search needs
 
 returns : tie.Need-returns
 unfolding table2
-returns c = c .no-row .ensures ∙ past table2 (c .before .before .args .i) (omega arith)
+returns c = c .blank-row .ensures ∙ past table2 (c .before .before .args .i) (omega arith)
 
 mul-r : tie.Need-mul-r
 mul-r c = search needs
@@ -43,4 +43,4 @@ returns-2 c =
     rw (c .said .ensures) (entry wide (map source table2) table2 refl i zeros (omega arith))
 
 pub row2-at-spec : {M : Type 1} → statement M
-row2-at-spec = tie.close (tie.spec no-row-requires returns mul-r array-copy-out-r said-requires returns-2)
+row2-at-spec = tie.close (tie.spec blank-row-requires returns mul-r array-copy-out-r said-requires returns-2)

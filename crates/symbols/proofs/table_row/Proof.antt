@@ -26,13 +26,13 @@ returns-3 : tie.Need-returns-3
 unfolding tableOf
 returns-3 c = rw (c .before .if3 .taken) (c .row4-at .ensures)
 
-no-row-requires : tie.Need-no-row-requires
-no-row-requires c κs = search needs
+blank-row-requires : tie.Need-blank-row-requires
+blank-row-requires c κs = search needs
 
 returns-4 : tie.Need-returns-4
 returns-4 c =
     let size = c .before .before .before .before .args .size in
-    rw (no-table size (search needs) (search needs) (search needs)) (c .no-row .ensures)
+    rw (no-table size (search needs) (search needs) (search needs)) (c .blank-row .ensures)
 
 pub table-row-spec : {M : Type 1} → statement M
 table-row-spec =
@@ -44,5 +44,5 @@ table-row-spec =
     returns-2
     row4-at-requires
     returns-3
-    no-row-requires
+    blank-row-requires
     returns-4)

@@ -4,7 +4,7 @@ use mathlib.Core.Bool.{cond, _&&_}
 use mathlib.Core.Path.{_≡_}
 use borrow.Author.Needs.{needs}
 use Rattle.symbols.specs.declared.State.the-variants.{Ack, Nack}
-use Rattle.symbols.specs.Coded.{digitOf}
+use Rattle.symbols.specs.Coded.{stateDigit}
 use Rattle.heard.specs.declared.Control.{Control}
 use Rattle.heard.specs.declared.View.{View}
 use Rattle.heard.specs.declared.View.the-variants.{Unheard, Pdcch}
@@ -12,12 +12,12 @@ use Rattle.reply.specs.Replies.{stateOf}
 use Rattle.reply.proofs.answers.digit_of.Statement.{statement}
 use Rattle.reply.proofs.answers.digit_of.Tie as tie
 
-unheard : (x : View) → x ≡ Unheard → 2 ≡ digitOf (stateOf x)
+unheard : (x : View) → x ≡ Unheard → 2 ≡ stateDigit (stateOf x)
 unfolding stateOf
 unheard x e = rw e
 
-heard : (x : View) (g : Control) (d : ℕ) → x ≡ Pdcch g → d ≡ digitOf (cond (g .first && g .second) Ack Nack)
-    → d ≡ digitOf (stateOf x)
+heard : (x : View) (g : Control) (d : ℕ) → x ≡ Pdcch g → d ≡ stateDigit (cond (g .first && g .second) Ack Nack)
+    → d ≡ stateDigit (stateOf x)
 unfolding stateOf
 heard x g d e h = rw e h
 
