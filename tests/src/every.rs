@@ -45,7 +45,7 @@ fn settings(
         for nrb in nrb.clone() {
             for n1 in n1.iter().copied() {
                 for (mode, blocks) in mode_and_blocks.iter().copied() {
-                    all.push(Settings { config, nrb, n1, mode, blocks });
+                    all.push(Settings::plain(config, nrb, n1, mode, blocks));
                 }
             }
         }

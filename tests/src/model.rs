@@ -168,7 +168,7 @@ pub fn bundles(settings: Settings, size: u16) -> bool {
 
 /// The lowest number among the causes that the settings meet.
 fn settings_refusal(settings: Settings) -> Option<u16> {
-    let Settings { config, nrb, n1, mode, blocks } = settings;
+    let Settings { config, nrb, n1, mode, blocks, .. } = settings;
     lowest([
         (1, config > 6),
         (2, !NRB.contains(&nrb)),

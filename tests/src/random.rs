@@ -73,25 +73,21 @@ impl Random {
     /// Settings that are allowed.
     pub fn settings(&mut self) -> Settings {
         let config = self.below16(7);
-        Settings {
-            config,
-            nrb: NRB.start() + self.below16(NRB.count() as u16),
-            n1: self.below16(2048),
-            mode: if config == 5 { 0 } else { self.below16(2) },
-            blocks: 1 + self.below16(2),
-        }
+        let nrb = NRB.start() + self.below16(NRB.count() as u16);
+        let n1 = self.below16(2048);
+        let mode = if config == 5 { 0 } else { self.below16(2) };
+        Settings::plain(config, nrb, n1, mode, 1 + self.below16(2))
     }
 
     /// Settings of which each number is once in `times` any number.
     pub fn wild_settings(&mut self, times: usize) -> Settings {
-        let Settings { config, nrb, n1, mode, blocks } = self.settings();
-        Settings {
-            config: self.unless_once_in(times, config),
-            nrb: self.unless_once_in(times, nrb),
-            n1: self.unless_once_in(times, n1),
-            mode: if self.once_in(8) { self.below16(2) } else { self.unless_once_in(times, mode) },
-            blocks: self.unless_once_in(times, blocks),
-        }
+        let Settings { config, nrb, n1, mode, blocks, .. } = self.settings();
+        let config = self.unless_once_in(times, config);
+        let nrb = self.unless_once_in(times, nrb);
+        let n1 = self.unless_once_in(times, n1);
+        let wild_mode = self.once_in(8);
+        let mode = if wild_mode { self.below16(2) } else { self.unless_once_in(times, mode) };
+        Settings::plain(config, nrb, n1, mode, self.unless_once_in(times, blocks))
     }
 
     /// A window of a configuration.

@@ -11,6 +11,13 @@ pub struct Settings {
     pub blocks: u16,
 }
 
+impl Settings {
+    /// The settings that 01 names; what later papers add is as before.
+    pub const fn plain(config: u16, nrb: u16, n1: u16, mode: u16, blocks: u16) -> Self {
+        Self { config, nrb, n1, mode, blocks }
+    }
+}
+
 /// The answer of the resource call: a refusal, or 0 and the resource.
 #[repr(C)]
 #[derive(Clone, Copy, Debug, PartialEq, Eq)]
@@ -166,11 +173,8 @@ impl Slot {
 
 impl Handset {
     /// What stands beside a refusal to make one.
-    pub const NONE: Self = Self {
-        settings: Settings { config: 0, nrb: 0, n1: 0, mode: 0, blocks: 0 },
-        next: 0,
-        past: [Slot::NOTHING; 13],
-    };
+    pub const NONE: Self =
+        Self { settings: Settings::plain(0, 0, 0, 0, 0), next: 0, past: [Slot::NOTHING; 13] };
 
     /// A fresh one, which has heard nothing and expects subframe 0.
     pub fn fresh(settings: Settings) -> Self {

@@ -7,7 +7,7 @@ use feedback_tests::{
 };
 
 /// Configuration 1, N_RB 50, N1 10; its window of n = 2 has M = 2.
-const CELL: Settings = Settings { config: 1, nrb: 50, n1: 10, mode: 0, blocks: 1 };
+const CELL: Settings = Settings::plain(1, 50, 10, 0, 1);
 
 #[test]
 fn resources_of_configuration_1() {

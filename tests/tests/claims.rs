@@ -131,7 +131,7 @@ fn dirty(length: usize, random: &mut Random) -> Vec<u8> {
 fn settings_for(window: &Window, nrb: u16, random: &mut Random) -> Settings {
     let mode = if window.config == 5 { 0 } else { random.below16(2) };
     let (n1, blocks) = (random.one_of(&[0, 10, 2047]), 1 + random.below16(2));
-    Settings { config: window.config, nrb, n1, mode, blocks }
+    Settings::plain(window.config, nrb, n1, mode, blocks)
 }
 
 /// Every window with lists of every content and length, and scratch of every length.
@@ -209,7 +209,7 @@ fn every_number_as_a_claim() {
     let mut lent = Lent::new(3);
     let mut refused = 0;
     for window in model.windows() {
-        let settings = Settings { config: window.config, nrb: 50, n1: 10, mode: 0, blocks: 1 };
+        let settings = Settings::plain(window.config, 50, 10, 0, 1);
         for any in 0..=65535 {
             for list in [&[any][..], &[0, 0, any]] {
                 if any / 256 < window.size() && any % 256 < 61 {
@@ -236,7 +236,7 @@ fn every_number_as_a_claim() {
 /// No memory at all: an empty list and empty scratch may be null.
 #[test]
 fn nothing_lent() {
-    let settings = Settings { config: 1, nrb: 50, n1: 10, mode: 0, blocks: 1 };
+    let settings = Settings::plain(1, 50, 10, 0, 1);
     let mut scratch = [7; 122];
     // SAFETY: the lengths say that nothing is lent where the pointers are null.
     let (empty, short) = unsafe {

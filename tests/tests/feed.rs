@@ -10,7 +10,7 @@ use feedback_tests::{Fed, Grant, Handset, Settings, Slot};
 fn cells(nrb: u16, n1: u16) -> impl Iterator<Item = Settings> {
     let modes = |config| (0..=u16::from(config != 5)).map(move |mode| (config, mode));
     (0..7).flat_map(modes).flat_map(move |(config, mode)| {
-        [1, 2].map(|blocks| Settings { config, nrb, n1, mode, blocks })
+        [1, 2].map(|blocks| Settings::plain(config, nrb, n1, mode, blocks))
     })
 }
 
@@ -90,7 +90,7 @@ fn every_cce_of_every_bandwidth() {
     let model = Model::new();
     let mut comparison = Comparison::with(&model);
     for nrb in NRB {
-        let settings = Settings { config: 5, nrb, n1: 10, mode: 0, blocks: 1 };
+        let settings = Settings::plain(5, nrb, 10, 0, 1);
         let handset = comparison.make(settings);
         for cce in 0..=edge(nrb, 4) + 1 {
             let grant = Grant { blocks: 1, first: 1, second: 0, cce, dai: 1 };
@@ -113,7 +113,7 @@ fn every_cce_of_every_bandwidth() {
 fn every_number_as_each_argument() {
     let model = Model::new();
     let mut comparison = Comparison::with(&model);
-    let settings = Settings { config: 2, nrb: 50, n1: 10, mode: 1, blocks: 2 };
+    let settings = Settings::plain(2, 50, 10, 1, 2);
     let valid = Grant { blocks: 2, first: 1, second: 1, cce: 5, dai: 3 };
     for subframe in [0, 2] {
         let handset = expecting(&mut comparison, settings, subframe);
@@ -198,9 +198,9 @@ fn every_byte_of_every_slot() {
     let mut random = Random::new(5);
     let mut fed = 0;
     for settings in [
-        Settings { config: 5, nrb: 110, n1: 2047, mode: 0, blocks: 2 },
-        Settings { config: 2, nrb: 50, n1: 10, mode: 1, blocks: 1 },
-        Settings { config: 4, nrb: 6, n1: 0, mode: 1, blocks: 2 },
+        Settings::plain(5, 110, 2047, 0, 2),
+        Settings::plain(2, 50, 10, 1, 1),
+        Settings::plain(4, 6, 0, 1, 2),
     ] {
         let handset = full(&mut comparison, settings, 2, &mut random);
         let prepared = comparison.total();

@@ -87,7 +87,7 @@ fn answers_with_a_handset_have_it_last() {
 /// slot one later: each has a value of its own here.
 #[test]
 fn every_byte_of_a_handset_comes_back() {
-    let settings = Settings { config: 5, nrb: 110, n1: 2047, mode: 0, blocks: 2 };
+    let settings = Settings::plain(5, 110, 2047, 0, 2);
     let mut handset = Handset { next: 3, ..Handset::fresh(settings) };
     for (at, slot) in handset.past.iter_mut().enumerate() {
         // Subframe 2, the only uplink one, is 1 and 11 before; a slot of nothing
@@ -138,7 +138,7 @@ fn what_lies_beyond_the_settings_is_not_read() {
     };
     let mut compared = 0;
     for blocks in 0..=3 {
-        let settings = Settings { config: 1, nrb: 50, n1: 10, mode: 0, blocks };
+        let settings = Settings::plain(1, 50, 10, 0, blocks);
         for beyond in [[0; 3], [1; 3], [65535; 3], [2, 0, 0], [0, 0, 32768]] {
             let wide = TwoRegisters { settings, beyond };
             let (list, mut scratch, mut wide_scratch) = ([256, 0, 256], [7; 130], [7; 130]);

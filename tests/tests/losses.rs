@@ -377,7 +377,7 @@ fn hold(configs: &[u16], blocks: u16, patterns: Patterns) -> u64 {
     for config in configs {
         for mode in 0..=u16::from(*config != 5) {
             for (nrb, n1) in CELLS {
-                let settings = Settings { config: *config, nrb, n1, mode, blocks };
+                let settings = Settings::plain(*config, nrb, n1, mode, blocks);
                 let mut run = Run::new(&model, settings, patterns, used);
                 used += run.fill();
                 run.check();

@@ -8,7 +8,7 @@ use feedback_tests::{
 use std::fmt::Debug;
 
 /// Configuration 1, N_RB 50, N1 10: N_4 is 61, and the window of n = 2 has M = 2.
-const CELL: Settings = Settings { config: 1, nrb: 50, n1: 10, mode: 0, blocks: 1 };
+const CELL: Settings = Settings::plain(1, 50, 10, 0, 1);
 
 const GRANT: Grant = Grant { blocks: 1, first: 1, second: 0, cce: 0, dai: 1 };
 

@@ -69,7 +69,7 @@ fn every_number_as_each_argument() {
     for window in model.windows() {
         let config = window.config;
         let mode = u16::from(config != 5);
-        let settings = Settings { config, nrb: 50, n1: 10, mode, blocks: 2 };
+        let settings = Settings::plain(config, 50, 10, mode, 2);
         for any in 0..=65535 {
             comparison.reading(settings, any, 10, 0, 1);
             comparison.reading(settings, window.n, any, 1, 0);

@@ -63,28 +63,28 @@ const MAKE_STARTS: [[u16; 5]; 4] =
 
 fn compare_resource(comparison: &mut Comparison, arguments: [u16; 8]) {
     let [config, nrb, n1, mode, blocks, n, position, cce] = arguments;
-    comparison.resource(Settings { config, nrb, n1, mode, blocks }, n, position, cce);
+    comparison.resource(Settings::plain(config, nrb, n1, mode, blocks), n, position, cce);
 }
 
 fn compare_inverse(comparison: &mut Comparison, arguments: [u16; 7]) {
     let [config, nrb, n1, mode, blocks, n, resource] = arguments;
-    comparison.inverse(Settings { config, nrb, n1, mode, blocks }, n, resource);
+    comparison.inverse(Settings::plain(config, nrb, n1, mode, blocks), n, resource);
 }
 
 fn compare_reading(comparison: &mut Comparison, arguments: [u16; 9]) {
     let [config, nrb, n1, mode, blocks, n, resource, b0, b1] = arguments;
-    comparison.reading(Settings { config, nrb, n1, mode, blocks }, n, resource, b0, b1);
+    comparison.reading(Settings::plain(config, nrb, n1, mode, blocks), n, resource, b0, b1);
 }
 
 fn compare_claims(comparison: &mut Comparison, lent: &mut Lent, arguments: [u16; 8]) {
     let [config, nrb, n1, mode, blocks, n, claim, room] = arguments;
-    let settings = Settings { config, nrb, n1, mode, blocks };
+    let settings = Settings::plain(config, nrb, n1, mode, blocks);
     comparison.claims(lent, settings, n, &[5, claim, 5], &vec![7; room.into()]);
 }
 
 fn compare_make(comparison: &mut Comparison, arguments: [u16; 5]) {
     let [config, nrb, n1, mode, blocks] = arguments;
-    comparison.make(Settings { config, nrb, n1, mode, blocks });
+    comparison.make(Settings::plain(config, nrb, n1, mode, blocks));
 }
 
 /// Every change of one argument to every 16-bit number.
@@ -297,7 +297,7 @@ fn make_with_all_arguments_special() {
 #[test]
 fn lowest_number_first() {
     let steps: [(u16, Settings, u16); 8] = {
-        let all = Settings { config: 7, nrb: 5, n1: 2048, mode: 2, blocks: 0 };
+        let all = Settings::plain(7, 5, 2048, 2, 0);
         let nrb = Settings { config: 5, ..all };
         let n1 = Settings { nrb: 6, ..nrb };
         let mode = Settings { n1: 2047, ..n1 };
@@ -332,7 +332,7 @@ fn lowest_number_first() {
         assert_eq!((made.refusal, made.handset), (refusal, handset), "{settings:?}");
     }
     // The last causes of the two longer calls: 14 after 13, and 16 after 15.
-    let settings = Settings { config: 5, nrb: 6, n1: 2047, mode: 0, blocks: 1 };
+    let settings = Settings::plain(5, 6, 2047, 0, 1);
     assert_eq!(reading(settings, 2, 2047, 2, 2), ReadingAnswer::refused(14));
     assert_eq!(reading(settings, 2, 2047, 0, 1), ReadingAnswer::refused(14));
     assert_eq!(reading(settings, 2, 2047, 1, 0), ReadingAnswer::bundled(0, 0, 1, 0));

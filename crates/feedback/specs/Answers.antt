@@ -22,6 +22,7 @@ use Rattle.feedback.specs.declared.FedAnswer.{FedAnswer}
 use Rattle.feedback.specs.declared.ReadingAnswer.{ReadingAnswer}
 use Rattle.feedback.specs.declared.ResourceAnswer.{ResourceAnswer}
 use Rattle.feedback.specs.declared.InverseAnswer.{InverseAnswer}
+use Rattle.feedback.specs.Kinds.{kindRefused, kindBundled, kindMultiplexed, kindSilent, kindTaken, kindNoWindow, claimsClean, claimsClash, claimsRefused}
 
 abbrev pub resourceAnswer : Mapped → ResourceAnswer
 resourceAnswer (mapped.At r) = record { refusal = 0; resource = r .0 }
@@ -33,26 +34,27 @@ inverseAnswer (inverted.Refused k) = record { refusal = k; position = 0; cce = 0
 
 abbrev pub readingAnswer : Reading → ReadingAnswer
 readingAnswer (reading.Bundled m c b0 b1) =
-    record { refusal = 0; kind = 1; position = m; cce = c .0; b0 = b0; b1 = b1; delivered = 0 }
+    record { refusal = 0; kind = kindBundled; position = m; cce = c .0; b0 = b0; b1 = b1; delivered = 0 }
 readingAnswer (reading.Multiplexed m c positions) =
-    record { refusal = 0; kind = 2; position = m; cce = c .0; b0 = 0; b1 = 0; delivered = positions }
-readingAnswer (reading.Refused k) = record { refusal = k; kind = 0; position = 0; cce = 0; b0 = 0; b1 = 0; delivered = 0 }
+    record { refusal = 0; kind = kindMultiplexed; position = m; cce = c .0; b0 = 0; b1 = 0; delivered = positions }
+readingAnswer (reading.Refused k) =
+    record { refusal = k; kind = kindRefused; position = 0; cce = 0; b0 = 0; b1 = 0; delivered = 0 }
 
 abbrev pub claimsAnswer : Verdict → ClaimsAnswer
-claimsAnswer verdict.Clean = record { kind = 0; refusal = 0; index = 0 }
-claimsAnswer (verdict.Clash i) = record { kind = 1; refusal = 0; index = i }
-claimsAnswer (verdict.Refused k i) = record { kind = 2; refusal = k; index = i }
+claimsAnswer verdict.Clean = record { kind = claimsClean; refusal = 0; index = 0 }
+claimsAnswer (verdict.Clash i) = record { kind = claimsClash; refusal = 0; index = i }
+claimsAnswer (verdict.Refused k i) = record { kind = claimsRefused; refusal = k; index = i }
 
 abbrev pub noReply : ℕ → ℕ → Handset → FedAnswer
 noReply refusal kind h = record { refusal = refusal; kind = kind; resource = 0; b0 = 0; b1 = 0; handset = h }
 
 abbrev pub answerNumbers : Answer → Handset → FedAnswer
-answerNumbers answer.Taken h = noReply 0 4 h
-answerNumbers answer.NoWindow h = noReply 0 5 h
-answerNumbers answer.Silent h = noReply 0 3 h
+answerNumbers answer.Taken h = noReply 0 kindTaken h
+answerNumbers answer.NoWindow h = noReply 0 kindNoWindow h
+answerNumbers answer.Silent h = noReply 0 kindSilent h
 answerNumbers (answer.Sent r) h =
     record { refusal = 0; kind = r .kind; resource = r .resource .0; b0 = r .b0; b1 = r .b1; handset = h }
-answerNumbers (answer.Refused k) h = noReply k 0 h
+answerNumbers (answer.Refused k) h = noReply k kindRefused h
 
 abbrev pub fedAnswer : Fed → FedAnswer
 fedAnswer f = answerNumbers (f .answer) (f .handset)

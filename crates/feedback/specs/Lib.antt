@@ -1,1 +1,3 @@
 pub mod Answers
+pub mod Back
+pub mod Kinds

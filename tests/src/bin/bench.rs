@@ -190,7 +190,7 @@ fn feeds_of(model: &Model, run: &Run) -> Vec<Feed> {
 fn claims(model: &Model, random: &mut Random) {
     let cells: Vec<List> = (0..INPUTS / 8).map(|_| list_of_ten(model, random)).collect();
     claims_row("claims, list of 10", &cells);
-    let widest = Settings { config: 5, nrb: 110, n1: 10, mode: 0, blocks: 1 };
+    let widest = Settings::plain(5, 110, 10, 0, 1);
     let window = model.window(5, 2).expect("a window");
     let of_widest = |claims| List { settings: widest, n: 2, claims };
     let thousands: Vec<List> =

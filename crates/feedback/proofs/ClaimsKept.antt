@@ -1,0 +1,30 @@
+-- The numbers of feedback_claims lose nothing: no claims are refused with 0.
+-- Assumes nothing.
+use Prim.Native.Nat.{ℕ, zero, suc}
+use mathlib.Core.Bool.{not}
+use mathlib.Core.List.{List}
+use mathlib.Core.Path.{_≡_, refl, sym, ap}
+use lib.Dec.{ltb, eqb·suc-zero}
+use lib.ListN.{length}
+use Rattle.frame.specs.declared.Settings.{Settings}
+use Rattle.claims.specs.declared.Verdict.{Verdict}
+use Rattle.claims.specs.Claims.{firstBad, firstClash, scratchRefusal, verdictOn, refusedOr, verdictOf}
+use Rattle.feedback.specs.Answers.{claimsAnswer}
+use Rattle.feedback.specs.Back.{checkedIn, KindTells}
+use Rattle.feedback.specs.Kinds.{claimsRefused}
+use Rattle.feedback.proofs.Chosen.{either}
+
+-- An answer about claims comes back from its numbers, and its kind says whether it is refused.
+abbrev pub CheckedKept : Verdict → Type 0
+CheckedKept x = (checkedIn (claimsAnswer x) ≡ x) × KindTells claimsRefused (claimsAnswer x .kind) (claimsAnswer x .refusal)
+
+refused-or-kept : (k : ℕ) (x : Verdict) → CheckedKept x → CheckedKept (refusedOr k x)
+refused-or-kept zero x kept = kept
+refused-or-kept (suc k) x kept = (refl, sym (ap not (eqb·suc-zero k)))
+
+pub claims-kept : (s : Settings) (n : ℕ) (list : List ℕ) (room : ℕ) → CheckedKept (verdictOf s n list room)
+unfolding verdictOf verdictOn
+claims-kept s n list room =
+    refused-or-kept (scratchRefusal s n room) _
+    (either CheckedKept (ltb (firstBad s n list) (length list)) _ _ (refl, refl)
+    (either CheckedKept (ltb (firstClash list) (length list)) _ _ (refl, refl) (refl, refl)))

@@ -1,0 +1,103 @@
+-- The way back from the numbers of a C answer to the answer, and that no answer of a call is lost on the way there. The numbers of
+-- feedback_make are the engine's own answer.
+-- Assumes nothing.
+use Prim.Native.Nat.{ℕ, zero, suc}
+use mathlib.Core.Bool.{cond, not}
+use mathlib.Core.List.{List}
+use mathlib.Core.Path.{_≡_}
+use lib.Dec.{eqb}
+use Rattle.frame.specs.declared.Settings.{Settings}
+use Rattle.resource.specs.declared.Mapped.{Mapped}
+use Rattle.resource.specs.declared.Inverted.{Inverted}
+use Rattle.resource.specs.Calls.{mappedAs, invertedAs, resourceOf, inverseOf}
+use Rattle.station.specs.declared.Reading.{Reading}
+use Rattle.station.specs.declared.Reading.the-variants as reading
+use Rattle.station.specs.Readings.{readOf}
+use Rattle.claims.specs.declared.Verdict.{Verdict}
+use Rattle.claims.specs.declared.Verdict.the-variants as verdict
+use Rattle.claims.specs.Claims.{verdictOf}
+use Rattle.reply.specs.declared.Answer.{Answer}
+use Rattle.reply.specs.declared.Answer.the-variants as answer
+use Rattle.heard.specs.declared.Heard.{Heard}
+use Rattle.handset.specs.declared.Fed.{Fed}
+use Rattle.handset.specs.declared.Handset.{Handset}
+use Rattle.handset.specs.Feed.{feedOf}
+use Rattle.feedback.specs.declared.ClaimsAnswer.{ClaimsAnswer}
+use Rattle.feedback.specs.declared.FedAnswer.{FedAnswer}
+use Rattle.feedback.specs.declared.ReadingAnswer.{ReadingAnswer}
+use Rattle.feedback.specs.declared.ResourceAnswer.{ResourceAnswer}
+use Rattle.feedback.specs.declared.InverseAnswer.{InverseAnswer}
+use Rattle.feedback.specs.Answers.{resourceAnswer, inverseAnswer, readingAnswer, claimsAnswer, fedAnswer}
+use Rattle.feedback.specs.Kinds.{kindRefused, kindBundled, kindSilent, kindTaken, kindNoWindow, claimsClash, claimsRefused}
+
+-- In every answer a refusal other than 0 is the answer; where it is 0 the kind, if there is one, says what the values are.
+abbrev pub mappedIn : ResourceAnswer → Mapped
+mappedIn a = mappedAs (a .refusal) (a .resource)
+
+abbrev pub invertedIn : InverseAnswer → Inverted
+invertedIn a = invertedAs (a .refusal) (a .position) (a .cce)
+
+abbrev pub readingAs : ℕ → Reading → Reading
+readingAs zero told = told
+readingAs (suc k) told = reading.Refused (suc k)
+
+abbrev pub readingIn : ReadingAnswer → Reading
+readingIn a =
+    readingAs (a .refusal)
+    (cond (eqb (a .kind) kindBundled) (reading.Bundled (a .position) (record { 0 = a .cce }) (a .b0) (a .b1))
+    (reading.Multiplexed (a .position) (record { 0 = a .cce }) (a .delivered)))
+
+abbrev pub checkedAs : ℕ → ℕ → Verdict → Verdict
+checkedAs zero index told = told
+checkedAs (suc k) index told = verdict.Refused (suc k) index
+
+abbrev pub checkedIn : ClaimsAnswer → Verdict
+checkedIn a = checkedAs (a .refusal) (a .index) (cond (eqb (a .kind) claimsClash) (verdict.Clash (a .index)) verdict.Clean)
+
+abbrev pub answerAs : ℕ → Answer → Answer
+answerAs zero told = told
+answerAs (suc k) told = answer.Refused (suc k)
+
+-- Any other kind is a reply's own: bundled or multiplexed.
+abbrev pub answerIn : FedAnswer → Answer
+answerIn a =
+    answerAs (a .refusal)
+    (cond (eqb (a .kind) kindSilent) answer.Silent
+    (cond (eqb (a .kind) kindTaken) answer.Taken
+    (cond (eqb (a .kind) kindNoWindow) answer.NoWindow
+    (answer.Sent (record { kind = a .kind; resource = record { 0 = a .resource }; b0 = a .b0; b1 = a .b1 })))))
+
+abbrev pub fedIn : FedAnswer → Fed
+fedIn a = record { answer = answerIn a; handset = a .handset }
+
+-- Every answer of every call comes back from its numbers.
+pub record NothingLost : Type 0 where
+  pub resource : (s : Settings) (n m c : ℕ) → mappedIn (resourceAnswer (resourceOf s n m c)) ≡ resourceOf s n m c
+  pub inverse : (s : Settings) (n r : ℕ) → invertedIn (inverseAnswer (inverseOf s n r)) ≡ inverseOf s n r
+  pub reading : (s : Settings) (n r b0 b1 : ℕ) → readingIn (readingAnswer (readOf s n r b0 b1)) ≡ readOf s n r b0 b1
+  pub claims : (s : Settings) (n : ℕ) (list : List ℕ) (room : ℕ)
+      → checkedIn (claimsAnswer (verdictOf s n list room)) ≡ verdictOf s n list room
+  pub feed : (h : Handset) (x : Heard) → fedIn (fedAnswer (feedOf h x)) ≡ feedOf h x
+
+-- So no two answers of a call look alike from C: where their numbers are equal, the answers are.
+abbrev pub Apart : {A N : Type 0} → (A → N) → A → A → Type 0
+Apart numbers x y = numbers x ≡ numbers y → x ≡ y
+
+pub record ToldApart : Type 0 where
+  pub resource : (s t : Settings) (n m c n' m' c' : ℕ) → Apart resourceAnswer (resourceOf s n m c) (resourceOf t n' m' c')
+  pub inverse : (s t : Settings) (n r n' r' : ℕ) → Apart inverseAnswer (inverseOf s n r) (inverseOf t n' r')
+  pub reading : (s t : Settings) (n r b0 b1 n' r' c0 c1 : ℕ) → Apart readingAnswer (readOf s n r b0 b1) (readOf t n' r' c0 c1)
+  pub claims : (s t : Settings) (n n' : ℕ) (list list' : List ℕ) (room room' : ℕ)
+      → Apart claimsAnswer (verdictOf s n list room) (verdictOf t n' list' room')
+  pub feed : (h i : Handset) (x y : Heard) → Apart fedAnswer (feedOf h x) (feedOf i y)
+
+-- Where an answer has a kind, it is the refused one exactly where the refusal is not 0: a caller may look at either.
+abbrev pub KindTells : ℕ → ℕ → ℕ → Type 0
+KindTells refused kind refusal = eqb kind refused ≡ not (eqb refusal 0)
+
+pub record RefusedByKind : Type 0 where
+  pub reading : (s : Settings) (n r b0 b1 : ℕ)
+      → KindTells kindRefused (readingAnswer (readOf s n r b0 b1) .kind) (readingAnswer (readOf s n r b0 b1) .refusal)
+  pub claims : (s : Settings) (n : ℕ) (list : List ℕ) (room : ℕ)
+      → KindTells claimsRefused (claimsAnswer (verdictOf s n list room) .kind) (claimsAnswer (verdictOf s n list room) .refusal)
+  pub feed : (h : Handset) (x : Heard) → KindTells kindRefused (fedAnswer (feedOf h x) .kind) (fedAnswer (feedOf h x) .refusal)

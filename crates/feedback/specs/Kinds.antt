@@ -1,0 +1,30 @@
+-- The kinds of an answer as numbers: what a reading and a feed tell, and what claims tell.
+-- Assumes nothing.
+use Prim.Native.Nat.{ℕ}
+
+abbrev pub kindRefused : ℕ
+kindRefused = 0
+
+abbrev pub kindBundled : ℕ
+kindBundled = 1
+
+abbrev pub kindMultiplexed : ℕ
+kindMultiplexed = 2
+
+abbrev pub kindSilent : ℕ
+kindSilent = 3
+
+abbrev pub kindTaken : ℕ
+kindTaken = 4
+
+abbrev pub kindNoWindow : ℕ
+kindNoWindow = 5
+
+abbrev pub claimsClean : ℕ
+claimsClean = 0
+
+abbrev pub claimsClash : ℕ
+claimsClash = 1
+
+abbrev pub claimsRefused : ℕ
+claimsRefused = 2
