@@ -134,7 +134,9 @@ fn multiplexed_answer(s: Settings, n: u16, past: [Slot; 13], w: Window) -> Answe
     }
 }
 
-// The answer of uplink subframe n, over what is remembered, by settings that are accepted: `handset::feed` refuses others.
+// The answer of subframe n, over what is remembered: the bundled or the multiplexed reply of its window, silence, or "no window"
+// where the table has none for n. Settings and memory are taken as they are: no refusal is given here, and a reply whose resource
+// the map refuses is silence. `handset::feed` asks only of a state that 8 accepts, in an uplink subframe.
 pub fn answer_in(s: Settings, n: u16, past: [Slot; 13]) -> Answer
     ensures { λ r. ⌜ r ≡ windowAnswer s n (viewAgo past) ⌝ }
 {
