@@ -13,7 +13,7 @@ use Rattle.resource.proofs.Counts.{resources-least}
 use Rattle.resource.proofs.OneToOne.{resource-range}
 use Rattle.resource.proofs.Sized.{resource-told}
 use Rattle.claims.specs.declared.Cell.{Cell}
-use Rattle.claims.specs.Claims.{positionIn, cceIn, claimed, resourcesOf, isResource}
+use Rattle.claims.specs.Claims.{positionIn, cceIn, claimed, resourcesOf, roomOf, isResource}
 use Rattle.claims.specs.Marking.{Has, Accepted, Byte}
 use Rattle.claims.proofs.Share.{has-resource}
 
@@ -33,7 +33,7 @@ module _ (cell : Cell) (known : Accepted cell) (claim c : ℕ) (a : Mapped) (cce
     from-n1 = resource-range (cell .s) (cell .n) (known .accepted) (positionIn claim) (cceIn claim) r has .0
 
     pub byte-given : Byte (cell .s) (cell .n) claim (r - cell .s .n1)
-    unfolding resourcesOf
+    unfolding roomOf resourcesOf
     byte-given =
         let back : r ≡ r - cell .s .n1 + cell .s .n1 = omega (arith, from-n1) in
         record {
@@ -42,7 +42,7 @@ module _ (cell : Cell) (known : Accepted cell) (claim c : ℕ) (a : Mapped) (cce
         }
 
   pub byte-refused : (k : ℕ) → a ≡ mapped.Refused k → Byte (cell .s) (cell .n) claim 0
-  unfolding resourcesOf
+  unfolding roomOf resourcesOf
   byte-refused k refused =
       record {
         below = resources-least (cell .s) (cell .n) (known .accepted);

@@ -9,7 +9,7 @@ use Rattle.frame.specs.Settings.{windowRefusal}
 use Rattle.resource.specs.Calls.{ccesOf, sizeOf}
 use Rattle.resource.proofs.Counts.{cces-answered, resources-most}
 use Rattle.claims.specs.declared.Cell.{Cell}
-use Rattle.claims.specs.Claims.{resourcesOf, isBad}
+use Rattle.claims.specs.Claims.{resourcesOf, roomOf, isBad}
 use Rattle.claims.specs.Marking.{Accepted}
 
 -- What was read before the claims are M and N_4.
@@ -20,8 +20,8 @@ cell-read s n k top w asked none ew et =
     record { accepted = accepted; positions = ew; cces = et ∙ cces-answered s n accepted }
 
 module _ (cell : Cell) (known : Accepted cell) where
-  pub room : cell .size * cell .top ≡ resourcesOf (cell .s) (cell .n)
-  unfolding resourcesOf
+  pub room : cell .size * cell .top ≡ roomOf (cell .s) (cell .n)
+  unfolding roomOf resourcesOf
   room = rw (known .positions, known .cces)
 
   pub bad-read : (claim : ℕ) → isBad (cell .s) (cell .n) claim ≡ not (ltb (claim / 256) (cell .size) && ltb (claim % 256) (cell .top))

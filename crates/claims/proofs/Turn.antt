@@ -25,7 +25,7 @@ module _ (cell : Cell) (claims old : List ℕ) (e t : ℕ) (scratch : List ℕ) 
   good : (i : ℕ) → i < length claims → isBad (cell .s) (cell .n) (getD claims i 0) ≡ false
   good i h = first-bad (cell .s) (cell .n) claims .before i (omega arith) (omega (arith, ready .good))
 
-  read : getD scratch t 0 ≡ cond (earlier claims e (getD claims e 0)) 1 0
+  read : getD scratch t 0 ≡ cond (earlier (cell .s) (cell .n) claims e (getD claims e 0)) 1 0
   read =
       rw (
         marks,
@@ -35,10 +35,10 @@ module _ (cell : Cell) (claims old : List ℕ) (e t : ℕ) (scratch : List ℕ) 
       )
 
   -- A byte that is set is that of an earlier claim.
-  pub earlier-if-set : (getD scratch t 0 ≡ 0 → ⊥) → earlier claims e (getD claims e 0) ≡ true
+  pub earlier-if-set : (getD scratch t 0 ≡ 0 → ⊥) → earlier (cell .s) (cell .n) claims e (getD claims e 0) ≡ true
   earlier-if-set h = set-passes _ (rw read at h)
 
-  pub new-if-clear : getD scratch t 0 ≡ 0 → earlier claims e (getD claims e 0) ≡ false
+  pub new-if-clear : getD scratch t 0 ≡ 0 → earlier (cell .s) (cell .n) claims e (getD claims e 0) ≡ false
   new-if-clear h = clear-fails _ (sym read ∙ h)
 
   pub one-more : set scratch t 1 ≡ markedUpTo (cell .s) (cell .n) claims old (suc e)

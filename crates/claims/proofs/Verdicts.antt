@@ -11,7 +11,7 @@ use Rattle.frame.specs.declared.Settings.{Settings}
 use Rattle.frame.specs.Settings.{orElse, windowRefusal}
 use Rattle.claims.specs.declared.Verdict.{Verdict}
 use Rattle.claims.specs.declared.Verdict.the-variants.{Clean, Clash, Refused}
-use Rattle.claims.specs.Claims.{resourcesOf, firstBad, firstClash, scratchRefusal, verdictOn, refusedOr, verdictOf, markedUpTo, markedScratch, scratchAfter, scratchOf}
+use Rattle.claims.specs.Claims.{roomOf, firstBad, firstClash, scratchRefusal, verdictOn, refusedOr, verdictOf, markedUpTo, markedScratch, scratchAfter, scratchOf}
 use Rattle.claims.specs.Marking.{Accepted, Ready}
 use Rattle.claims.proofs.Cells.{room}
 use Rattle.claims.proofs.Marks.{none-marked}
@@ -39,12 +39,12 @@ module _ (s : Settings) (n : ℕ) (claims old : List ℕ) where
     pub short : length old < size * top → Right (Refused 15 0) old
     unfolding verdictOf scratchRefusal
     short h =
-        right (Refused 15 0) old (rw (known .accepted, lt-ltb (length old) (resourcesOf s n) (omega (arith, room _ known)))) refl
+        right (Refused 15 0) old (rw (known .accepted, lt-ltb (length old) (roomOf s n) (omega (arith, room _ known)))) refl
 
     module _ (enough : size * top ≤ length old) where
       answered : verdictOf s n claims (length old) ≡ verdictOn s n claims
       unfolding verdictOf scratchRefusal
-      answered = rw (known .accepted, le-ltb (length old) (resourcesOf s n) (omega (arith, room _ known)))
+      answered = rw (known .accepted, le-ltb (length old) (roomOf s n) (omega (arith, room _ known)))
 
       module _ (b : ℕ) (searched : b ≡ firstBad s n claims) where
         -- 16
@@ -57,11 +57,11 @@ module _ (s : Settings) (n : ℕ) (claims old : List ℕ) where
           abbrev cleared : List ℕ
           cleared = front ++ drop (size * top) old
 
-          cleared-as : cleared ≡ replicate (resourcesOf s n) 0 ++ drop (resourcesOf s n) old
+          cleared-as : cleared ≡ replicate (roomOf s n) 0 ++ drop (roomOf s n) old
           cleared-as = rw (zeros, length-take-le (size * top) old enough, room _ known)
 
-          kept : drop (resourcesOf s n) cleared ≡ drop (resourcesOf s n) old
-          kept = rw cleared-as (drop-at (replicate (resourcesOf s n) 0) _ (resourcesOf s n) (simp length-replicate))
+          kept : drop (roomOf s n) cleared ≡ drop (roomOf s n) old
+          kept = rw cleared-as (drop-at (replicate (roomOf s n) 0) _ (roomOf s n) (simp length-replicate))
 
           pub ready : Ready (record { s = s; n = n; size = size; top = top }) claims cleared
           ready =
@@ -72,7 +72,7 @@ module _ (s : Settings) (n : ℕ) (claims old : List ℕ) where
                 cleared = cleared-as ∙ rw (none-marked, kept);
               }
 
-          module _ (e : ℕ) (here : e ≡ firstClash claims) (new : List ℕ) (marked : new ≡ markedUpTo s n claims cleared e) where
+          module _ (e : ℕ) (here : e ≡ firstClash s n claims) (new : List ℕ) (marked : new ≡ markedUpTo s n claims cleared e) where
             as-marked : new ≡ markedScratch s n claims old
             unfolding markedScratch markedUpTo
             as-marked = rw (← here, ← kept) marked

@@ -11,7 +11,7 @@ use Rattle.resource.specs.declared.Mapped.the-variants as mapped
 use Rattle.resource.specs.Calls.{sizeOf}
 use Rattle.resource.specs.Formula.{edge}
 use Rattle.claims.specs.declared.Cell.{Cell}
-use Rattle.claims.specs.Claims.{claimed, resourcesOf, isBad, firstBad, markedUpTo}
+use Rattle.claims.specs.Claims.{claimed, roomOf, isBad, firstBad, markedUpTo}
 
 -- The resource call gives the claim the resource r.
 abbrev pub Has : Settings → ℕ → ℕ → ℕ → Type 0
@@ -27,10 +27,10 @@ pub record Accepted (cell : Cell) : Type 0 where
 pub record Ready (cell : Cell) (claims scratch : List ℕ) : Type 0 where
   pub accepted : Accepted cell
   pub good : length claims ≤ firstBad (cell .s) (cell .n) claims
-  pub room : resourcesOf (cell .s) (cell .n) ≤ length scratch
+  pub room : roomOf (cell .s) (cell .n) ≤ length scratch
   pub cleared : scratch ≡ markedUpTo (cell .s) (cell .n) claims scratch 0
 
 -- Byte t of a claim: below M × N_4 whatever the claim; t + N1 is the resource of a claim that is not bad.
 pub record Byte (s : Settings) (n claim t : ℕ) : Type 0 where
-  pub below : t < resourcesOf s n
+  pub below : t < roomOf s n
   pub resource : isBad s n claim ≡ false → Has s n claim (t + s .n1)

@@ -108,7 +108,7 @@ fn byte_of(cell: Cell, claim: u16) -> usize
 // Each claim is read once.
 fn mark(cell: Cell, claims: &[u16], scratch: &mut [u8]) -> usize
     requires { ⌜ Ready cell (now claims) (now scratch) ⌝ }
-    ensures { λ r. ⌜ r ≡ firstClash (now (claims .entry)) ⌝ }
+    ensures { λ r. ⌜ r ≡ firstClash (cell .s) (cell .n) (now (claims .entry)) ⌝ }
     ensures { λ r. ⌜ now (scratch .exit) ≡ markedUpTo (cell .s) (cell .n) (now (claims .entry)) (now (scratch .entry)) r ⌝ }
 {
     let mut i = 0;

@@ -1,4 +1,4 @@
--- `claims::mark` meets its contract. The loop's invariant: no claim before i equals an earlier one, and the scratch has the marks
+-- `claims::mark` meets its contract. The loop's invariant: no claim before i clashes with an earlier one, and the scratch has the marks
 -- of the claims before i. The measure is the claims left. Assumes nothing.
 use Prim.Native.Nat.{ℕ, _-_, _≤_, _<_}
 use mathlib.Core.Bool.{false}
@@ -17,7 +17,7 @@ use Rattle.claims.proofs.mark.Tie as tie
 abbrev Inv-loop : tie.InvT-loop
 Inv-loop cell claims scratch₀ i₀ scratch i =
     (i ≤ length claims)
-    × ((k : ℕ) → k < i → earlier claims k (getD claims k 0) ≡ false)
+    × ((k : ℕ) → k < i → earlier (cell .s) (cell .n) claims k (getD claims k 0) ≡ false)
     × (length scratch ≡ length scratch₀)
     × (scratch ≡ markedUpTo (cell .s) (cell .n) claims scratch₀ i)
 
