@@ -11,8 +11,8 @@ use lib.Dec.{ltb}
 use lib.ListN.{length, getD}
 use borrow.Author.Tests.{le-ltb, ltb-false}
 use Rattle.frame.specs.declared.Settings.{Settings}
-use Rattle.claims.specs.declared.Verdict.the-variants.{Clean, Clash, Refused}
-use Rattle.claims.specs.Claims.{isBad, firstBad, clashes, earlier, firstClash, scratchRefusal, refusedOr, verdictOn, verdictOf}
+use Rattle.claims.specs.declared.Checked.the-variants.{Clean, Clash, Refused}
+use Rattle.claims.specs.Claims.{isBad, firstBad, clashes, earlier, firstClash, scratchRefusal, refusedOr, checkedOn, checkedOf}
 use Rattle.claims.specs.Clean.{AllClean}
 use Rattle.claims.proofs.First.{first-none, first-bad, first-clash}
 use Rattle.claims.proofs.Share.{no-clash-apart, apart-no-clash}
@@ -42,8 +42,8 @@ only-clean zero x y false true e = let z : _≡_ {A = ℕ} 0 1 = cc in absurd (o
 only-clean zero x y false false e = (refl, refl, refl)
 
 module _ (s : Settings) (n : ℕ) (claims : List ℕ) (lent : ℕ) where
-  clean-to : verdictOf s n claims lent ≡ Clean → AllClean s n claims lent
-  unfolding verdictOf verdictOn
+  clean-to : checkedOf s n claims lent ≡ Clean → AllClean s n claims lent
+  unfolding checkedOf checkedOn
   clean-to e =
       let f = only-clean (scratchRefusal s n lent) (firstBad s n claims) (firstClash s n claims)
       (ltb (firstBad s n claims) (length claims)) (ltb (firstClash s n claims) (length claims)) e in
@@ -57,8 +57,8 @@ module _ (s : Settings) (n : ℕ) (claims : List ℕ) (lent : ℕ) where
             (none-earlier s n claims (getD claims j 0) j (first-clash s n claims .before j (omega arith) (omega arith)) i h);
       }
 
-  clean-from : AllClean s n claims lent → verdictOf s n claims lent ≡ Clean
-  unfolding verdictOf verdictOn firstBad firstClash
+  clean-from : AllClean s n claims lent → checkedOf s n claims lent ≡ Clean
+  unfolding checkedOf checkedOn firstBad firstClash
   clean-from a =
       let bad = first-none (λ (i : ℕ). isBad s n (getD claims i 0)) (length claims) (length claims) (a .good) (le-refl _) (le-refl _) in
       let clash = first-none (λ (i : ℕ). earlier s n claims i (getD claims i 0)) (length claims) (length claims)
@@ -66,5 +66,5 @@ module _ (s : Settings) (n : ℕ) (claims : List ℕ) (lent : ℕ) where
       (le-refl _) (le-refl _) in
       rw (a .accepted, le-ltb (firstBad s n claims) (length claims) (omega arith), le-ltb (firstClash s n claims) (length claims) (omega arith))
 
-  pub clean-exactly : (verdictOf s n claims lent ≡ Clean) ↔ AllClean s n claims lent
+  pub clean-exactly : (checkedOf s n claims lent ≡ Clean) ↔ AllClean s n claims lent
   clean-exactly = (clean-to, clean-from)

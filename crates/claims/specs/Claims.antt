@@ -11,8 +11,8 @@ use Rattle.resource.specs.declared.Mapped.{Mapped}
 use Rattle.resource.specs.declared.Mapped.the-variants as mapped
 use Rattle.resource.specs.Calls.{sizeOf, resourceOf}
 use Rattle.resource.specs.Formula.{edge}
-use Rattle.claims.specs.declared.Verdict.{Verdict}
-use Rattle.claims.specs.declared.Verdict.the-variants.{Clean, Clash, Refused}
+use Rattle.claims.specs.declared.Checked.{Checked}
+use Rattle.claims.specs.declared.Checked.the-variants.{Clean, Clash, Refused}
 
 -- A claim is m × 256 + first CCE.
 abbrev pub positionIn : ℕ → ℕ
@@ -65,19 +65,19 @@ scratchRefusal s n lent = orElse (windowRefusal s n) (cond (ltb lent (roomOf s n
 
 -- 01's answer of a list that is not refused for settings, subframe or scratch: 16 for a bad claim anywhere, with the first one's
 -- index; else the index of the first claim that clashes with an earlier one; else clean.
-unfoldable pub verdictOn : Settings → ℕ → List ℕ → Verdict
-verdictOn s n claims =
+unfoldable pub checkedOn : Settings → ℕ → List ℕ → Checked
+checkedOn s n claims =
     cond (ltb (firstBad s n claims) (length claims)) (Refused 16 (firstBad s n claims))
     (cond (ltb (firstClash s n claims) (length claims)) (Clash (firstClash s n claims))
     Clean)
 
-abbrev pub refusedOr : ℕ → Verdict → Verdict
-refusedOr zero verdict = verdict
-refusedOr (suc k) verdict = Refused (suc k) 0
+abbrev pub refusedOr : ℕ → Checked → Checked
+refusedOr zero checked = checked
+refusedOr (suc k) checked = Refused (suc k) 0
 
 -- The answer to a list of claims with a scratch of `lent` bytes.
-unfoldable pub verdictOf : Settings → ℕ → List ℕ → ℕ → Verdict
-verdictOf s n claims lent = refusedOr (scratchRefusal s n lent) (verdictOn s n claims)
+unfoldable pub checkedOf : Settings → ℕ → List ℕ → ℕ → Checked
+checkedOf s n claims lent = refusedOr (scratchRefusal s n lent) (checkedOn s n claims)
 
 -- The answer is the resource with number r.
 abbrev pub isResource : Mapped → ℕ → Bool
@@ -103,10 +103,10 @@ unfoldable pub markedScratch : Settings → ℕ → List ℕ → List ℕ → Li
 markedScratch s n claims old = markedUpTo s n claims old (firstClash s n claims)
 
 -- The scratch after the call: as it was on a refusal, 16 included.
-abbrev pub scratchAfter : Verdict → List ℕ → List ℕ → List ℕ
+abbrev pub scratchAfter : Checked → List ℕ → List ℕ → List ℕ
 scratchAfter Clean new old = new
 scratchAfter (Clash i) new old = new
 scratchAfter (Refused k i) new old = old
 
 unfoldable pub scratchOf : Settings → ℕ → List ℕ → List ℕ → List ℕ
-scratchOf s n claims old = scratchAfter (verdictOf s n claims (length old)) (markedScratch s n claims old) old
+scratchOf s n claims old = scratchAfter (checkedOf s n claims (length old)) (markedScratch s n claims old) old
