@@ -8,7 +8,7 @@ use lib.Dec.{T}
 use Rattle.frame.specs.declared.Settings.{Settings}
 use Rattle.frame.specs.Layout.{layouts, letterOf, downlink}
 use Rattle.frame.specs.Order.{timesOf, orderOf}
-use Rattle.frame.specs.Settings.{bundles, cellRefusal, modeRefusal, blocksRefusal, settingsRefusal, noWindowRefusal, windowRefusal}
+use Rattle.frame.specs.Settings.{bundles, cellRefusal, modeRefusal, blocksRefusal, laterRefusal, settingsRefusal, noWindowRefusal, windowRefusal}
 use Rattle.frame.specs.Table.{table, windowOf}
 use Rattle.resource.specs.Calls.{pairRefusal, resourceOf}
 use Rattle.resource.specs.Formula.{edge, regionOf, resourceNumber}
@@ -145,7 +145,7 @@ worked r good s b e =
 
 -- The seven runs.
 pub runs : AllWorked (allHeard ∷ missed ∷ refusedBetween ∷ fourLost ∷ shared ∷ beforeStart ∷ twoBlocks ∷ [])
-unfolding layouts letterOf downlink timesOf orderOf bundles cellRefusal modeRefusal blocksRefusal settingsRefusal noWindowRefusal windowRefusal table windowOf pairRefusal resourceOf edge regionOf resourceNumber symbolOf tableOf table2 table3 table4 stepOf seenFrom seenOf uplinkRefusal grantRefusal heardRefusal viewOf slotOf heardIn viewIn viewAgo replyOn expected missShown secondBit bundledAnswer stateOf cceOf windowState symbolAnswer multiplexedAnswer windowAnswer answerOf dueOf pushed feedRefusal feedOf fresh makeOf slotSound allSound stateSound stateRefusal
+unfolding layouts letterOf downlink timesOf orderOf bundles cellRefusal modeRefusal blocksRefusal laterRefusal settingsRefusal noWindowRefusal windowRefusal table windowOf pairRefusal resourceOf edge regionOf resourceNumber symbolOf tableOf table2 table3 table4 stepOf seenFrom seenOf uplinkRefusal grantRefusal heardRefusal viewOf slotOf heardIn viewIn viewAgo replyOn expected missShown secondBit bundledAnswer stateOf cceOf windowState symbolAnswer multiplexedAnswer windowAnswer answerOf dueOf pushed feedRefusal feedOf fresh makeOf slotSound allSound stateSound stateRefusal
 runs = (
   worked allHeard refl tt tt refl,
   (

@@ -14,7 +14,7 @@ use borrow.Author.Tests.{eqb-false}
 use Rattle.frame.specs.declared.Settings.{Settings}
 use Rattle.frame.specs.Layout.{layouts, letterOf, downlink}
 use Rattle.frame.specs.Order.{timesOf, orderOf}
-use Rattle.frame.specs.Settings.{bundles, cellRefusal, modeRefusal, blocksRefusal, settingsRefusal, noWindowRefusal, windowRefusal}
+use Rattle.frame.specs.Settings.{bundles, cellRefusal, modeRefusal, blocksRefusal, laterRefusal, settingsRefusal, noWindowRefusal, windowRefusal}
 use Rattle.frame.specs.Table.{table, windowOf}
 use Rattle.resource.specs.declared.Cce.{Cce}
 use Rattle.resource.specs.declared.Mapped.{Mapped}
@@ -162,7 +162,7 @@ twoWindows =
     }
 
 pub not-first-only : Demand3 (fedBy firstOnly) → ⊥
-unfolding layouts letterOf downlink timesOf orderOf bundles cellRefusal modeRefusal blocksRefusal settingsRefusal noWindowRefusal windowRefusal table windowOf pairRefusal resourceOf edge regionOf resourceNumber stepOf seenFrom seenOf uplinkRefusal grantRefusal heardRefusal viewOf slotOf heardIn viewIn viewAgo replyOn expected missShown secondBit bundledAnswer windowAnswer answerOf dueOf pushed feedRefusal feedOf fresh makeOf slotSound allSound stateSound stateRefusal
+unfolding layouts letterOf downlink timesOf orderOf bundles cellRefusal modeRefusal blocksRefusal laterRefusal settingsRefusal noWindowRefusal windowRefusal table windowOf pairRefusal resourceOf edge regionOf resourceNumber stepOf seenFrom seenOf uplinkRefusal grantRefusal heardRefusal viewOf slotOf heardIn viewIn viewAgo replyOn expected missShown secondBit bundledAnswer windowAnswer answerOf dueOf pushed feedRefusal feedOf fresh makeOf slotSound allSound stateSound stateRefusal
 not-first-only d =
     let c = d .run (cell 0 0) refl (sending (twoWindows .sends)) (scheduled (cell 0 0) (twoWindows .sends) tt) (twoWindows .items)
     (brought (cell 0 0) (twoWindows .sends) (twoWindows .items) tt) in
@@ -175,7 +175,7 @@ abbrev pub oneForAll : Settings → ℕ → ℕ → ℕ → Mapped
 oneForAll s n m c = mapped.At (record { 0 = s .n1 })
 
 pub not-one-for-all : Demand3 (mappedBy oneForAll) → ⊥
-unfolding windowRefusal noWindowRefusal settingsRefusal cellRefusal modeRefusal blocksRefusal windowOf table
+unfolding windowRefusal noWindowRefusal settingsRefusal cellRefusal modeRefusal blocksRefusal laterRefusal windowOf table
 not-one-for-all d = omega (arith, d .oneToOne (cell 1 0) 2 refl .once 0 0 1 0 10 refl refl .0)
 
 -- A station that marks no position delivered.
@@ -234,7 +234,7 @@ raised-high (answer.Sent q) r e =
 raised-high (answer.Refused k) r e = let z : _≡_ {A = ℕ} 0 1 = cc in absurd (omega arith)
 
 pub not-both-raised : Demand3 bothRaised → ⊥
-unfolding timesOf table windowOf heardRefusal uplinkRefusal grantRefusal downlink letterOf layouts edge windowRefusal noWindowRefusal settingsRefusal cellRefusal modeRefusal blocksRefusal
+unfolding timesOf table windowOf heardRefusal uplinkRefusal grantRefusal downlink letterOf layouts edge windowRefusal noWindowRefusal settingsRefusal cellRefusal modeRefusal blocksRefusal laterRefusal
 not-both-raised d =
     let w = runs .0 in
     let h : Handset = makeOf (cell 1 0) .handset in

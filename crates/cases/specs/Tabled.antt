@@ -33,9 +33,9 @@ abbrev pub before : ℕ → ℕ → ℕ
 before n k = (n + 20 - k) % 10
 
 -- the position of a subframe in the window of n, from the table: the first m whose k_m leads to it
-abbrev pub positionIn : ℕ → ℕ → List ℕ → ℕ
-positionIn x n [] = zero
-positionIn x n (k ∷ ks) = cond (eqb (before n k) x) zero (suc (positionIn x n ks))
+abbrev pub subframePosition : ℕ → ℕ → List ℕ → ℕ
+subframePosition x n [] = zero
+subframePosition x n (k ∷ ks) = cond (eqb (before n k) x) zero (suc (subframePosition x n ks))
 
 abbrev pub at : ℕ → Mapped
 at r = mapped.At (record { 0 = r })
@@ -68,8 +68,8 @@ pub record Tabled : Type 0 where
   pub bandwidth6 : edges 6 ≡ 0 ∷ 1 ∷ 3 ∷ 5 ∷ 7 ∷ []
   pub bandwidth110 : edges 110 ≡ 0 ∷ 24 ∷ 61 ∷ 97 ∷ 134 ∷ []
   -- "Configuration 2, n = 7, N_RB 50, N1 10: subframe 3 (m = 2) with c 5 is 37."
-  pub position3 : positionIn 3 7 (windowOf 2 7) ≡ 2
-  pub subframe3 : resourceOf (cell 2) 7 (positionIn 3 7 (windowOf 2 7)) 5 ≡ at 37
+  pub position3 : subframePosition 3 7 (windowOf 2 7) ≡ 2
+  pub subframe3 : resourceOf (cell 2) 7 (subframePosition 3 7 (windowOf 2 7)) 5 ≡ at 37
   -- "There, in mode 0, DAI 1 heard in 9 and DAI 3 in 3: silent.", whatever blocks the two grants carry and however these decode,
   -- and whatever their first CCEs
   pub silent : (g g′ : Grant) → g .dai ≡ 1 → g′ .dai ≡ 3

@@ -12,42 +12,42 @@ use Rattle.resource.specs.Calls.{resourceSized}
 use Rattle.resource.proofs.Counts.{resources-least}
 use Rattle.resource.proofs.OneToOne.{resource-range}
 use Rattle.resource.proofs.Sized.{resource-told}
-use Rattle.claims.specs.declared.Cell.{Cell}
-use Rattle.claims.specs.Claims.{positionIn, cceIn, claimed, resourcesOf, isResource}
+use Rattle.claims.specs.declared.ClaimedWindow.{ClaimedWindow}
+use Rattle.claims.specs.Claims.{positionIn, cceIn, claimed, resourcesOf, roomOf, isResource}
 use Rattle.claims.specs.Marking.{Has, Accepted, Byte}
 use Rattle.claims.proofs.Share.{has-resource}
 
 -- what was asked for the claim, and answered
-module _ (cell : Cell) (known : Accepted cell) (claim c : ℕ) (a : Mapped) (cce : c ≡ claim % 256)
-    (asked : a ≡ resourceSized (cell .s) (cell .size) (claim / 256) c) where
-  answer : claimed (cell .s) (cell .n) claim ≡ a
+module _ (w : ClaimedWindow) (known : Accepted w) (claim c : ℕ) (a : Mapped) (cce : c ≡ claim % 256)
+    (asked : a ≡ resourceSized (w .s) (w .size) (claim / 256) c) where
+  answer : claimed (w .s) (w .n) claim ≡ a
   answer =
-      sym (resource-told (cell .s) (cell .n) _ refl (positionIn claim) (cceIn claim))
+      sym (resource-told (w .s) (w .n) _ refl (positionIn claim) (cceIn claim))
       ∙ rw (← known .positions, ← cce) (sym asked)
 
   module _ (x : Resource) (r : ℕ) (at : a ≡ mapped.At x) (number : r ≡ x .0) where
-    has : Has (cell .s) (cell .n) claim r
+    has : Has (w .s) (w .n) claim r
     has = rw number (answer ∙ at)
 
-    pub from-n1 : cell .s .n1 ≤ r
-    from-n1 = resource-range (cell .s) (cell .n) (known .accepted) (positionIn claim) (cceIn claim) r has .0
+    pub from-n1 : w .s .n1 ≤ r
+    from-n1 = resource-range (w .s) (w .n) (known .accepted) (positionIn claim) (cceIn claim) r has .0
 
-    pub byte-given : Byte (cell .s) (cell .n) claim (r - cell .s .n1)
-    unfolding resourcesOf
+    pub byte-given : Byte (w .s) (w .n) claim (r - w .s .n1)
+    unfolding roomOf resourcesOf
     byte-given =
-        let back : r ≡ r - cell .s .n1 + cell .s .n1 = omega (arith, from-n1) in
+        let back : r ≡ r - w .s .n1 + w .s .n1 = omega (arith, from-n1) in
         record {
-          below = omega (arith, from-n1, resource-range (cell .s) (cell .n) (known .accepted) (positionIn claim) (cceIn claim) r has .1);
+          below = omega (arith, from-n1, resource-range (w .s) (w .n) (known .accepted) (positionIn claim) (cceIn claim) r has .1);
           resource = λ good. rw back at has;
         }
 
-  pub byte-refused : (k : ℕ) → a ≡ mapped.Refused k → Byte (cell .s) (cell .n) claim 0
-  unfolding resourcesOf
+  pub byte-refused : (k : ℕ) → a ≡ mapped.Refused k → Byte (w .s) (w .n) claim 0
+  unfolding roomOf resourcesOf
   byte-refused k refused =
       record {
-        below = resources-least (cell .s) (cell .n) (known .accepted);
+        below = resources-least (w .s) (w .n) (known .accepted);
         resource = λ good.
-            let f = has-resource (cell .s) (cell .n) (known .accepted) claim good in
+            let f = has-resource (w .s) (w .n) (known .accepted) claim good in
             let z = ap (λ (a : Mapped). isResource a (f .0)) (sym (answer ∙ refused) ∙ f .1) in
             absurd (false≢true (z ∙ eq-eqb (f .0) (f .0) refl));
       }

@@ -7,32 +7,32 @@ use mathlib.Core.Logic.{_↔_, ⊎-elim}
 use mathlib.Core.Path.{_≡_, refl, sym}
 use native.Mathlib.Nat.{le-refl, le-of-suc-le-suc, eq-or-lt-of-le}
 use native.Mathlib.Omega.{arith}
-use lib.Dec.{ltb, eqb}
+use lib.Dec.{ltb}
 use lib.ListN.{length, getD}
-use borrow.Author.Tests.{le-ltb, ltb-false, eqb-false, ne-eqb}
+use borrow.Author.Tests.{le-ltb, ltb-false}
 use Rattle.frame.specs.declared.Settings.{Settings}
-use Rattle.claims.specs.declared.Verdict.the-variants.{Clean, Clash, Refused}
-use Rattle.claims.specs.Claims.{isBad, firstBad, earlier, firstClash, scratchRefusal, refusedOr, verdictOn, verdictOf}
+use Rattle.claims.specs.declared.Checked.the-variants.{Clean, Clash, Refused}
+use Rattle.claims.specs.Claims.{isBad, firstBad, clashes, earlier, firstClash, scratchRefusal, refusedOr, checkedOn, checkedOf}
 use Rattle.claims.specs.Clean.{AllClean}
 use Rattle.claims.proofs.First.{first-none, first-bad, first-clash}
+use Rattle.claims.proofs.Share.{no-clash-apart, apart-no-clash}
 
 -- Of two tests neither passes.
 neither : (a b : Bool) → (a || b) ≡ false → (a ≡ false) × (b ≡ false)
 neither false b e = (refl, e)
 neither true b e = absurd (false≢true (sym e))
 
--- `earlier` fails exactly where no claim before index e is x.
-module _ (claims : List ℕ) (x : ℕ) where
-  pub none-earlier : (e : ℕ) → earlier claims e x ≡ false → (i : ℕ) → i < e → getD claims i 0 ≡ x → ⊥
-  none-earlier zero h i b same = absurd (omega arith)
-  none-earlier (suc e) h i b same =
-      let f = neither (eqb (getD claims e 0) x) (earlier claims e x) h in
-      ⊎-elim (λ last. eqb-false (getD claims e 0) x (f .0) (rw last at same)) (λ less. none-earlier e (f .1) i less same)
-      (eq-or-lt-of-le (le-of-suc-le-suc b))
+-- `earlier` fails exactly where x clashes with no claim before index e.
+module _ (s : Settings) (n : ℕ) (claims : List ℕ) (x : ℕ) where
+  pub none-earlier : (e : ℕ) → earlier s n claims e x ≡ false → (i : ℕ) → i < e → clashes s n (getD claims i 0) x ≡ false
+  none-earlier zero h i b = absurd (omega arith)
+  none-earlier (suc e) h i b =
+      let f = neither (clashes s n (getD claims e 0) x) (earlier s n claims e x) h in
+      ⊎-elim (λ last. rw last (f .0)) (λ less. none-earlier e (f .1) i less) (eq-or-lt-of-le (le-of-suc-le-suc b))
 
-  pub earlier-none : (e : ℕ) → ((i : ℕ) → i < e → getD claims i 0 ≡ x → ⊥) → earlier claims e x ≡ false
+  pub earlier-none : (e : ℕ) → ((i : ℕ) → i < e → clashes s n (getD claims i 0) x ≡ false) → earlier s n claims e x ≡ false
   earlier-none zero h = refl
-  earlier-none (suc e) h = rw (ne-eqb (getD claims e 0) x (h e (omega arith))) (earlier-none e λ i b. h i (omega arith))
+  earlier-none (suc e) h = rw (h e (omega arith)) (earlier-none e λ i b. h i (omega arith))
 
 -- Only one way leads to a clean answer.
 only-clean : (k x y : ℕ) (a b : Bool) → refusedOr k (cond a (Refused 16 x) (cond b (Clash y) Clean)) ≡ Clean → (k ≡ 0) × (a ≡ false) × (b ≡ false)
@@ -41,29 +41,30 @@ only-clean zero x y true b e = let z : _≡_ {A = ℕ} 0 1 = cc in absurd (omega
 only-clean zero x y false true e = let z : _≡_ {A = ℕ} 0 1 = cc in absurd (omega arith)
 only-clean zero x y false false e = (refl, refl, refl)
 
-module _ (s : Settings) (n : ℕ) (claims : List ℕ) (room : ℕ) where
-  clean-to : verdictOf s n claims room ≡ Clean → AllClean s n claims room
-  unfolding verdictOf verdictOn
+module _ (s : Settings) (n : ℕ) (claims : List ℕ) (lent : ℕ) where
+  clean-to : checkedOf s n claims lent ≡ Clean → AllClean s n claims lent
+  unfolding checkedOf checkedOn
   clean-to e =
-      let f = only-clean (scratchRefusal s n room) (firstBad s n claims) (firstClash claims)
-      (ltb (firstBad s n claims) (length claims)) (ltb (firstClash claims) (length claims)) e in
+      let f = only-clean (scratchRefusal s n lent) (firstBad s n claims) (firstClash s n claims)
+      (ltb (firstBad s n claims) (length claims)) (ltb (firstClash s n claims) (length claims)) e in
       let bad = ltb-false (firstBad s n claims) (length claims) (f .1) in
-      let clash = ltb-false (firstClash claims) (length claims) (f .2) in
+      let clash = ltb-false (firstClash s n claims) (length claims) (f .2) in
       record {
         accepted = f .0;
         good = λ i h. first-bad s n claims .before i (omega arith) (omega arith);
         apart = λ i j h b.
-            none-earlier claims (getD claims j 0) j
-            (first-clash claims .before j (omega arith) (omega arith)) i h;
+            no-clash-apart s n (getD claims i 0) (getD claims j 0)
+            (none-earlier s n claims (getD claims j 0) j (first-clash s n claims .before j (omega arith) (omega arith)) i h);
       }
 
-  clean-from : AllClean s n claims room → verdictOf s n claims room ≡ Clean
-  unfolding verdictOf verdictOn firstBad firstClash
+  clean-from : AllClean s n claims lent → checkedOf s n claims lent ≡ Clean
+  unfolding checkedOf checkedOn firstBad firstClash
   clean-from a =
       let bad = first-none (λ (i : ℕ). isBad s n (getD claims i 0)) (length claims) (length claims) (a .good) (le-refl _) (le-refl _) in
-      let clash = first-none (λ (i : ℕ). earlier claims i (getD claims i 0)) (length claims) (length claims)
-      (λ j h. earlier-none claims (getD claims j 0) j λ i b. a .apart i j b h) (le-refl _) (le-refl _) in
-      rw (a .accepted, le-ltb (firstBad s n claims) (length claims) (omega arith), le-ltb (firstClash claims) (length claims) (omega arith))
+      let clash = first-none (λ (i : ℕ). earlier s n claims i (getD claims i 0)) (length claims) (length claims)
+      (λ j h. earlier-none s n claims (getD claims j 0) j λ i b. apart-no-clash s n (getD claims i 0) (getD claims j 0) (a .apart i j b h))
+      (le-refl _) (le-refl _) in
+      rw (a .accepted, le-ltb (firstBad s n claims) (length claims) (omega arith), le-ltb (firstClash s n claims) (length claims) (omega arith))
 
-  pub clean-exactly : (verdictOf s n claims room ≡ Clean) ↔ AllClean s n claims room
+  pub clean-exactly : (checkedOf s n claims lent ≡ Clean) ↔ AllClean s n claims lent
   clean-exactly = (clean-to, clean-from)

@@ -62,6 +62,7 @@ pub first-bad : (s : Settings) (n : ℕ) (claims : List ℕ)
 unfolding firstBad
 first-bad s n claims = first-index _ (length claims)
 
-pub first-clash : (claims : List ℕ) → First (λ (i : ℕ). earlier claims i (getD claims i 0)) 0 (length claims) (firstClash claims)
+pub first-clash : (s : Settings) (n : ℕ) (claims : List ℕ)
+    → First (λ (i : ℕ). earlier s n claims i (getD claims i 0)) 0 (length claims) (firstClash s n claims)
 unfolding firstClash
-first-clash claims = first-index _ (length claims)
+first-clash s n claims = first-index _ (length claims)

@@ -1,8 +1,8 @@
 pub mod Bytes
-pub mod Cells
+pub mod Checks
 pub mod Clean
 pub mod First
 pub mod Marks
+pub mod Read
 pub mod Share
 pub mod Turn
-pub mod Verdicts

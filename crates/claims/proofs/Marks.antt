@@ -13,7 +13,7 @@ use lib.Seq.{getD-set-same, getD-set-other, set-append-left, ext-getD}
 use borrow.Author.Tests.{eq-eqb, ne-eqb}
 use Rattle.frame.specs.declared.Settings.{Settings}
 use Rattle.frame.specs.Settings.{windowRefusal}
-use Rattle.claims.specs.Claims.{claimed, resourcesOf, isBad, earlier, isResource, marked, marks, markedUpTo}
+use Rattle.claims.specs.Claims.{claimed, roomOf, isBad, clashes, earlier, isResource, marked, marks, markedUpTo}
 use Rattle.claims.specs.Marking.{Has}
 use Rattle.claims.proofs.Share.{has-resource, same-claim}
 
@@ -53,26 +53,27 @@ module _ (s : Settings) (n : ℕ) (claims : List ℕ) where
           (getD-set-other (marks s n claims e count 0) t k 1 0 other ∙ marks-at e count k below)
 
   module _ (old : List ℕ) where
-    pub none-marked : markedUpTo s n claims old 0 ≡ replicate (resourcesOf s n) 0 ++ drop (resourcesOf s n) old
+    pub none-marked : markedUpTo s n claims old 0 ≡ replicate (roomOf s n) 0 ++ drop (roomOf s n) old
     unfolding markedUpTo
     none-marked = rw marks-none
 
-    pub byte-at : (e t : ℕ) → t < resourcesOf s n → getD (markedUpTo s n claims old e) t 0 ≡ cond (marked s n claims e t) 1 0
+    pub byte-at : (e t : ℕ) → t < roomOf s n → getD (markedUpTo s n claims old e) t 0 ≡ cond (marked s n claims e t) 1 0
     unfolding markedUpTo
     byte-at e t h =
-        let l = marks s n claims e (resourcesOf s n) 0 in
-        List·getD-append l _ 0 t (omega (arith, marks-length e (resourcesOf s n) 0)) ∙ marks-at e (resourcesOf s n) t h
+        let l = marks s n claims e (roomOf s n) 0 in
+        List·getD-append l _ 0 t (omega (arith, marks-length e (roomOf s n) 0)) ∙ marks-at e (roomOf s n) t h
 
-    pub byte-marked : (e t : ℕ) → t < resourcesOf s n → Has s n (getD claims e 0) (t + s .n1)
+    pub byte-marked : (e t : ℕ) → t < roomOf s n → Has s n (getD claims e 0) (t + s .n1)
         → set (markedUpTo s n claims old e) t 1 ≡ markedUpTo s n claims old (suc e)
     unfolding markedUpTo
     byte-marked e t h has =
-        let l = marks s n claims e (resourcesOf s n) 0 in
-        set-append-left l _ t 1 (omega (arith, marks-length e (resourcesOf s n) 0)) ∙ rw (marks-more e (resourcesOf s n) t h has)
+        let l = marks s n claims e (roomOf s n) 0 in
+        set-append-left l _ t 1 (omega (arith, marks-length e (roomOf s n) 0)) ∙ rw (marks-more e (roomOf s n) t h has)
 
   module _ (accepted : windowRefusal s n ≡ 0) (y t : ℕ) (has : Has s n y (t + s .n1)) where
-    -- A claim that is not bad has the resource of y exactly where it is y.
-    same-mark : (x : ℕ) → isBad s n x ≡ false → eqb x y ≡ isResource (claimed s n x) (t + s .n1)
+    -- A claim that is not bad clashes with y exactly where it has the resource of y.
+    same-mark : (x : ℕ) → isBad s n x ≡ false → clashes s n x y ≡ isResource (claimed s n x) (t + s .n1)
+    unfolding clashes
     same-mark x good = go (ℕ-discrete x y) (has-resource s n accepted x good)
       where
         go : Dec (x ≡ y) → (r : ℕ) × Has s n x r → eqb x y ≡ isResource (claimed s n x) (t + s .n1)
@@ -81,8 +82,8 @@ module _ (s : Settings) (n : ℕ) (claims : List ℕ) where
             rw (ne-eqb x y other, f .1)
             (sym (ne-eqb (f .0) (t + s .n1) λ e. other (same-claim s n accepted x y (t + s .n1) (rw e at (f .1)) has)))
 
-    -- y stands before index e exactly where its byte is marked there.
-    pub earlier-marked : (e : ℕ) → ((i : ℕ) → i < e → isBad s n (getD claims i 0) ≡ false) → earlier claims e y ≡ marked s n claims e t
+    -- y clashes with a claim before index e exactly where its byte is marked there.
+    pub earlier-marked : (e : ℕ) → ((i : ℕ) → i < e → isBad s n (getD claims i 0) ≡ false) → earlier s n claims e y ≡ marked s n claims e t
     earlier-marked zero good = refl
     earlier-marked (suc e) good =
         ap₂ _||_ (same-mark (getD claims e 0) (good e (omega arith))) (earlier-marked e λ i h. good i (omega arith))

@@ -1,4 +1,5 @@
--- Claims that are not bad: two of them are equal exactly when the resource call gives them the same resource.
+-- Two claims clash exactly when they are equal; two that are not bad are equal exactly when the resource call gives them the same
+-- resource.
 -- Assumes nothing.
 use Prim.Native.Nat.{ℕ, _<_}
 use mathlib.Core.Bool.{Bool, true, false, not, _&&_, false≢true}
@@ -6,14 +7,24 @@ use mathlib.Core.Logic.{_↔_}
 use mathlib.Core.Path.{_≡_, refl, sym}
 use native.Mathlib.Omega.{arith}
 use lib.Dec.{ltb}
-use borrow.Author.Tests.{ltb-true}
+use borrow.Author.Tests.{ltb-true, eqb-false, ne-eqb}
 use Rattle.frame.specs.declared.Settings.{Settings}
 use Rattle.frame.specs.Settings.{windowRefusal}
 use Rattle.resource.specs.Calls.{sizeOf}
 use Rattle.resource.specs.Formula.{edge}
 use Rattle.resource.proofs.OneToOne.{calls-one-to-one}
-use Rattle.claims.specs.Claims.{positionIn, cceIn, isBad}
+use Rattle.claims.specs.Claims.{positionIn, cceIn, isBad, clashes}
 use Rattle.claims.specs.Marking.{Has}
+
+-- Claims that do not clash are not equal, and the reverse.
+module _ (s : Settings) (n a b : ℕ) where
+  pub no-clash-apart : clashes s n a b ≡ false → a ≡ b → ⊥
+  unfolding clashes
+  no-clash-apart = eqb-false a b
+
+  pub apart-no-clash : (a ≡ b → ⊥) → clashes s n a b ≡ false
+  unfolding clashes
+  apart-no-clash = ne-eqb a b
 
 -- Two tests passed.
 both : (a b : Bool) → not (a && b) ≡ false → (a ≡ true) × (b ≡ true)

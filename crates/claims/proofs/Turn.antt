@@ -6,7 +6,7 @@ use mathlib.Core.List.{List}
 use mathlib.Core.Path.{_≡_, refl, sym, _∙_}
 use native.Mathlib.Omega.{arith}
 use lib.ListN.{length, getD, set}
-use Rattle.claims.specs.declared.Cell.{Cell}
+use Rattle.claims.specs.declared.ClaimedWindow.{ClaimedWindow}
 use Rattle.claims.specs.Claims.{isBad, earlier, markedUpTo}
 use Rattle.claims.specs.Marking.{Ready, Byte}
 use Rattle.claims.proofs.First.{first-bad}
@@ -20,26 +20,26 @@ clear-fails : (b : Bool) → _≡_ {A = ℕ} (cond b 1 0) 0 → b ≡ false
 clear-fails true h = absurd (omega arith)
 clear-fails false h = refl
 
-module _ (cell : Cell) (claims old : List ℕ) (e t : ℕ) (scratch : List ℕ) (ready : Ready cell claims old) (inside : e < length claims)
-    (byte : Byte (cell .s) (cell .n) (getD claims e 0) t) (marks : scratch ≡ markedUpTo (cell .s) (cell .n) claims old e) where
-  good : (i : ℕ) → i < length claims → isBad (cell .s) (cell .n) (getD claims i 0) ≡ false
-  good i h = first-bad (cell .s) (cell .n) claims .before i (omega arith) (omega (arith, ready .good))
+module _ (w : ClaimedWindow) (claims old : List ℕ) (e t : ℕ) (scratch : List ℕ) (ready : Ready w claims old) (inside : e < length claims)
+    (byte : Byte (w .s) (w .n) (getD claims e 0) t) (marks : scratch ≡ markedUpTo (w .s) (w .n) claims old e) where
+  good : (i : ℕ) → i < length claims → isBad (w .s) (w .n) (getD claims i 0) ≡ false
+  good i h = first-bad (w .s) (w .n) claims .before i (omega arith) (omega (arith, ready .good))
 
-  read : getD scratch t 0 ≡ cond (earlier claims e (getD claims e 0)) 1 0
+  read : getD scratch t 0 ≡ cond (earlier (w .s) (w .n) claims e (getD claims e 0)) 1 0
   read =
       rw (
         marks,
-        byte-at (cell .s) (cell .n) claims old e t (byte .below),
-        earlier-marked (cell .s) (cell .n) claims (ready .accepted .accepted) (getD claims e 0) t (byte .resource (good e inside)) e
+        byte-at (w .s) (w .n) claims old e t (byte .below),
+        earlier-marked (w .s) (w .n) claims (ready .accepted .accepted) (getD claims e 0) t (byte .resource (good e inside)) e
             λ i h. good i (omega arith),
       )
 
   -- A byte that is set is that of an earlier claim.
-  pub earlier-if-set : (getD scratch t 0 ≡ 0 → ⊥) → earlier claims e (getD claims e 0) ≡ true
+  pub earlier-if-set : (getD scratch t 0 ≡ 0 → ⊥) → earlier (w .s) (w .n) claims e (getD claims e 0) ≡ true
   earlier-if-set h = set-passes _ (rw read at h)
 
-  pub new-if-clear : getD scratch t 0 ≡ 0 → earlier claims e (getD claims e 0) ≡ false
+  pub new-if-clear : getD scratch t 0 ≡ 0 → earlier (w .s) (w .n) claims e (getD claims e 0) ≡ false
   new-if-clear h = clear-fails _ (sym read ∙ h)
 
-  pub one-more : set scratch t 1 ≡ markedUpTo (cell .s) (cell .n) claims old (suc e)
-  one-more = rw marks (byte-marked (cell .s) (cell .n) claims old e t (byte .below) (byte .resource (good e inside)))
+  pub one-more : set scratch t 1 ≡ markedUpTo (w .s) (w .n) claims old (suc e)
+  one-more = rw marks (byte-marked (w .s) (w .n) claims old e t (byte .below) (byte .resource (good e inside)))

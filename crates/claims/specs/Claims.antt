@@ -11,8 +11,8 @@ use Rattle.resource.specs.declared.Mapped.{Mapped}
 use Rattle.resource.specs.declared.Mapped.the-variants as mapped
 use Rattle.resource.specs.Calls.{sizeOf, resourceOf}
 use Rattle.resource.specs.Formula.{edge}
-use Rattle.claims.specs.declared.Verdict.{Verdict}
-use Rattle.claims.specs.declared.Verdict.the-variants.{Clean, Clash, Refused}
+use Rattle.claims.specs.declared.Checked.{Checked}
+use Rattle.claims.specs.declared.Checked.the-variants.{Clean, Clash, Refused}
 
 -- A claim is m × 256 + first CCE.
 abbrev pub positionIn : ℕ → ℕ
@@ -25,9 +25,13 @@ cceIn claim = claim % 256
 abbrev pub claimed : Settings → ℕ → ℕ → Mapped
 claimed s n claim = resourceOf s n (positionIn claim) (cceIn claim)
 
--- M × N_4, the number of resources of the window: the scratch that is asked for.
+-- M × N_4, the number of resources of the window.
 unfoldable pub resourcesOf : Settings → ℕ → ℕ
 resourcesOf s n = sizeOf s n * edge (s .nrb) 4
+
+-- The scratch that is asked for: a byte for each resource of the window.
+unfoldable pub roomOf : Settings → ℕ → ℕ
+roomOf s n = resourcesOf s n
 
 -- 16: m not below M or CCE not below N_4.
 unfoldable pub isBad : Settings → ℕ → ℕ → Bool
@@ -42,34 +46,38 @@ firstIndex test (suc count) i = cond (test i) i (firstIndex test count (suc i))
 unfoldable pub firstBad : Settings → ℕ → List ℕ → ℕ
 firstBad s n claims = firstIndex (λ (i : ℕ). isBad s n (getD claims i 0)) (length claims) 0
 
--- The claim stands in the list before index i.
-abbrev pub earlier : List ℕ → ℕ → ℕ → Bool
-earlier claims zero claim = false
-earlier claims (suc i) claim = eqb (getD claims i 0) claim || earlier claims i claim
+-- Two claims clash: the later one is "equal to an earlier one".
+unfoldable pub clashes : Settings → ℕ → ℕ → ℕ → Bool
+clashes s n a b = eqb a b
 
--- The first claim equal to an earlier one; the length of the list where there is none.
-unfoldable pub firstClash : List ℕ → ℕ
-firstClash claims = firstIndex (λ (i : ℕ). earlier claims i (getD claims i 0)) (length claims) 0
+-- The claim clashes with one that stands in the list before index i.
+abbrev pub earlier : Settings → ℕ → List ℕ → ℕ → ℕ → Bool
+earlier s n claims zero claim = false
+earlier s n claims (suc i) claim = clashes s n (getD claims i 0) claim || earlier s n claims i claim
 
--- 15: scratch shorter than M × N_4. A call refuses 1 to 7, then 15.
+-- The first claim that clashes with an earlier one; the length of the list where there is none.
+unfoldable pub firstClash : Settings → ℕ → List ℕ → ℕ
+firstClash s n claims = firstIndex (λ (i : ℕ). earlier s n claims i (getD claims i 0)) (length claims) 0
+
+-- 15: scratch shorter than M × N_4. A call refuses 1 to 7, then 15. `lent` is the length of the scratch.
 unfoldable pub scratchRefusal : Settings → ℕ → ℕ → ℕ
-scratchRefusal s n room = orElse (windowRefusal s n) (cond (ltb room (resourcesOf s n)) 15 0)
+scratchRefusal s n lent = orElse (windowRefusal s n) (cond (ltb lent (roomOf s n)) 15 0)
 
 -- 01's answer of a list that is not refused for settings, subframe or scratch: 16 for a bad claim anywhere, with the first one's
--- index; else the index of the first claim equal to an earlier one; else clean.
-unfoldable pub verdictOn : Settings → ℕ → List ℕ → Verdict
-verdictOn s n claims =
+-- index; else the index of the first claim that clashes with an earlier one; else clean.
+unfoldable pub checkedOn : Settings → ℕ → List ℕ → Checked
+checkedOn s n claims =
     cond (ltb (firstBad s n claims) (length claims)) (Refused 16 (firstBad s n claims))
-    (cond (ltb (firstClash claims) (length claims)) (Clash (firstClash claims))
+    (cond (ltb (firstClash s n claims) (length claims)) (Clash (firstClash s n claims))
     Clean)
 
-abbrev pub refusedOr : ℕ → Verdict → Verdict
-refusedOr zero verdict = verdict
-refusedOr (suc k) verdict = Refused (suc k) 0
+abbrev pub refusedOr : ℕ → Checked → Checked
+refusedOr zero checked = checked
+refusedOr (suc k) checked = Refused (suc k) 0
 
--- The answer to a list of claims with a scratch of `room` bytes.
-unfoldable pub verdictOf : Settings → ℕ → List ℕ → ℕ → Verdict
-verdictOf s n claims room = refusedOr (scratchRefusal s n room) (verdictOn s n claims)
+-- The answer to a list of claims with a scratch of `lent` bytes.
+unfoldable pub checkedOf : Settings → ℕ → List ℕ → ℕ → Checked
+checkedOf s n claims lent = refusedOr (scratchRefusal s n lent) (checkedOn s n claims)
 
 -- The answer is the resource with number r.
 abbrev pub isResource : Mapped → ℕ → Bool
@@ -88,17 +96,17 @@ marks s n claims e (suc count) t = cond (marked s n claims e t) 1 0 ∷ marks s 
 
 -- The scratch with the marks of the claims before index e; bytes from M × N_4 on keep their values.
 unfoldable pub markedUpTo : Settings → ℕ → List ℕ → List ℕ → ℕ → List ℕ
-markedUpTo s n claims old e = marks s n claims e (resourcesOf s n) 0 ++ drop (resourcesOf s n) old
+markedUpTo s n claims old e = marks s n claims e (roomOf s n) 0 ++ drop (roomOf s n) old
 
 -- The scratch with the marks of the claims before the clash, of all where there is none.
 unfoldable pub markedScratch : Settings → ℕ → List ℕ → List ℕ → List ℕ
-markedScratch s n claims old = markedUpTo s n claims old (firstClash claims)
+markedScratch s n claims old = markedUpTo s n claims old (firstClash s n claims)
 
 -- The scratch after the call: as it was on a refusal, 16 included.
-abbrev pub scratchAfter : Verdict → List ℕ → List ℕ → List ℕ
+abbrev pub scratchAfter : Checked → List ℕ → List ℕ → List ℕ
 scratchAfter Clean new old = new
 scratchAfter (Clash i) new old = new
 scratchAfter (Refused k i) new old = old
 
 unfoldable pub scratchOf : Settings → ℕ → List ℕ → List ℕ → List ℕ
-scratchOf s n claims old = scratchAfter (verdictOf s n claims (length old)) (markedScratch s n claims old) old
+scratchOf s n claims old = scratchAfter (checkedOf s n claims (length old)) (markedScratch s n claims old) old

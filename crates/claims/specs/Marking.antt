@@ -10,27 +10,27 @@ use Rattle.frame.specs.Settings.{windowRefusal}
 use Rattle.resource.specs.declared.Mapped.the-variants as mapped
 use Rattle.resource.specs.Calls.{sizeOf}
 use Rattle.resource.specs.Formula.{edge}
-use Rattle.claims.specs.declared.Cell.{Cell}
-use Rattle.claims.specs.Claims.{claimed, resourcesOf, isBad, firstBad, markedUpTo}
+use Rattle.claims.specs.declared.ClaimedWindow.{ClaimedWindow}
+use Rattle.claims.specs.Claims.{claimed, roomOf, isBad, firstBad, markedUpTo}
 
 -- The resource call gives the claim the resource r.
 abbrev pub Has : Settings → ℕ → ℕ → ℕ → Type 0
 Has s n claim r = claimed s n claim ≡ mapped.At (record { 0 = r })
 
 -- 1 to 7 are not met, and the numbers are M and N_4.
-pub record Accepted (cell : Cell) : Type 0 where
-  pub accepted : windowRefusal (cell .s) (cell .n) ≡ 0
-  pub positions : cell .size ≡ sizeOf (cell .s) (cell .n)
-  pub cces : cell .top ≡ edge (cell .s .nrb) 4
+pub record Accepted (w : ClaimedWindow) : Type 0 where
+  pub accepted : windowRefusal (w .s) (w .n) ≡ 0
+  pub positions : w .size ≡ sizeOf (w .s) (w .n)
+  pub cces : w .top ≡ edge (w .s .nrb) 4
 
 -- No claim is bad either, and the scratch is long enough and cleared.
-pub record Ready (cell : Cell) (claims scratch : List ℕ) : Type 0 where
-  pub accepted : Accepted cell
-  pub good : length claims ≤ firstBad (cell .s) (cell .n) claims
-  pub room : resourcesOf (cell .s) (cell .n) ≤ length scratch
-  pub cleared : scratch ≡ markedUpTo (cell .s) (cell .n) claims scratch 0
+pub record Ready (w : ClaimedWindow) (claims scratch : List ℕ) : Type 0 where
+  pub accepted : Accepted w
+  pub good : length claims ≤ firstBad (w .s) (w .n) claims
+  pub room : roomOf (w .s) (w .n) ≤ length scratch
+  pub cleared : scratch ≡ markedUpTo (w .s) (w .n) claims scratch 0
 
 -- Byte t of a claim: below M × N_4 whatever the claim; t + N1 is the resource of a claim that is not bad.
 pub record Byte (s : Settings) (n claim t : ℕ) : Type 0 where
-  pub below : t < resourcesOf s n
+  pub below : t < roomOf s n
   pub resource : isBad s n claim ≡ false → Has s n claim (t + s .n1)

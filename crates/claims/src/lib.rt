@@ -4,19 +4,19 @@ use resource::Cce;
 use resource::Mapped;
 ghost use mathlib.Core.Path.{_≡_};
 ghost use lib.ListN.{length, replicate};
-ghost use Rattle.claims.specs.Claims.{isBad, firstBad, firstClash, markedUpTo, verdictOf, scratchOf};
+ghost use Rattle.claims.specs.Claims.{isBad, firstBad, firstClash, markedUpTo, checkedOf, scratchOf};
 ghost use Rattle.claims.specs.Marking.{Accepted, Ready, Byte};
 
 // The answer: clean; the index of the first claim equal to an earlier one; or a refusal's number with an index, that of the first
 // bad claim for 16, else 0.
-pub enum Verdict {
+pub enum Checked {
     Clean,
     Clash(usize),
     Refused(u16, usize),
 }
 
-// A cell in uplink subframe n: its settings, M and N_4.
-struct Cell {
+// The window that the claims are for: the settings, the uplink subframe n, M and N_4.
+struct ClaimedWindow {
     s: Settings,
     n: u16,
     size: u16,
@@ -25,40 +25,40 @@ struct Cell {
 
 // The answer to the claims of uplink subframe n. Unless it is a refusal, the scratch then holds the marks of the claims before
 // the clash, of all claims where there is none.
-pub fn claims_of(s: Settings, n: u16, claims: &[u16], scratch: &mut [u8]) -> Verdict
-    ensures { λ r. ⌜ r ≡ verdictOf s n (now (claims .entry)) (length (now (scratch .entry))) ⌝ }
+pub fn claims_of(s: Settings, n: u16, claims: &[u16], scratch: &mut [u8]) -> Checked
+    ensures { λ r. ⌜ r ≡ checkedOf s n (now (claims .entry)) (length (now (scratch .entry))) ⌝ }
     ensures { λ _. ⌜ now (scratch .exit) ≡ scratchOf s n (now (claims .entry)) (now (scratch .entry)) ⌝ }
 {
     let refusal = frame::window_refusal(s, n);
     if refusal != 0 {
-        return Verdict::Refused(refusal, 0);
+        return Checked::Refused(refusal, 0);
     }
     let size = frame::size_of(s.config, n);
     let top = resource::cces_of(s.nrb);
     let room = (size * top) as usize;
     if scratch.len() < room {
-        return Verdict::Refused(15, 0);
+        return Checked::Refused(15, 0);
     }
-    let cell = Cell { s, n, size, top };
-    let bad = first_bad(cell, claims);
+    let w = ClaimedWindow { s, n, size, top };
+    let bad = first_bad(w, claims);
     if bad < claims.len() {
-        return Verdict::Refused(16, bad);
+        return Checked::Refused(16, bad);
     }
     clear(&mut scratch[..room]);
-    let clash = mark(cell, claims, scratch);
+    let clash = mark(w, claims, scratch);
     if clash < claims.len() {
-        return Verdict::Clash(clash);
+        return Checked::Clash(clash);
     }
-    Verdict::Clean
+    Checked::Clean
 }
 
 // 16: m not below M or CCE not below N_4.
-fn is_bad(cell: Cell, claim: u16) -> bool
-    requires { ⌜ Accepted cell ⌝ }
-    ensures { λ r. ⌜ r ≡ isBad (cell .s) (cell .n) claim ⌝ }
+fn is_bad(w: ClaimedWindow, claim: u16) -> bool
+    requires { ⌜ Accepted w ⌝ }
+    ensures { λ r. ⌜ r ≡ isBad (w .s) (w .n) claim ⌝ }
 {
-    if claim / 256 < cell.size {
-        if claim % 256 < cell.top {
+    if claim / 256 < w.size {
+        if claim % 256 < w.top {
             return false;
         }
     }
@@ -66,13 +66,13 @@ fn is_bad(cell: Cell, claim: u16) -> bool
 }
 
 // The first bad claim; the length of the list where none is bad.
-fn first_bad(cell: Cell, claims: &[u16]) -> usize
-    requires { ⌜ Accepted cell ⌝ }
-    ensures { λ r. ⌜ r ≡ firstBad (cell .s) (cell .n) (now (claims .entry)) ⌝ }
+fn first_bad(w: ClaimedWindow, claims: &[u16]) -> usize
+    requires { ⌜ Accepted w ⌝ }
+    ensures { λ r. ⌜ r ≡ firstBad (w .s) (w .n) (now (claims .entry)) ⌝ }
 {
     let mut i = 0;
     while i < claims.len() {
-        if is_bad(cell, claims[i]) {
+        if is_bad(w, claims[i]) {
             return i;
         }
         i += 1;
@@ -92,12 +92,12 @@ fn clear(bytes: &mut [u8])
 }
 
 // The byte of a claim, its resource less N1; 0 for a claim without a resource, so that no claim has a byte past the room.
-fn byte_of(cell: Cell, claim: u16) -> usize
-    requires { ⌜ Accepted cell ⌝ }
-    ensures { λ t. ⌜ Byte (cell .s) (cell .n) claim t ⌝ }
+fn byte_of(w: ClaimedWindow, claim: u16) -> usize
+    requires { ⌜ Accepted w ⌝ }
+    ensures { λ t. ⌜ Byte (w .s) (w .n) claim t ⌝ }
 {
-    let s = cell.s;
-    let answer = resource::resource_sized(s, cell.size, claim / 256, Cce::new(claim % 256));
+    let s = w.s;
+    let answer = resource::resource_sized(s, w.size, claim / 256, Cce::new(claim % 256));
     match answer {
         Mapped::At(r) => (r.number() - s.n1) as usize,
         Mapped::Refused(_) => 0,
@@ -106,15 +106,15 @@ fn byte_of(cell: Cell, claim: u16) -> usize
 
 // Marks the claims in a cleared scratch up to the first clash, and answers its index; the length of the list where there is none.
 // Each claim is read once.
-fn mark(cell: Cell, claims: &[u16], scratch: &mut [u8]) -> usize
-    requires { ⌜ Ready cell (now claims) (now scratch) ⌝ }
-    ensures { λ r. ⌜ r ≡ firstClash (now (claims .entry)) ⌝ }
-    ensures { λ r. ⌜ now (scratch .exit) ≡ markedUpTo (cell .s) (cell .n) (now (claims .entry)) (now (scratch .entry)) r ⌝ }
+fn mark(w: ClaimedWindow, claims: &[u16], scratch: &mut [u8]) -> usize
+    requires { ⌜ Ready w (now claims) (now scratch) ⌝ }
+    ensures { λ r. ⌜ r ≡ firstClash (w .s) (w .n) (now (claims .entry)) ⌝ }
+    ensures { λ r. ⌜ now (scratch .exit) ≡ markedUpTo (w .s) (w .n) (now (claims .entry)) (now (scratch .entry)) r ⌝ }
 {
     let mut i = 0;
     while i < claims.len() {
         let claim = claims[i];
-        let t = byte_of(cell, claim);
+        let t = byte_of(w, claim);
         if scratch[t] != 0 {
             return i;
         }

@@ -7,23 +7,23 @@ use mathlib.Core.Path.{_≡_, refl, sym, ap}
 use lib.Dec.{ltb, eqb·suc-zero}
 use lib.ListN.{length}
 use Rattle.frame.specs.declared.Settings.{Settings}
-use Rattle.claims.specs.declared.Verdict.{Verdict}
-use Rattle.claims.specs.Claims.{firstBad, firstClash, scratchRefusal, verdictOn, refusedOr, verdictOf}
+use Rattle.claims.specs.declared.Checked.{Checked}
+use Rattle.claims.specs.Claims.{firstBad, firstClash, scratchRefusal, checkedOn, refusedOr, checkedOf}
 use Rattle.feedback.specs.Answers.{claimsAnswer}
 use Rattle.feedback.specs.Back.{checkedIn, KindTells}
 use Rattle.feedback.specs.Kinds.{claimsRefused}
 use Rattle.feedback.proofs.Chosen.{either}
 
 -- An answer about claims comes back from its numbers, and its kind says whether it is refused.
-abbrev pub CheckedKept : Verdict → Type 0
+abbrev pub CheckedKept : Checked → Type 0
 CheckedKept x = (checkedIn (claimsAnswer x) ≡ x) × KindTells claimsRefused (claimsAnswer x .kind) (claimsAnswer x .refusal)
 
-refused-or-kept : (k : ℕ) (x : Verdict) → CheckedKept x → CheckedKept (refusedOr k x)
+refused-or-kept : (k : ℕ) (x : Checked) → CheckedKept x → CheckedKept (refusedOr k x)
 refused-or-kept zero x kept = kept
 refused-or-kept (suc k) x kept = (refl, sym (ap not (eqb·suc-zero k)))
 
-pub claims-kept : (s : Settings) (n : ℕ) (list : List ℕ) (room : ℕ) → CheckedKept (verdictOf s n list room)
-unfolding verdictOf verdictOn
+pub claims-kept : (s : Settings) (n : ℕ) (list : List ℕ) (room : ℕ) → CheckedKept (checkedOf s n list room)
+unfolding checkedOf checkedOn
 claims-kept s n list room =
     refused-or-kept (scratchRefusal s n room) _
     (either CheckedKept (ltb (firstBad s n list) (length list)) _ _ (refl, refl)

@@ -9,8 +9,8 @@ use Rattle.resource.specs.declared.Inverted.{Inverted}
 use Rattle.resource.specs.declared.Inverted.the-variants as inverted
 use Rattle.station.specs.declared.Reading.{Reading}
 use Rattle.station.specs.declared.Reading.the-variants as reading
-use Rattle.claims.specs.declared.Verdict.{Verdict}
-use Rattle.claims.specs.declared.Verdict.the-variants as verdict
+use Rattle.claims.specs.declared.Checked.{Checked}
+use Rattle.claims.specs.declared.Checked.the-variants as checked
 use Rattle.reply.specs.declared.Answer.{Answer}
 use Rattle.reply.specs.declared.Answer.the-variants as answer
 use Rattle.heard.specs.declared.Heard.{Heard}
@@ -40,10 +40,10 @@ readingAnswer (reading.Multiplexed m c positions) =
 readingAnswer (reading.Refused k) =
     record { refusal = k; kind = kindRefused; position = 0; cce = 0; b0 = 0; b1 = 0; delivered = 0 }
 
-abbrev pub claimsAnswer : Verdict → ClaimsAnswer
-claimsAnswer verdict.Clean = record { kind = claimsClean; refusal = 0; index = 0 }
-claimsAnswer (verdict.Clash i) = record { kind = claimsClash; refusal = 0; index = i }
-claimsAnswer (verdict.Refused k i) = record { kind = claimsRefused; refusal = k; index = i }
+abbrev pub claimsAnswer : Checked → ClaimsAnswer
+claimsAnswer checked.Clean = record { kind = claimsClean; refusal = 0; index = 0 }
+claimsAnswer (checked.Clash i) = record { kind = claimsClash; refusal = 0; index = i }
+claimsAnswer (checked.Refused k i) = record { kind = claimsRefused; refusal = k; index = i }
 
 abbrev pub noReply : ℕ → ℕ → Handset → FedAnswer
 noReply refusal kind h = record { refusal = refusal; kind = kind; resource = 0; b0 = 0; b1 = 0; handset = h }

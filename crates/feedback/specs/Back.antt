@@ -13,9 +13,9 @@ use Rattle.resource.specs.Calls.{mappedAs, invertedAs, resourceOf, inverseOf}
 use Rattle.station.specs.declared.Reading.{Reading}
 use Rattle.station.specs.declared.Reading.the-variants as reading
 use Rattle.station.specs.Readings.{readOf}
-use Rattle.claims.specs.declared.Verdict.{Verdict}
-use Rattle.claims.specs.declared.Verdict.the-variants as verdict
-use Rattle.claims.specs.Claims.{verdictOf}
+use Rattle.claims.specs.declared.Checked.{Checked}
+use Rattle.claims.specs.declared.Checked.the-variants as checked
+use Rattle.claims.specs.Claims.{checkedOf}
 use Rattle.reply.specs.declared.Answer.{Answer}
 use Rattle.reply.specs.declared.Answer.the-variants as answer
 use Rattle.heard.specs.declared.Heard.{Heard}
@@ -47,12 +47,12 @@ readingIn a =
     (cond (eqb (a .kind) kindBundled) (reading.Bundled (a .position) (record { 0 = a .cce }) (a .b0) (a .b1))
     (reading.Multiplexed (a .position) (record { 0 = a .cce }) (a .delivered)))
 
-abbrev pub checkedAs : ℕ → ℕ → Verdict → Verdict
+abbrev pub checkedAs : ℕ → ℕ → Checked → Checked
 checkedAs zero index told = told
-checkedAs (suc k) index told = verdict.Refused (suc k) index
+checkedAs (suc k) index told = checked.Refused (suc k) index
 
-abbrev pub checkedIn : ClaimsAnswer → Verdict
-checkedIn a = checkedAs (a .refusal) (a .index) (cond (eqb (a .kind) claimsClash) (verdict.Clash (a .index)) verdict.Clean)
+abbrev pub checkedIn : ClaimsAnswer → Checked
+checkedIn a = checkedAs (a .refusal) (a .index) (cond (eqb (a .kind) claimsClash) (checked.Clash (a .index)) checked.Clean)
 
 abbrev pub answerAs : ℕ → Answer → Answer
 answerAs zero told = told
@@ -76,7 +76,7 @@ pub record NothingLost : Type 0 where
   pub inverse : (s : Settings) (n r : ℕ) → invertedIn (inverseAnswer (inverseOf s n r)) ≡ inverseOf s n r
   pub reading : (s : Settings) (n r b0 b1 : ℕ) → readingIn (readingAnswer (readOf s n r b0 b1)) ≡ readOf s n r b0 b1
   pub claims : (s : Settings) (n : ℕ) (list : List ℕ) (room : ℕ)
-      → checkedIn (claimsAnswer (verdictOf s n list room)) ≡ verdictOf s n list room
+      → checkedIn (claimsAnswer (checkedOf s n list room)) ≡ checkedOf s n list room
   pub feed : (h : Handset) (x : Heard) → fedIn (fedAnswer (feedOf h x)) ≡ feedOf h x
 
 -- So no two answers of a call look alike from C: where their numbers are equal, the answers are.
@@ -88,7 +88,7 @@ pub record ToldApart : Type 0 where
   pub inverse : (s t : Settings) (n r n' r' : ℕ) → Apart inverseAnswer (inverseOf s n r) (inverseOf t n' r')
   pub reading : (s t : Settings) (n r b0 b1 n' r' c0 c1 : ℕ) → Apart readingAnswer (readOf s n r b0 b1) (readOf t n' r' c0 c1)
   pub claims : (s t : Settings) (n n' : ℕ) (list list' : List ℕ) (room room' : ℕ)
-      → Apart claimsAnswer (verdictOf s n list room) (verdictOf t n' list' room')
+      → Apart claimsAnswer (checkedOf s n list room) (checkedOf t n' list' room')
   pub feed : (h i : Handset) (x y : Heard) → Apart fedAnswer (feedOf h x) (feedOf i y)
 
 -- Where an answer has a kind, it is the refused one exactly where the refusal is not 0: a caller may look at either.
@@ -99,5 +99,5 @@ pub record RefusedByKind : Type 0 where
   pub reading : (s : Settings) (n r b0 b1 : ℕ)
       → KindTells kindRefused (readingAnswer (readOf s n r b0 b1) .kind) (readingAnswer (readOf s n r b0 b1) .refusal)
   pub claims : (s : Settings) (n : ℕ) (list : List ℕ) (room : ℕ)
-      → KindTells claimsRefused (claimsAnswer (verdictOf s n list room) .kind) (claimsAnswer (verdictOf s n list room) .refusal)
+      → KindTells claimsRefused (claimsAnswer (checkedOf s n list room) .kind) (claimsAnswer (checkedOf s n list room) .refusal)
   pub feed : (h : Handset) (x : Heard) → KindTells kindRefused (fedAnswer (feedOf h x) .kind) (fedAnswer (feedOf h x) .refusal)

@@ -1,6 +1,6 @@
 // The engine's C interface: one static library, libfeedback.a, with the header include/feedback.h. The papers' numbers are sixteen
 // bits wide. An answer is a struct of numbers: the refusal, 0 for none, and the values, which are 0 where they say nothing.
-use claims::Verdict;
+use claims::Checked;
 use frame::Settings;
 use handset::Fed;
 use handset::Handset;
@@ -16,7 +16,7 @@ use station::Reading;
 ghost use mathlib.Core.Path.{_≡_};
 ghost use Rattle.resource.specs.Calls.{resourceOf, inverseOf};
 ghost use Rattle.station.specs.Readings.{readOf};
-ghost use Rattle.claims.specs.Claims.{verdictOf, scratchOf};
+ghost use Rattle.claims.specs.Claims.{checkedOf, scratchOf};
 ghost use lib.ListN.{length};
 ghost use Rattle.feedback.specs.Answers.{resourceAnswer, inverseAnswer, readingAnswer, claimsAnswer, noReply, answerNumbers, fedAnswer, grantOf};
 ghost use Rattle.handset.specs.Feed.{feedOf};
@@ -135,21 +135,21 @@ fn reading_numbers(x: Reading) -> ReadingAnswer
     }
 }
 
-fn claims_numbers(x: Verdict) -> ClaimsAnswer
+fn claims_numbers(x: Checked) -> ClaimsAnswer
     ensures { λ r. ⌜ r ≡ claimsAnswer x ⌝ }
 {
     match x {
-        Verdict::Clean => ClaimsAnswer {
+        Checked::Clean => ClaimsAnswer {
             kind: 0,
             refusal: 0,
             index: 0,
         },
-        Verdict::Clash(i) => ClaimsAnswer {
+        Checked::Clash(i) => ClaimsAnswer {
             kind: 1,
             refusal: 0,
             index: i as u64,
         },
-        Verdict::Refused(k, i) => ClaimsAnswer {
+        Checked::Refused(k, i) => ClaimsAnswer {
             kind: 2,
             refusal: k,
             index: i as u64,
@@ -239,7 +239,7 @@ pub extern "C" fn feedback_claims(
     claims: &[u16],
     scratch: &mut [u8],
 ) -> ClaimsAnswer
-    ensures { λ r. ⌜ r ≡ claimsAnswer (verdictOf settings n (now (claims .entry)) (length (now (scratch .entry)))) ⌝ }
+    ensures { λ r. ⌜ r ≡ claimsAnswer (checkedOf settings n (now (claims .entry)) (length (now (scratch .entry)))) ⌝ }
     ensures { λ _. ⌜ now (scratch .exit) ≡ scratchOf settings n (now (claims .entry)) (now (scratch .entry)) ⌝ }
 {
     claims_numbers(claims::claims_of(settings, n, claims, scratch))

@@ -9,7 +9,7 @@ use lib.Dec.{ltb, eqb}
 use lib.ListN.{length}
 use borrow.Author.Tests.{ltb-false, eq-eqb, ne-eqb, le-ltb, eqb-false}
 use Rattle.frame.specs.declared.Settings.{Settings}
-use Rattle.frame.specs.Settings.{orElse, outside, cellRefusal, modeRefusal, blocksRefusal, settingsRefusal, noWindowRefusal, windowRefusal}
+use Rattle.frame.specs.Settings.{orElse, outside, cellRefusal, modeRefusal, blocksRefusal, laterRefusal, settingsRefusal, noWindowRefusal, windowRefusal}
 use Rattle.frame.specs.Table.{windowOf}
 
 pub record Accepted (s : Settings) : Type 0 where
@@ -53,14 +53,15 @@ not-five m c e em ec =
 pub accepted : (s : Settings) → settingsRefusal s ≡ 0 → Accepted s
 unfolding settingsRefusal cellRefusal modeRefusal blocksRefusal
 accepted s e =
-    let a = neither (cellRefusal s) (orElse (modeRefusal s) (blocksRefusal s)) e in
-    let b = neither (modeRefusal s) (blocksRefusal s) (a .1) in
+    let a = neither (cellRefusal s) (orElse (modeRefusal s) (orElse (blocksRefusal s) (laterRefusal s))) e in
+    let b = neither (modeRefusal s) (orElse (blocksRefusal s) (laterRefusal s)) (a .1) in
+    let d = neither (blocksRefusal s) (laterRefusal s) (b .1) in
     let config = unmet (ltb 6 (s .config)) 0 (cond (outside 6 110 (s .nrb)) 2 (cond (ltb 2047 (s .n1)) 3 0)) (a .0) in
     let nrb = unmet (outside 6 110 (s .nrb)) 1 (cond (ltb 2047 (s .n1)) 3 0) (config .1) in
     let n1 = unmet (ltb 2047 (s .n1)) 2 0 (nrb .1) in
     let mode = unmet (ltb 1 (s .mode)) 3 (cond (eqb (s .mode) 1 && eqb (s .config) 5) 5 0) (b .0) in
     let five = unmet (eqb (s .mode) 1 && eqb (s .config) 5) 4 0 (mode .1) in
-    let blocks = unmet (outside 1 2 (s .blocks)) 5 0 (b .1) in
+    let blocks = unmet (outside 1 2 (s .blocks)) 5 0 (d .0) in
     record {
       config = ltb-false 6 (s .config) (config .0);
       nrbLeast = between 6 110 (s .nrb) (nrb .0) .0;
@@ -76,7 +77,7 @@ five-unmet : (m c : ℕ) → (m ≡ 1 → c ≡ 5 → ⊥) → (eqb m 1 && eqb c
 five-unmet m c h = elim (ℕ-discrete m 1) [ yes e ↦ rw (eq-eqb m 1 e, ne-eqb c 5 (h e)) | no e ↦ rw (ne-eqb m 1 e) ]
 
 pub accepting : (s : Settings) → Accepted s → settingsRefusal s ≡ 0
-unfolding settingsRefusal cellRefusal modeRefusal blocksRefusal
+unfolding settingsRefusal cellRefusal modeRefusal blocksRefusal laterRefusal
 accepting s a =
     rw (
       le-ltb 6 (s .config) (a .config),

@@ -17,9 +17,11 @@ padded zero l = []
 padded (suc n) [] = 0 ∷ padded n []
 padded (suc n) (x ∷ xs) = x ∷ padded n xs
 
-abbrev pub codedRow : List ℕ → Row
-codedRow ks = record { 0 = length ks; 1 = padded 9 ks }
+-- M and K of a window
+abbrev pub codedK : List ℕ → Row
+codedK ks = record { 0 = length ks; 1 = padded 9 ks }
 
+-- the time order of a window
 abbrev pub codedOrder : List ℕ → Order
 codedOrder ks = record { 0 = padded 9 (orderOf ks) }
 
@@ -32,22 +34,23 @@ abbrev pub digits : ℕ → (ℕ → ℕ) → ℕ
 digits zero f = 0
 digits (suc n) f = f 0 + 16 * digits n (λ (i : ℕ). f (suc i))
 
-abbrev pub five : ℕ → ℕ → ℕ → ℕ → ℕ → ℕ
-five a b c d e = a + 16 * b + 256 * c + 4096 * d + 65536 * e
+-- the number with these five digits, the first one lowest
+abbrev pub fiveDigits : ℕ → ℕ → ℕ → ℕ → ℕ → ℕ
+fiveDigits a b c d e = a + 16 * b + 256 * c + 4096 * d + 65536 * e
 
 -- digit n, counted from the lowest, which is 0
 abbrev pub digitAt : ℕ → ℕ → ℕ
 digitAt x n = x / 2 ^ (4 * n) % 16
 
 -- the low four bits of the letters' bytes, 68, 83 and 85
-abbrev pub digitOf : Letter → ℕ
-digitOf D = 4
-digitOf S = 3
-digitOf U = 5
+abbrev pub letterDigit : Letter → ℕ
+letterDigit D = 4
+letterDigit S = 3
+letterDigit U = 5
 
 -- the letters of a configuration's ten subframes
 unfoldable pub layoutDigits : ℕ → ℕ
-layoutDigits c = digits 10 (λ (n : ℕ). digitOf (letterOf c n))
+layoutDigits c = digits 10 (λ (n : ℕ). letterDigit (letterOf c n))
 
 -- M of a configuration's ten subframes
 unfoldable pub sizeDigits : ℕ → ℕ

@@ -28,9 +28,13 @@ modeRefusal s = cond (ltb 1 (s .mode)) 4 (cond (eqb (s .mode) 1 && eqb (s .confi
 unfoldable pub blocksRefusal : Settings → ℕ
 blocksRefusal s = cond (outside 1 2 (s .blocks)) 6 0
 
--- Refusals 1 to 6, lowest number first; 0 if the settings are accepted.
+-- What later papers add to the settings ("A later paper may add settings"): nothing yet.
+unfoldable pub laterRefusal : Settings → ℕ
+laterRefusal s = 0
+
+-- Refusals 1 to 6, lowest number first, then those of later papers; 0 if the settings are accepted.
 unfoldable pub settingsRefusal : Settings → ℕ
-settingsRefusal s = orElse (cellRefusal s) (orElse (modeRefusal s) (blocksRefusal s))
+settingsRefusal s = orElse (cellRefusal s) (orElse (modeRefusal s) (orElse (blocksRefusal s) (laterRefusal s)))
 
 -- 7: subframe over 9 or without a window, that is M = 0.
 unfoldable pub noWindowRefusal : ℕ → ℕ

@@ -2,7 +2,7 @@
 use crate::Settings;
 use crate::table::size_of;
 ghost use mathlib.Core.Path.{_≡_};
-ghost use Rattle.frame.specs.Settings.{orElse, cellRefusal, modeRefusal, blocksRefusal, settingsRefusal, windowRefusal, bundles};
+ghost use Rattle.frame.specs.Settings.{cellRefusal, modeRefusal, blocksRefusal, laterRefusal, settingsRefusal, windowRefusal, bundles};
 
 // The cell: 1 to 3.
 fn cell_refusal(s: Settings) -> u16
@@ -23,9 +23,9 @@ fn cell_refusal(s: Settings) -> u16
     0
 }
 
-// The mode and the blocks: 4 to 6.
+// The mode: 4 and 5.
 fn mode_refusal(s: Settings) -> u16
-    ensures { λ r. ⌜ r ≡ orElse (modeRefusal s) (blocksRefusal s) ⌝ }
+    ensures { λ r. ⌜ r ≡ modeRefusal s ⌝ }
 {
     if 1 < s.mode {
         return 4;
@@ -35,6 +35,13 @@ fn mode_refusal(s: Settings) -> u16
             return 5;
         }
     }
+    0
+}
+
+// The blocks: 6.
+fn blocks_refusal(s: Settings) -> u16
+    ensures { λ r. ⌜ r ≡ blocksRefusal s ⌝ }
+{
     if s.blocks < 1 {
         return 6;
     }
@@ -44,7 +51,14 @@ fn mode_refusal(s: Settings) -> u16
     0
 }
 
-// The first of refusals 1 to 6 that the settings meet; 0 if they are accepted.
+// What later papers add to the settings: no refusal yet.
+fn later_refusal(s: Settings) -> u16
+    ensures { λ r. ⌜ r ≡ laterRefusal s ⌝ }
+{
+    0
+}
+
+// The first refusal that the settings meet, 1 to 6 and then those of later papers; 0 if they are accepted.
 pub fn settings_refusal(s: Settings) -> u16
     ensures { λ r. ⌜ r ≡ settingsRefusal s ⌝ }
 {
@@ -52,7 +66,15 @@ pub fn settings_refusal(s: Settings) -> u16
     if cell != 0 {
         return cell;
     }
-    mode_refusal(s)
+    let mode = mode_refusal(s);
+    if mode != 0 {
+        return mode;
+    }
+    let blocks = blocks_refusal(s);
+    if blocks != 0 {
+        return blocks;
+    }
+    later_refusal(s)
 }
 
 // The first of refusals 1 to 7 that settings and uplink subframe n meet; 0 if n has a window.

@@ -4,7 +4,7 @@ use crate::digits::digit_at;
 use crate::digits::packed;
 ghost use mathlib.Core.Path.{_≡_};
 ghost use lib.ListN.{length};
-ghost use Rattle.frame.specs.Coded.{layoutDigits, sizeDigits, codedRow, codedOrder, codedWindow};
+ghost use Rattle.frame.specs.Coded.{layoutDigits, sizeDigits, codedK, codedOrder, codedWindow};
 ghost use Rattle.frame.specs.Layout.{downlink};
 ghost use Rattle.frame.specs.Table.{windowOf};
 
@@ -35,7 +35,7 @@ fn layout_of(config: u16) -> u64
 
 // The row of configuration and uplink subframe n; zeros where the table has none.
 fn row_of(config: u16, n: u16) -> Row
-    ensures { λ r. ⌜ r ≡ codedRow (windowOf config n) ⌝ }
+    ensures { λ r. ⌜ r ≡ codedK (windowOf config n) ⌝ }
 {
     match config {
         0 => match n {

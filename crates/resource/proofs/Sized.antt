@@ -12,7 +12,7 @@ use Rattle.frame.proofs.Windows.{window-size}
 use Rattle.resource.specs.declared.Mapped.the-variants as mapped
 use Rattle.resource.specs.declared.Inverted.the-variants as inverted
 use Rattle.resource.specs.Calls.{mappedAs, invertedAs, pairRefusal, rangeRefusal, resourceIn, inverseIn, sizeOf, resourceOf, resourceSized, inverseOf, inverseSized}
-use Rattle.resource.specs.Cell.{Cell}
+use Rattle.resource.specs.Bounds.{Bounds}
 
 -- A refusal that is met comes before the next one.
 mapped-first : (k w next r : ℕ) → k ≡ w → (k ≡ 0 → ⊥) → mapped.Refused k ≡ mappedAs (orElse w next) r
@@ -44,8 +44,8 @@ module _ (s : Settings) (size : ℕ) where
     size-refused-back r out = rw (sym asked ∙ none, out)
 
     module _ (least : 1 ≤ size) (most : size ≤ 9) where
-      pub sized-cell : Cell (s .nrb) (s .n1) size
-      sized-cell =
+      pub sized-bounds : Bounds (s .nrb) (s .n1) size
+      sized-bounds =
           let a = accepted s (sym asked ∙ none) in
           record { nrbMost = a .nrbMost; n1Most = a .n1; sizeLeast = least; sizeMost = most }
 
@@ -105,8 +105,8 @@ module _ (s : Settings) (n size : ℕ) (read : size ≡ sizeOf s n) where
       most : size ≤ 9
       most = rw read (window-size (s .config) n)
 
-      pub window-cell : Cell (s .nrb) (s .n1) size
-      window-cell = sized-cell s size k asked none least most
+      pub window-bounds : Bounds (s .nrb) (s .n1) size
+      window-bounds = sized-bounds s size k asked none least most
 
       pub window-answered : (m c : ℕ) → resourceIn (s .nrb) (s .n1) size m c ≡ resourceOf s n m c
       window-answered m c = sized-answered s size k asked none least most m c ∙ resource-told m c

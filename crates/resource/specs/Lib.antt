@@ -1,5 +1,5 @@
+pub mod Bounds
 pub mod Calls
-pub mod Cell
 pub mod Formula
 pub mod OneToOne
 pub mod Search

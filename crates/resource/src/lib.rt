@@ -5,7 +5,7 @@ ghost use Prim.Native.Nat.{_≤_};
 ghost use lib.Dec.{ltb};
 ghost use Rattle.resource.specs.Formula.{edge};
 ghost use Rattle.resource.specs.Calls.{ccesOf, resourceIn, inverseIn, resourceOf, resourceSized, inverseOf, inverseSized};
-ghost use Rattle.resource.specs.Cell.{Cell};
+ghost use Rattle.resource.specs.Bounds.{Bounds};
 ghost use Rattle.resource.specs.Search.{Searched};
 
 // The number of a grant's first CCE. CCEs and PUCCH resources are counted apart: only the map and its
@@ -186,7 +186,7 @@ pub fn is_cce(nrb: u16, c: Cce) -> bool
 
 // The formula, in a window of `size` positions: resource = (M − m − 1) × N_p + m × N_(p+1) + c + N1.
 fn resource_in(s: Settings, size: u16, m: u16, cce: Cce) -> Mapped
-    requires { ⌜ Cell (s .nrb) (s .n1) size ⌝ }
+    requires { ⌜ Bounds (s .nrb) (s .n1) size ⌝ }
     ensures { λ r. ⌜ r ≡ resourceIn (s .nrb) (s .n1) size m (cce .0) ⌝ }
 {
     let c = cce.0;
@@ -204,7 +204,7 @@ fn resource_in(s: Settings, size: u16, m: u16, cce: Cce) -> Mapped
 
 // The formula back. With t = resource − N1, the region is that of t / M; each position has as many resources there as the region has CCEs.
 fn inverse_in(s: Settings, size: u16, resource: Resource) -> Inverted
-    requires { ⌜ Cell (s .nrb) (s .n1) size ⌝ }
+    requires { ⌜ Bounds (s .nrb) (s .n1) size ⌝ }
     ensures { λ r. ⌜ r ≡ inverseIn (s .nrb) (s .n1) size (resource .0) ⌝ }
 {
     let r = resource.0;

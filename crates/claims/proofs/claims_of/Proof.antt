@@ -4,8 +4,8 @@ use native.Mathlib.Omega.{arith}
 use lib.Seq.{length-take-le}
 use borrow.Author.Needs.{needs}
 use Rattle.claims.specs.Marking.{Accepted}
-use Rattle.claims.proofs.Cells.{cell-read, room-most}
-use Rattle.claims.proofs.Verdicts.{refused, short, bad, ready, clash, clean}
+use Rattle.claims.proofs.Read.{window-read, room-most}
+use Rattle.claims.proofs.Checks.{refused, short, bad, ready, clash, clean}
 use Rattle.claims.proofs.claims_of.Statement.{statement}
 use Rattle.claims.proofs.claims_of.Tie as tie
 
@@ -21,30 +21,30 @@ size-of-requires c κs = search needs
 cces-of-requires : tie.Need-cces-of-requires
 cces-of-requires c κs = search needs
 
--- the cell that was read
-cell : (c : tie.After-cces-of) →
+-- the window that was read
+window : (c : tie.After-cces-of) →
     let a = c .before .before .before .before .before .before .args in
     Accepted (record { s = a .s; n = a .n; size = c .before .size-of .result; top = c .cces-of .result })
-cell c =
+window c =
     let a = c .before .before in
-    cell-read _ _ _ _ _ (a .before .window-refusal .ensures) (a .if1 .left) (c .before .size-of .ensures) (c .cces-of .ensures)
+    window-read _ _ _ _ _ (a .before .window-refusal .ensures) (a .if1 .left) (c .before .size-of .ensures) (c .cces-of .ensures)
 
 mul-room : tie.Need-mul-room
-mul-room c = omega (arith, room-most _ (cell c))
+mul-room c = omega (arith, room-most _ (window c))
 
 cast-room : tie.Need-cast-room
-cast-room c = omega (arith, room-most _ (cell c))
+cast-room c = omega (arith, room-most _ (window c))
 
 returns-2 : tie.Need-returns-2
-returns-2 c = short _ _ _ _ _ _ (cell (c .before)) (c .if2 .taken)
+returns-2 c = short _ _ _ _ _ _ (window (c .before)) (c .if2 .taken)
 
 first-bad-requires : tie.Need-first-bad-requires
-first-bad-requires c κs = cell (c .before)
+first-bad-requires c κs = window (c .before)
 
 returns-3 : tie.Need-returns-3
 returns-3 c =
     let a = c .before .before in
-    bad _ _ _ _ _ _ (cell (a .before)) (a .if2 .left) _ (c .before .first-bad .ensures) (c .if3 .taken)
+    bad _ _ _ _ _ _ (window (a .before)) (a .if2 .left) _ (c .before .first-bad .ensures) (c .if3 .taken)
 
 slice-relend-prefix-clear : tie.Need-slice-relend-prefix-clear
 slice-relend-prefix-clear c = search needs
@@ -60,7 +60,7 @@ mark-requires c κs =
     let k = c .before .before .before in
     let e = k .before .before in
     let a = e .before .before in
-    ready _ _ _ _ _ _ (cell (a .before)) (a .if2 .left) _ (e .before .first-bad .ensures) (e .if3 .left) _ (k .clear .ensures)
+    ready _ _ _ _ _ _ (window (a .before)) (a .if2 .left) _ (e .before .first-bad .ensures) (e .if3 .left) _ (k .clear .ensures)
 
 same-length : tie.Need-same-length
 same-length c = search needs
@@ -71,7 +71,7 @@ returns-4 c =
     let k = m .before .before .before .before in
     let e = k .before .before in
     let a = e .before .before in
-    clash _ _ _ _ _ _ (cell (a .before)) (a .if2 .left) _ (e .before .first-bad .ensures) (e .if3 .left) _ (k .clear .ensures)
+    clash _ _ _ _ _ _ (window (a .before)) (a .if2 .left) _ (e .before .first-bad .ensures) (e .if3 .left) _ (k .clear .ensures)
     _ (m .mark .ensures .0) _ (m .mark .ensures .1) (c .if4 .taken)
 
 same-length-2 : tie.Need-same-length-2
@@ -83,7 +83,7 @@ returns-5 c =
     let k = m .before .before .before .before in
     let e = k .before .before in
     let a = e .before .before in
-    clean _ _ _ _ _ _ (cell (a .before)) (a .if2 .left) _ (e .before .first-bad .ensures) (e .if3 .left) _ (k .clear .ensures)
+    clean _ _ _ _ _ _ (window (a .before)) (a .if2 .left) _ (e .before .first-bad .ensures) (e .if3 .left) _ (k .clear .ensures)
     _ (m .mark .ensures .0) _ (m .mark .ensures .1) (c .if4 .left)
 
 pub claims-of-spec : {M : Type 1} → statement M

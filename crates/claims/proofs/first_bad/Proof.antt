@@ -13,11 +13,11 @@ use Rattle.claims.proofs.first_bad.Statement.{statement}
 use Rattle.claims.proofs.first_bad.Tie as tie
 
 abbrev Inv-loop : tie.InvT-loop
-Inv-loop cell claims i₀ i =
-    (i ≤ length claims) × ((k : ℕ) → k < i → isBad (cell .s) (cell .n) (getD claims k 0) ≡ false)
+Inv-loop w claims i₀ i =
+    (i ≤ length claims) × ((k : ℕ) → k < i → isBad (w .s) (w .n) (getD claims k 0) ≡ false)
 
 abbrev μ-loop : tie.MeasureT-loop
-μ-loop cell claims i₀ i = length claims - i
+μ-loop w claims i₀ i = length claims - i
 
 loop-holds : tie.Need-loop-holds Inv-loop μ-loop
 loop-holds c = (omega arith, λ k h. absurd (omega arith))

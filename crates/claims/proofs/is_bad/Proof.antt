@@ -1,7 +1,7 @@
 -- `claims::is_bad` meets its contract: each return follows from the tests before it. Assumes nothing.
 use borrow.Author.Needs.{needs}
 use Rattle.frame.proofs.Causes.{decided}
-use Rattle.claims.proofs.Cells.{bad-read}
+use Rattle.claims.proofs.Read.{bad-read}
 use Rattle.claims.proofs.is_bad.Statement.{statement}
 use Rattle.claims.proofs.is_bad.Tie as tie
 

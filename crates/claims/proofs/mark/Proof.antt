@@ -1,4 +1,4 @@
--- `claims::mark` meets its contract. The loop's invariant: no claim before i equals an earlier one, and the scratch has the marks
+-- `claims::mark` meets its contract. The loop's invariant: no claim before i clashes with an earlier one, and the scratch has the marks
 -- of the claims before i. The measure is the claims left. Assumes nothing.
 use Prim.Native.Nat.{ℕ, _-_, _≤_, _<_}
 use mathlib.Core.Bool.{false}
@@ -15,14 +15,14 @@ use Rattle.claims.proofs.mark.Statement.{statement}
 use Rattle.claims.proofs.mark.Tie as tie
 
 abbrev Inv-loop : tie.InvT-loop
-Inv-loop cell claims scratch₀ i₀ scratch i =
+Inv-loop w claims scratch₀ i₀ scratch i =
     (i ≤ length claims)
-    × ((k : ℕ) → k < i → earlier claims k (getD claims k 0) ≡ false)
+    × ((k : ℕ) → k < i → earlier (w .s) (w .n) claims k (getD claims k 0) ≡ false)
     × (length scratch ≡ length scratch₀)
-    × (scratch ≡ markedUpTo (cell .s) (cell .n) claims scratch₀ i)
+    × (scratch ≡ markedUpTo (w .s) (w .n) claims scratch₀ i)
 
 abbrev μ-loop : tie.MeasureT-loop
-μ-loop cell claims scratch₀ i₀ scratch i = length claims - i
+μ-loop w claims scratch₀ i₀ scratch i = length claims - i
 
 loop-holds : tie.Need-loop-holds Inv-loop μ-loop
 loop-holds c = (omega arith, λ k h. absurd (omega arith), refl, c .before .before .pre .cleared)

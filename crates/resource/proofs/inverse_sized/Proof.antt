@@ -2,7 +2,7 @@
 use mathlib.Core.Path.{_∙_}
 use borrow.Author.Needs.{needs}
 use Rattle.frame.proofs.Causes.{decided}
-use Rattle.resource.proofs.Sized.{settings-refused-back, size-refused-back, sized-cell, sized-answered-back}
+use Rattle.resource.proofs.Sized.{settings-refused-back, size-refused-back, sized-bounds, sized-answered-back}
 use Rattle.resource.proofs.inverse_sized.Statement.{statement}
 use Rattle.resource.proofs.inverse_sized.Tie as tie
 
@@ -23,7 +23,7 @@ returns-3 c =
 
 inverse-in-requires : tie.Need-inverse-in-requires
 inverse-in-requires c κs =
-    sized-cell _ _ _ (c .before .before .before .settings-refusal .ensures) (c .before .before .if1 .left)
+    sized-bounds _ _ _ (c .before .before .before .settings-refusal .ensures) (c .before .before .if1 .left)
     (c .before .if2 .left) (c .if3 .left)
 
 returns-4 : tie.Need-returns-4

@@ -1,7 +1,7 @@
 -- `resource::resource_of` meets its contract: 1 to 6 and 7 first, then the answer in a window of that size. Assumes nothing.
 use mathlib.Core.Path.{refl, _∙_}
 use borrow.Author.Needs.{needs}
-use Rattle.resource.proofs.Sized.{settings-refused, window-refused, window-cell, window-answered, resource-told}
+use Rattle.resource.proofs.Sized.{settings-refused, window-refused, window-bounds, window-answered, resource-told}
 use Rattle.resource.proofs.resource_of.Statement.{statement}
 use Rattle.resource.proofs.resource_of.Tie as tie
 
@@ -24,7 +24,7 @@ resource-in-requires : tie.Need-resource-in-requires
 resource-in-requires c κs =
     let size = c .before in
     let settings = size .before in
-    window-cell _ _ _ (size .size-of .ensures) _ (settings .before .settings-refusal .ensures) (settings .if1 .left) (c .if2 .left)
+    window-bounds _ _ _ (size .size-of .ensures) _ (settings .before .settings-refusal .ensures) (settings .if1 .left) (c .if2 .left)
 
 returns-3 : tie.Need-returns-3
 returns-3 c =

@@ -2,7 +2,7 @@
 use mathlib.Core.Path.{_∙_}
 use borrow.Author.Needs.{needs}
 use Rattle.frame.proofs.Causes.{decided}
-use Rattle.resource.proofs.Sized.{settings-refused, size-refused, sized-cell, sized-answered}
+use Rattle.resource.proofs.Sized.{settings-refused, size-refused, sized-bounds, sized-answered}
 use Rattle.resource.proofs.resource_sized.Statement.{statement}
 use Rattle.resource.proofs.resource_sized.Tie as tie
 
@@ -23,7 +23,7 @@ returns-3 c =
 
 resource-in-requires : tie.Need-resource-in-requires
 resource-in-requires c κs =
-    sized-cell _ _ _ (c .before .before .before .settings-refusal .ensures) (c .before .before .if1 .left)
+    sized-bounds _ _ _ (c .before .before .before .settings-refusal .ensures) (c .before .before .if1 .left)
     (c .before .if2 .left) (c .if3 .left)
 
 returns-4 : tie.Need-returns-4

@@ -6,11 +6,11 @@ use borrow.Author.Needs.{needs}
 use Rattle.frame.specs.declared.Window.{Window}
 use Rattle.frame.specs.declared.table.Order.{Order}
 use Rattle.frame.specs.declared.table.Row.{Row}
-use Rattle.frame.specs.Coded.{codedRow, codedOrder, codedWindow}
+use Rattle.frame.specs.Coded.{codedK, codedOrder, codedWindow}
 use Rattle.frame.proofs.table.window_of.Statement.{statement}
 use Rattle.frame.proofs.table.window_of.Tie as tie
 
-made : (ks : List ℕ) (r : Row) (o : Order) → r ≡ codedRow ks → o ≡ codedOrder ks
+made : (ks : List ℕ) (r : Row) (o : Order) → r ≡ codedK ks → o ≡ codedOrder ks
     → _≡_ {A = Window} (record { size = r .0; k = r .1; order = o .0 }) (codedWindow ks)
 made ks r o row order = rw (row, order)
 

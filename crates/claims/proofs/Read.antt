@@ -8,25 +8,25 @@ use Rattle.frame.specs.declared.Settings.{Settings}
 use Rattle.frame.specs.Settings.{windowRefusal}
 use Rattle.resource.specs.Calls.{ccesOf, sizeOf}
 use Rattle.resource.proofs.Counts.{cces-answered, resources-most}
-use Rattle.claims.specs.declared.Cell.{Cell}
-use Rattle.claims.specs.Claims.{resourcesOf, isBad}
+use Rattle.claims.specs.declared.ClaimedWindow.{ClaimedWindow}
+use Rattle.claims.specs.Claims.{resourcesOf, roomOf, isBad}
 use Rattle.claims.specs.Marking.{Accepted}
 
 -- What was read before the claims are M and N_4.
-pub cell-read : (s : Settings) (n k top : ℕ) (size : ℕ) → k ≡ windowRefusal s n → k ≡ 0 → size ≡ sizeOf s n
+pub window-read : (s : Settings) (n k top : ℕ) (size : ℕ) → k ≡ windowRefusal s n → k ≡ 0 → size ≡ sizeOf s n
     → top ≡ ccesOf (s .nrb) → Accepted (record { s = s; n = n; size = size; top = top })
-cell-read s n k top w asked none ew et =
+window-read s n k top size asked none ew et =
     let accepted = sym asked ∙ none in
     record { accepted = accepted; positions = ew; cces = et ∙ cces-answered s n accepted }
 
-module _ (cell : Cell) (known : Accepted cell) where
-  pub room : cell .size * cell .top ≡ resourcesOf (cell .s) (cell .n)
-  unfolding resourcesOf
+module _ (w : ClaimedWindow) (known : Accepted w) where
+  pub room : w .size * w .top ≡ roomOf (w .s) (w .n)
+  unfolding roomOf resourcesOf
   room = rw (known .positions, known .cces)
 
-  pub bad-read : (claim : ℕ) → isBad (cell .s) (cell .n) claim ≡ not (ltb (claim / 256) (cell .size) && ltb (claim % 256) (cell .top))
+  pub bad-read : (claim : ℕ) → isBad (w .s) (w .n) claim ≡ not (ltb (claim / 256) (w .size) && ltb (claim % 256) (w .top))
   unfolding isBad
   bad-read claim = rw (known .positions, known .cces)
 
-  pub room-most : cell .size * cell .top ≤ 1206
-  room-most = rw (known .positions, known .cces) (resources-most (cell .s) (cell .n) (known .accepted))
+  pub room-most : w .size * w .top ≤ 1206
+  room-most = rw (known .positions, known .cces) (resources-most (w .s) (w .n) (known .accepted))

@@ -2,7 +2,7 @@
 -- Assumes nothing.
 use Prim.Native.Nat.{ℕ, _≤_}
 
-pub record Cell (nrb n1 size : ℕ) : Type 0 where
+pub record Bounds (nrb n1 size : ℕ) : Type 0 where
   pub nrbMost : nrb ≤ 110
   pub n1Most : n1 ≤ 2047
   pub sizeLeast : 1 ≤ size
