@@ -3,7 +3,7 @@
 -- ACK holds only for grants that were received (confirmation/proofs/Received.antt), and it says that each decoded its block.
 -- Assumes nothing.
 use Prim.Native.Nat.{ℕ, zero, suc, _-_, _/_, _%_, _^_, _<_, _≤_, suc-le-suc}
-use mathlib.Core.Bool.{Bool, true, false, cond, not, _&&_, _||_, false≢true}
+use mathlib.Core.Bool.{Bool, true, false, cond, _&&_, _||_, false≢true}
 use mathlib.Core.List.{List, [], _∷_, map}
 use mathlib.Core.Logic.{_⊎_, inl, inr, ⊎-elim}
 use mathlib.Core.Path.{_≡_, refl, sym, ap, _∙_}

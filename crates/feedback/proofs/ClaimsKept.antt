@@ -27,4 +27,4 @@ unfolding checkedOf checkedOn
 claims-kept s n list room =
     refused-or-kept (scratchRefusal s n room) _
     (either CheckedKept (ltb (firstBad s n list) (length list)) _ _ (refl, refl)
-    (either CheckedKept (ltb (firstClash list) (length list)) _ _ (refl, refl) (refl, refl)))
+    (either CheckedKept (ltb (firstClash s n list) (length list)) _ _ (refl, refl) (refl, refl)))

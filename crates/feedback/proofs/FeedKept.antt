@@ -27,7 +27,7 @@ use Rattle.heard.specs.Memory.{bit, viewAgo}
 use Rattle.reply.specs.Replies.{replyOn, missShown, secondBit, cceOf, windowState, bundledAnswer, symbolAnswer, multiplexedAnswer, windowAnswer}
 use Rattle.handset.specs.declared.Fed.{Fed}
 use Rattle.handset.specs.declared.Handset.{Handset}
-use Rattle.handset.specs.Feed.{answerOf, dueOf, pushed, feedRefusal, fedAs, feedOf}
+use Rattle.handset.specs.Feed.{answerOf, nextAnswer, pushed, feedRefusal, fedAs, feedOf}
 use Rattle.feedback.specs.Answers.{fedAnswer}
 use Rattle.feedback.specs.Back.{fedIn, KindTells}
 use Rattle.feedback.specs.Kinds.{kindRefused, kindBundled, kindMultiplexed}
@@ -69,7 +69,7 @@ answer-kept s n view =
     (either AnswerKept (bundles s (length ks)) _ _ (bundled-kept s n (seenOf view ks)) (symbol-kept s n view ks (symbolOf (windowState view ks)))))
 
 fed-as-kept : (k : ℕ) (h : Handset) (x : Heard) → FedKept (fedAs k h x)
-unfolding dueOf
+unfolding nextAnswer
 fed-as-kept zero h x = answer-kept (h .settings) (h .next) (viewAgo (h .past)) (pushed h x)
 fed-as-kept (suc k) h x = (refl, sym (ap not (eqb·suc-zero k)))
 

@@ -1,5 +1,6 @@
 pub mod Counts
 pub mod Edges
+pub mod Forms
 pub mod Layers
 pub mod OneToOne
 pub mod Refused
