@@ -1,17 +1,19 @@
 -- Runs that meet the hypotheses of demand 3, each with every answer and with the station's reading of every reply: the claim is
 -- about something. N_RB 50, N1 10. The numbers were found from document 01 by hand and by another program.
 -- Assumes nothing.
-use Prim.Native.Nat.{ℕ, suc, zero, _+_, _%_}
+use Prim.Native.Nat.{ℕ, suc, zero, _+_, _%_, _<_}
 use mathlib.Core.Bool.{Bool, true, false}
 use mathlib.Core.List.{List, [], _∷_}
-use mathlib.Core.Path.{_≡_, refl}
+use mathlib.Core.Path.{_≡_, refl, ap}
 use lib.Dec.{T}
+use lib.ListN.{length, getD}
 use Rattle.frame.specs.declared.Settings.{Settings}
 use Rattle.frame.specs.Settings.{settingsRefusal}
 use Rattle.confirmation.specs.declared.Send.{Send}
 use Rattle.confirmation.specs.declared.Send.the-variants as send
 use Rattle.heard.specs.declared.Heard.{Heard}
 use Rattle.heard.specs.declared.Heard.the-variants.{Nothing, Granted}
+use Rattle.heard.specs.Heard.{heardRefusal}
 use Rattle.reply.specs.declared.Answer.{Answer}
 use Rattle.reply.specs.declared.Answer.the-variants as answer
 use Rattle.handset.specs.declared.Fed.{Fed}
@@ -21,9 +23,9 @@ use Rattle.handset.specs.Make.{makeOf}
 use Rattle.station.specs.declared.Reading.{Reading}
 use Rattle.station.specs.declared.Reading.the-variants as reading
 use Rattle.station.specs.Readings.{readOf}
-use Rattle.agreement.specs.Demand3.{feedbackEngine, handsetAt}
-use Rattle.agreement.specs.Run.{Item, feed, Schedule, BringsSent}
-use Rattle.agreement.proofs.Computing.{schedules, handsets, stations}
+use Rattle.agreement.specs.Demand3.{feedbackEngine, handsetAt, IsSubframe}
+use Rattle.agreement.specs.Run.{Item, feed, itemAt, subframeAt, Schedule, BringsSent}
+use Rattle.agreement.proofs.Computing.{handsets, stations}
 use Rattle.agreement.proofs.Finite.{sending, scheduleTest, feedsTest, scheduled, brought}
 
 -- a cell of one block, and one of two
@@ -107,6 +109,19 @@ worked r good s b e f =
       answered = e;
       read = f;
     }
+
+-- In a worked run: what our handset answers to item i, and what our station reads from the j-th reply.
+pub answer-at : (r : Run) → Worked r → (i : ℕ) → getD (answersOf feedOf (makeOf (r .set) .handset) (r .items)) i answer.Silent ≡ getD (r .answers) i answer.Silent
+answer-at r w i = ap (λ (l : List Answer). getD l i answer.Silent) (w .answered)
+
+pub reading-at : (r : Run) → Worked r → (j : ℕ) → getD (readingsFrom (r .set) 0 (r .answers)) j (reading.Refused 0) ≡ getD (r .readings) j (reading.Refused 0)
+reading-at r w j = ap (λ (l : List Reading). getD l j (reading.Refused 0)) (w .read)
+
+-- Item s is the run's subframe s, fed with nothing.
+pub fed-nothing : (r : Run) (s : ℕ) → s < length (r .items) → itemAt (r .items) s ≡ feed Nothing → subframeAt (r .set) (r .items) s ≡ s
+    → IsSubframe (r .set) (r .items) s s Nothing
+unfolding heardRefusal
+fed-nothing r s inside brings counted = record { isFeed = record { inside = inside; brings = brings }; accepted = refl; counted = counted }
 
 -- Bundled.
 

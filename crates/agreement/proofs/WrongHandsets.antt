@@ -2,15 +2,14 @@
 -- Assumes nothing.
 use Prim.Native.Nat.{ℕ, _+_, _-_}
 use mathlib.Core.Bool.{true, false, cond, false≢true}
-use mathlib.Core.List.{List, [], _∷_, reverse}
-use mathlib.Core.Logic.{inl, inr, ⊎-elim}
-use mathlib.Core.Path.{_≡_, refl, sym, ap, _∙_}
+use mathlib.Core.List.{List, reverse}
+use mathlib.Core.Logic.{inl, ⊎-elim}
+use mathlib.Core.Path.{_≡_, refl, ap}
 use native.Mathlib.Omega.{arith}
 use lib.Dec.{eqb, ltb}
 use lib.ListN.{getD}
 use Rattle.frame.specs.declared.Settings.{Settings}
 use Rattle.frame.specs.Order.{orderOf}
-use Rattle.frame.specs.Settings.{settingsRefusal}
 use Rattle.frame.specs.Table.{windowOf}
 use Rattle.resource.specs.declared.Inverted.{Inverted}
 use Rattle.resource.specs.declared.Inverted.the-variants as inverted
@@ -36,10 +35,10 @@ use Rattle.handset.specs.Feed.{pushed, feedOf}
 use Rattle.handset.specs.Make.{makeOf}
 use Rattle.station.specs.declared.Reading.{Reading}
 use Rattle.station.specs.Readings.{readOf}
-use Rattle.agreement.specs.Demand3.{Engine, fedAt, Demand3}
+use Rattle.agreement.specs.Demand3.{Engine, Demand3}
 use Rattle.agreement.proofs.Computing.{schedules, handsets, stations}
-use Rattle.agreement.proofs.Worked.{cell, heardGrant, reply, allHeard, all-heard, missed, first-missed, oneUndecoded, one-undecoded, refusedFeeds, refused-feeds, twoWindows, two-windows, twoBlocks, two-blocks, shared, symbol-shared}
-use Rattle.agreement.proofs.WrongEngines.{engine, madeBy, fedBy, changed, knowsBy, answersBy, answering, replying, same-answer, answer-at, holds-in, symbol-parts, uplink, in-all-heard, in-missed, in-one-undecoded, in-two-windows, in-shared, in-shared-before}
+use Rattle.agreement.proofs.Worked.{answer-at, fed-nothing, cell, heardGrant, reply, allHeard, all-heard, missed, first-missed, oneUndecoded, one-undecoded, refusedFeeds, refused-feeds, twoWindows, two-windows, shared, symbol-shared}
+use Rattle.agreement.proofs.WrongEngines.{engine, madeBy, fedBy, changed, knowsBy, answersBy, answering, replying, replyingIn, sentOn, withBits, same-answer, holds-in, symbol-parts, in-all-heard, in-missed, in-one-undecoded, in-two-windows, in-shared, in-shared-before}
 
 -- Making.
 
@@ -95,15 +94,11 @@ not-refuses-with-nine d =
     omega (arith, same-answer (ap refusesWithNine (answer-at refusedFeeds refused-feeds 1)) (ap (λ (f : Fed). f .answer) l))
 
 -- One that moves on at a refused feed, as if nothing had been heard.
-abbrev pub movedOn : Handset → Answer → Handset → Handset
-movedOn h answer.Taken next = next
-movedOn h answer.NoWindow next = next
-movedOn h answer.Silent next = next
-movedOn h (answer.Sent r) next = next
-movedOn h (answer.Refused k) next = pushed h Nothing
+abbrev movedOn : Handset → Handset → Answer → Handset
+movedOn h next = answering next next next (λ (r : Reply). next) (λ (k : ℕ). pushed h Nothing)
 
 abbrev pub movesOn : Handset → Heard → Fed
-movesOn h x = record { answer = feedOf h x .answer; handset = movedOn h (feedOf h x .answer) (feedOf h x .handset) }
+movesOn h x = record { answer = feedOf h x .answer; handset = movedOn h (feedOf h x .handset) (feedOf h x .answer) }
 
 pub not-moves-on : Demand3 (fedBy movesOn) → ⊥
 unfolding handsets
@@ -121,7 +116,7 @@ silentForTaken = answering answer.Silent answer.NoWindow answer.Silent answer.Se
 pub not-silent-for-taken : Demand3 (answersBy silentForTaken) → ⊥
 unfolding schedules
 not-silent-for-taken d =
-    let t = holds-in (answersBy silentForTaken) d allHeard all-heard .taken 4 4 Nothing (uplink allHeard 4 (omega arith) refl refl) refl in
+    let t = holds-in (answersBy silentForTaken) d allHeard all-heard .taken 4 4 Nothing (fed-nothing allHeard 4 (omega arith) refl refl) refl in
     omega (arith, same-answer (ap silentForTaken (answer-at allHeard all-heard 4)) t)
 
 -- "Silent" for "no window".
@@ -131,7 +126,7 @@ silentForNoWindow = answering answer.Taken answer.Silent answer.Silent answer.Se
 pub not-silent-for-no-window : Demand3 (answersBy silentForNoWindow) → ⊥
 unfolding schedules
 not-silent-for-no-window d =
-    let n = holds-in (answersBy silentForNoWindow) d twoWindows two-windows .noWindow 3 3 Nothing (uplink twoWindows 3 (omega arith) refl refl) refl refl in
+    let n = holds-in (answersBy silentForNoWindow) d twoWindows two-windows .noWindow 3 3 Nothing (fed-nothing twoWindows 3 (omega arith) refl refl) refl refl in
     omega (arith, same-answer (ap silentForNoWindow (answer-at twoWindows two-windows 3)) n)
 
 -- "No window" for "silent": in the bundled window whose miss is shown, and in the multiplexed one of which nothing is heard.
@@ -170,7 +165,7 @@ not-always-silent-multiplexed d =
 
 -- A handset silent as if missed before any grant: no bundled reply goes out.
 abbrev pub asIfMissed : Answer → Answer
-asIfMissed = replying (λ (r : Reply). cond (eqb (r .kind) 1) answer.Silent (answer.Sent r))
+asIfMissed = replyingIn 1 (λ (r : Reply). answer.Silent)
 
 pub not-as-if-missed : Demand3 (answersBy asIfMissed) → ⊥
 unfolding schedules
@@ -202,7 +197,7 @@ unfolding handsets
 not-counts-one-more d =
     ⊎-elim (λ e. omega arith) (⊎-elim (λ e. omega arith) (λ e. omega arith)) (in-missed (knowsBy countsOneMore) d .0 .0 (_, refl) .1)
 
--- A reply in a window of which nothing was heard.
+-- A reply in every window: on resource 10 where there is none to send.
 abbrev pub neverSilent : Answer → Answer
 neverSilent = answering answer.Taken answer.NoWindow (reply 2 10 0 0) answer.Sent answer.Refused
 
@@ -218,17 +213,13 @@ marked h = record { settings = h .settings; next = h .next + 10; past = h .past 
 abbrev unmarked : Handset → Handset
 unmarked h = record { settings = h .settings; next = h .next - 10; past = h .past }
 
-abbrev markedAfter : Answer → Handset → Handset
-markedAfter answer.Taken h = h
-markedAfter answer.NoWindow h = h
-markedAfter answer.Silent h = h
-markedAfter (answer.Sent r) h = marked h
-markedAfter (answer.Refused k) h = h
+abbrev markedAfter : Handset → Answer → Handset
+markedAfter h = answering h h h (λ (r : Reply). marked h) (λ (k : ℕ). h)
 
 abbrev pub firstOnly : Handset → Heard → Fed
 firstOnly h x =
     cond (ltb (h .next) 10)
-    (record { answer = feedOf h x .answer; handset = markedAfter (feedOf h x .answer) (feedOf h x .handset) })
+    (record { answer = feedOf h x .answer; handset = markedAfter (feedOf h x .handset) (feedOf h x .answer) })
     (record { answer = alwaysSilent (feedOf (unmarked h) x .answer); handset = marked (feedOf (unmarked h) x .handset) })
 
 pub not-first-only : Demand3 (fedBy firstOnly) → ⊥
@@ -253,7 +244,7 @@ not-other-kind-multiplexed d = omega (arith, in-shared (answersBy otherKind) d .
 
 -- The two bits are exchanged. In a multiplexed reply they are then another row's.
 abbrev pub exchanged : Answer → Answer
-exchanged = replying (λ (r : Reply). answer.Sent (record { kind = r .kind; resource = r .resource; b0 = r .b1; b1 = r .b0 }))
+exchanged = replying (λ (r : Reply). withBits r (r .b1) (r .b0))
 
 pub not-exchanged-first : Demand3 (answersBy exchanged) → ⊥
 unfolding schedules
@@ -271,32 +262,28 @@ not-exchanged-symbol d =
     let m = in-shared (answersBy exchanged) d .1 _ (ap exchanged (answer-at shared symbol-shared 12)) in
     omega (arith, symbol-parts 1 1 0 _ _ _ (m .isSymbol) .1)
 
--- The first bit is that of the last heard grant alone.
+-- The first bit of a bundled reply is that of the last heard grant alone.
 abbrev lastSeen : Handset → Seen
 lastSeen h = stepOf unseen (seenIn h .position) (viewIn h (getD (windowIn h) (seenIn h .position) 0))
 
 abbrev pub lastAlone : Handset → Answer → Answer
-lastAlone h =
-    replying (λ (r : Reply).
-    cond (eqb (r .kind) 1) (answer.Sent (record { kind = r .kind; resource = r .resource; b0 = bit (lastSeen h .first); b1 = r .b1 })) (answer.Sent r))
+lastAlone h = replyingIn 1 (λ (r : Reply). withBits r (bit (lastSeen h .first)) (r .b1))
 
 pub not-last-alone : Demand3 (knowsBy lastAlone) → ⊥
 unfolding handsets
 not-last-alone d = false≢true (in-one-undecoded (knowsBy lastAlone) d .1 _ refl .first .0 refl .0)
 
--- The second bit is set in a cell of one block.
+-- The second bit of a bundled reply is set in a cell of one block.
 abbrev pub secondSet : Handset → Answer → Answer
-secondSet h =
-    replying (λ (r : Reply).
-    cond (eqb (h .settings .blocks) 1) (answer.Sent (record { kind = r .kind; resource = r .resource; b0 = r .b0; b1 = 1 })) (answer.Sent r))
+secondSet h = replyingIn 1 (λ (r : Reply). withBits r (r .b0) (cond (eqb (h .settings .blocks) 1) 1 (r .b1)))
 
 pub not-second-set : Demand3 (knowsBy secondSet) → ⊥
 unfolding handsets
 not-second-set d = omega (arith, in-all-heard (knowsBy secondSet) d .1 _ refl .bits .2 refl)
 
--- A NACK goes out as 2.
+-- The NACK of a first block goes out as 2.
 abbrev pub nackAsTwo : Answer → Answer
-nackAsTwo = replying (λ (r : Reply). answer.Sent (record { kind = r .kind; resource = r .resource; b0 = cond (eqb (r .b0) 0) 2 1; b1 = r .b1 }))
+nackAsTwo = replyingIn 1 (λ (r : Reply). withBits r (cond (eqb (r .b0) 0) 2 1) (r .b1))
 
 pub not-nack-as-two : Demand3 (answersBy nackAsTwo) → ⊥
 unfolding schedules
@@ -323,13 +310,13 @@ not-on-first-multiplexed d =
     let m = in-shared (knowsBy onFirst) d .1 _ refl in
     omega (arith, calls-one-to-one (cell 2 1) 2 refl .once (m .index) (m .granted .cce .0) 0 0 10 (m .onResource) refl .0, symbol-parts 1 1 0 _ _ _ (m .isSymbol) .0)
 
--- The right position goes with the first CCE of the first heard grant. The station reads that CCE, so that both ends agree.
+-- Multiplexed, the right position goes with the first CCE of the first heard grant. The station reads that pair: both ends agree.
 abbrev withFirstCce : Handset → Inverted → Mapped
 withFirstCce h (inverted.At m c) = resourceOf (h .settings) (h .next) m (firstSeen h .cce .0)
 withFirstCce h (inverted.Refused k) = mapped.Refused k
 
 abbrev pub onFirstCce : Handset → Answer → Answer
-onFirstCce h = replying (λ (r : Reply). replyOn (r .kind) (withFirstCce h (inverseOf (h .settings) (h .next) (r .resource .0))) (r .b0) (r .b1))
+onFirstCce h = replyingIn 2 (λ (r : Reply). replyOn (r .kind) (withFirstCce h (inverseOf (h .settings) (h .next) (r .resource .0))) (r .b0) (r .b1))
 
 same-grant : (g g′ : Grant) → Granted g ≡ Granted g′ → g ≡ g′
 same-grant g g′ e = cc
@@ -345,7 +332,7 @@ not-on-first-cce d =
 
 -- Every reply goes out 4000 resources higher, and the station reads it so: the two agree, and with nobody else.
 abbrev pub raised : Answer → Answer
-raised = replying (λ (r : Reply). answer.Sent (record { kind = r .kind; resource = record { 0 = r .resource .0 + 4000 }; b0 = r .b0; b1 = r .b1 }))
+raised = replying (λ (r : Reply). sentOn r (r .resource .0 + 4000))
 
 abbrev pub raisedReading : Settings → ℕ → ℕ → ℕ → ℕ → Reading
 raisedReading s n r b0 b1 = readOf s n (cond (ltb r 4000) r (r - 4000)) b0 b1

@@ -17,13 +17,11 @@ use Rattle.resource.specs.declared.Mapped.the-variants as mapped
 use Rattle.resource.specs.declared.Resource.{Resource}
 use Rattle.resource.specs.Calls.{sizeOf, resourceOf, inverseOf}
 use Rattle.resource.specs.Formula.{edge}
-use Rattle.symbols.specs.declared.State.{State}
 use Rattle.symbols.specs.declared.State.the-variants.{Ack, Dtx}
 use Rattle.symbols.specs.Delivered.{isSymbol}
 use Rattle.symbols.specs.Selection.{Mark, Row, fits, tableOf}
 use Rattle.symbols.proofs.Reading.{delivered-exactly}
 use Rattle.reply.specs.declared.Answer.{Answer}
-use Rattle.reply.specs.declared.Answer.the-variants as answer
 use Rattle.reply.specs.declared.Reply.{Reply}
 use Rattle.handset.specs.declared.Handset.{Handset}
 use Rattle.handset.specs.Make.{makeOf}
@@ -32,8 +30,8 @@ use Rattle.station.specs.declared.Reading.the-variants as reading
 use Rattle.station.specs.Readings.{readOf}
 use Rattle.agreement.specs.Demand3.{Engine, Demand3}
 use Rattle.agreement.proofs.Computing.{schedules, handsets, stations}
-use Rattle.agreement.proofs.Worked.{cell, multiplexedRead, allHeard, all-heard, shared, symbol-shared}
-use Rattle.agreement.proofs.WrongEngines.{engine, mappedBy, invertedBy, readBy, changed, replying, answer-at, reading-at, symbol-parts, in-all-heard, in-shared}
+use Rattle.agreement.proofs.Worked.{answer-at, reading-at, cell, allHeard, all-heard, shared, symbol-shared}
+use Rattle.agreement.proofs.WrongEngines.{engine, mappedBy, invertedBy, readBy, changed, replying, sentOn, symbol-parts, in-all-heard, in-shared}
 
 -- The resource call and its inverse.
 
@@ -80,9 +78,7 @@ mappedFromTop s n (mapped.At r) = mapped.At (record { 0 = fromTop s n (r .0) })
 mappedFromTop s n (mapped.Refused k) = mapped.Refused k
 
 abbrev repliedFromTop : Handset → Answer → Answer
-repliedFromTop h =
-    replying (λ (r : Reply).
-    answer.Sent (record { kind = r .kind; resource = record { 0 = fromTop (h .settings) (h .next) (r .resource .0) }; b0 = r .b0; b1 = r .b1 }))
+repliedFromTop h = replying (λ (r : Reply). sentOn r (fromTop (h .settings) (h .next) (r .resource .0)))
 
 abbrev pub topDown : Engine
 topDown =
@@ -99,51 +95,48 @@ not-top-down d = omega (arith, same-resource _ _ (d .byFormula (cell 1 0) 2 0 0 
 abbrev pub readsBy : (Reading → Reading) → Engine
 readsBy change = readBy (λ s n r b0 b1. change (readOf s n r b0 b1))
 
+-- By cases of a reading: bundled, multiplexed, a refusal.
+abbrev readAs : {A : Type 0} → (ℕ → Cce → ℕ → ℕ → A) → (ℕ → Cce → ℕ → A) → (ℕ → A) → Reading → A
+readAs bundled multiplexed refused (reading.Bundled m c b0 b1) = bundled m c b0 b1
+readAs bundled multiplexed refused (reading.Multiplexed m c p) = multiplexed m c p
+readAs bundled multiplexed refused (reading.Refused k) = refused k
+
+-- a reading by the number of its kind
+abbrev kindOf : Reading → ℕ
+kindOf = readAs (λ m c b0 b1. 1) (λ m c p. 2) (λ k. 0)
+
 -- Where bits are to be refused, it names the first pair.
 abbrev pub refusedAsFirst : Reading → Reading
-refusedAsFirst (reading.Bundled m c b0 b1) = reading.Bundled m c b0 b1
-refusedAsFirst (reading.Multiplexed m c p) = reading.Multiplexed m c p
-refusedAsFirst (reading.Refused k) = cond (eqb k 14) (reading.Bundled 0 (record { 0 = 0 }) 0 0) (reading.Refused k)
-
--- a reading by a number
-abbrev numberOf : Reading → ℕ
-numberOf (reading.Bundled m c b0 b1) = 0
-numberOf (reading.Multiplexed m c p) = 1
-numberOf (reading.Refused k) = 2
+refusedAsFirst =
+    readAs reading.Bundled reading.Multiplexed (λ k. cond (eqb k 14) (reading.Bundled 0 (record { 0 = 0 }) 0 0) (reading.Refused k))
 
 pub not-refused-as-first : Demand3 (readsBy refusedAsFirst) → ⊥
 unfolding handsets stations
 not-refused-as-first d =
-    ⊎-elim (λ e. omega (arith, ap numberOf e)) (λ e. omega (arith, ap positionIn e)) (d .givesBack (cell 1 0) 2 1 10 31 1 1 refl)
+    ⊎-elim (λ e. omega (arith, ap kindOf e)) (λ e. omega (arith, ap positionIn e)) (d .givesBack (cell 1 0) 2 1 10 31 1 1 refl)
 
 -- It refuses every bit pattern with 14.
 abbrev pub refusesBits : Reading → Reading
-refusesBits (reading.Bundled m c b0 b1) = reading.Refused 14
-refusesBits (reading.Multiplexed m c p) = reading.Refused 14
-refusesBits (reading.Refused k) = reading.Refused k
+refusesBits = readAs (λ m c b0 b1. reading.Refused 14) (λ m c p. reading.Refused 14) reading.Refused
 
 pub not-refuses-bits : Demand3 (readsBy refusesBits) → ⊥
 unfolding schedules
 not-refuses-bits d =
     let m = in-all-heard (readsBy refusesBits) d .1 _ (answer-at allHeard all-heard 7) .isRead 6 10 refl in
-    omega (arith, ap numberOf (sym (ap refusesBits (reading-at allHeard all-heard 0)) ∙ m .4))
+    omega (arith, ap kindOf (sym (ap refusesBits (reading-at allHeard all-heard 0)) ∙ m .4))
 
 pub not-refuses-bits-multiplexed : Demand3 (readsBy refusesBits) → ⊥
 unfolding schedules
 not-refuses-bits-multiplexed d =
     let m = in-shared (readsBy refusesBits) d .1 _ (answer-at shared symbol-shared 12) in
-    omega (arith, ap numberOf (sym (ap refusesBits (reading-at shared symbol-shared 0)) ∙ m .isRead))
+    omega (arith, ap kindOf (sym (ap refusesBits (reading-at shared symbol-shared 0)) ∙ m .isRead))
 
--- the set of delivered positions that a reading gives
+-- the set of delivered positions that a reading gives, and a reading with another set, by its position and its set
 abbrev deliveredIn : Reading → ℕ
-deliveredIn (reading.Bundled m c b0 b1) = 0
-deliveredIn (reading.Multiplexed m c p) = p
-deliveredIn (reading.Refused k) = 0
+deliveredIn = readAs (λ m c b0 b1. 0) (λ m c p. p) (λ k. 0)
 
 abbrev delivering : (ℕ → ℕ → ℕ) → Reading → Reading
-delivering change (reading.Bundled m c b0 b1) = reading.Bundled m c b0 b1
-delivering change (reading.Multiplexed m c p) = reading.Multiplexed m c (change m p)
-delivering change (reading.Refused k) = reading.Refused k
+delivering change = readAs reading.Bundled (λ m c p. reading.Multiplexed m c (change m p)) reading.Refused
 
 -- It marks no position delivered.
 abbrev pub deliversNothing : Reading → Reading
