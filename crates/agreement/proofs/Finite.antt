@@ -1,10 +1,10 @@
 -- A schedule that sends a finite list and then nothing, and a list of feeds against it: the hypotheses of demand 3 as tests that compute.
 -- Assumes nothing.
-use Prim.Native.Nat.{ℕ, suc, _+_, _-_, _%_, _<_, _≤_}
-use mathlib.Core.Bool.{Bool, true, false, _&&_}
+use Prim.Native.Nat.{ℕ, _+_, _-_, _%_, _<_, _≤_}
+use mathlib.Core.Bool.{Bool, true, false, cond, not, _&&_, _||_, false≢true}
 use mathlib.Core.List.{List, [], _∷_, map}
 use mathlib.Core.Logic.{inl, inr}
-use mathlib.Core.Path.{_≡_, refl, sym, subst}
+use mathlib.Core.Path.{_≡_, refl, sym, _∙_}
 use native.Mathlib.Decide.{decLt}
 use native.Mathlib.Omega.{arith}
 use lib.Dec.{T, eqb, eqb→eq}
@@ -15,31 +15,34 @@ use Rattle.frame.specs.declared.Settings.{Settings}
 use Rattle.frame.specs.Order.{timesOf}
 use Rattle.frame.specs.Table.{windowOf}
 use Rattle.frame.proofs.Below.{below, below-at}
+use Rattle.confirmation.specs.declared.Send.{Send}
+use Rattle.confirmation.specs.declared.Send.the-variants.{Nothing, Granted}
+use Rattle.confirmation.specs.Sent.{isGrant, daiOf}
 use Rattle.heard.specs.declared.Heard.{Heard}
-use Rattle.heard.specs.declared.Heard.the-variants.{Nothing, Granted}
+use Rattle.heard.specs.declared.Heard.the-variants as heard
 use Rattle.heard.specs.Heard.{heardRefusal}
-use Rattle.agreement.specs.Run.{Send, nothing, grant, sentOf, asHeard, sentAgo, heardFrom, Item, RuleFrom, Schedule, Brings, BringsSent}
+use Rattle.agreement.specs.Run.{sentOf, asHeard, sentAgo, heardInRun, Item, RuleFrom, Schedule, Brings, BringsSent}
 use Rattle.agreement.proofs.Entries.{AllOf, all-of, of-window, in-time}
 
 -- what a finite list sends
 abbrev pub sending : List Send → ℕ → Send
-sending sends s = getD sends s nothing
+sending sends s = getD sends s Nothing
 
 abbrev pub ruleTest : ℕ → List Send → Bool
 ruleTest j [] = true
-ruleTest j (nothing ∷ l) = ruleTest j l
-ruleTest j (grant b c d ∷ l) = eqb d (j % 4 + 1) && ruleTest (suc j) l
+ruleTest j (x ∷ l) = (not (isGrant x) || eqb (daiOf x) (j % 4 + 1)) && ruleTest (cond (isGrant x) 1 0 + j) l
 
 rule-passed : (l : List Send) (j : ℕ) → T (ruleTest j l) → RuleFrom j l
 rule-passed [] j t = tt
-rule-passed (nothing ∷ l) j t = rule-passed l j t
-rule-passed (grant b c d ∷ l) j t =
-    (eqb→eq d (j % 4 + 1) (and-l (eqb d (j % 4 + 1)) (ruleTest (suc j) l) t), rule-passed l (suc j) (and-r (eqb d (j % 4 + 1)) (ruleTest (suc j) l) t))
+rule-passed (x ∷ l) j t =
+    let first : Bool = not (isGrant x) || eqb (daiOf x) (j % 4 + 1) in
+    let rest : Bool = ruleTest (cond (isGrant x) 1 0 + j) l in
+    (λ e. eqb→eq (daiOf x) (j % 4 + 1) (rw e at (and-l first rest t)), rule-passed l (cond (isGrant x) 1 0 + j) (and-r first rest t))
 
 -- nothing sent keeps the rule
-nothing-ruled : (f : ℕ → Send) (ts : List ℕ) (j : ℕ) → AllOf (λ (k : ℕ). f k ≡ nothing) ts → RuleFrom j (map f ts)
+nothing-ruled : (f : ℕ → Send) (ts : List ℕ) (j : ℕ) → AllOf (λ (k : ℕ). f k ≡ Nothing) ts → RuleFrom j (map f ts)
 nothing-ruled f [] j h = tt
-nothing-ruled f (k ∷ ts) j h = subst (λ (s : Send). RuleFrom j (s ∷ map f ts)) (sym (h .0)) (nothing-ruled f ts j (h .1))
+nothing-ruled f (k ∷ ts) j h = rw (h .0) (λ e. absurd (false≢true e), nothing-ruled f ts (0 + j) (h .1))
 
 -- valid while the list lasts, and by the rule in every window that reaches into it
 abbrev validTest : Settings → List Send → ℕ → Bool
@@ -52,8 +55,8 @@ abbrev pub scheduleTest : Settings → List Send → Bool
 scheduleTest set sends = below (length sends) (validTest set sends) && below (length sends + 13) (windowTest set sends)
 
 module _ (set : Settings) (sends : List Send) (t : T (scheduleTest set sends)) where
-  ended : (s : ℕ) → length sends ≤ s → sending sends s ≡ nothing
-  ended s h = List·getD-eq-default sends nothing {n = s} h
+  ended : (s : ℕ) → length sends ≤ s → sending sends s ≡ Nothing
+  ended s h = List·getD-eq-default sends Nothing {n = s} h
 
   valid : (s : ℕ) → heardRefusal set (s % 10) (asHeard (sending sends s)) ≡ 0
   unfolding heardRefusal
@@ -75,7 +78,7 @@ module _ (set : Settings) (sends : List Send) (t : T (scheduleTest set sends)) w
           (and-r (below (length sends) (validTest set sends)) (below (length sends + 13) (windowTest set sends)) t) s h)
       go (no h) =
           nothing-ruled (sentAgo (sending sends) s) (timesOf (windowOf (set .config) (s % 10))) 0
-          (all-of (λ (k : ℕ). sentAgo (sending sends) s k ≡ nothing) (timesOf (windowOf (set .config) (s % 10)))
+          (all-of (λ (k : ℕ). sentAgo (sending sends) s k ≡ Nothing) (timesOf (windowOf (set .config) (s % 10)))
           (λ k e.
           let w = of-window (set .config) (s % 10) k (in-time (set .config) (s % 10) k e) in
           rw (le-leb k s (omega (arith, w .most))) (ended (s - k) (omega (arith, w .most)))))
@@ -83,36 +86,48 @@ module _ (set : Settings) (sends : List Send) (t : T (scheduleTest set sends)) w
   pub scheduled : Schedule set (sending sends)
   scheduled = record { valid = valid; rule = rule }
 
-abbrev sameSend : Send → Send → Bool
-sameSend nothing nothing = true
-sameSend nothing (grant b c d) = false
-sameSend (grant b c d) nothing = false
-sameSend (grant b c d) (grant b′ c′ d′) = eqb b b′ && eqb c c′ && eqb d d′
+-- What was sent, by numbers: the number of its kind, then its fields. One clause for each kind.
+abbrev numbersOf : Send → List ℕ
+numbersOf Nothing = []
+numbersOf (Granted g) = 1 ∷ g .blocks ∷ g .cce .0 ∷ g .dai ∷ []
 
-same-send : (x y : Send) → T (sameSend x y) → x ≡ y
-same-send nothing nothing t = refl
-same-send nothing (grant b c d) t = absurd t
-same-send (grant b c d) nothing t = absurd t
-same-send (grant b c d) (grant b′ c′ d′) t =
-    let eb = eqb→eq b b′ (and-l (eqb b b′) (eqb c c′) (and-l (eqb b b′ && eqb c c′) (eqb d d′) t)) in
-    let ec = eqb→eq c c′ (and-r (eqb b b′) (eqb c c′) (and-l (eqb b b′ && eqb c c′) (eqb d d′) t)) in
-    let ed = eqb→eq d d′ (and-r (eqb b b′ && eqb c c′) (eqb d d′) t) in
-    rw (eb, ec, ed)
+abbrev number : Send → ℕ → ℕ
+number x i = getD (numbersOf x) i 0
 
+abbrev sendOf : ℕ → ℕ → ℕ → ℕ → Send
+sendOf kind b c d = cond (eqb kind 0) Nothing (Granted (record { blocks = b; cce = record { 0 = c }; dai = d }))
+
+rebuilt : (x : Send) → x ≡ sendOf (number x 0) (number x 1) (number x 2) (number x 3)
+rebuilt Nothing = refl
+rebuilt (Granted g) = refl
+
+-- Two sent things with the same numbers are the same.
+abbrev sameNumber : Send → Send → ℕ → Bool
+sameNumber x y i = eqb (number x i) (number y i)
+
+same-send : (x y : Send) → T (below 4 (sameNumber x y)) → x ≡ y
+same-send x y t =
+    let same : (i : ℕ) → i < 4 → number x i ≡ number y i = λ i h. eqb→eq (number x i) (number y i) (below-at 4 (sameNumber x y) t i h) in
+    let kinds = same 0 (omega arith) in
+    let blocks = same 1 (omega arith) in
+    let cces = same 2 (omega arith) in
+    let dais = same 3 (omega arith) in
+    rebuilt x ∙ rw (kinds, blocks, cces, dais) (sym (rebuilt y))
+
+-- A feed brings nothing or what was sent.
 abbrev pub bringsTest : Send → Heard → Bool
-bringsTest s Nothing = true
-bringsTest s (Granted g) = sameSend (sentOf (Granted g)) s
+bringsTest s x = eqb (number (sentOf x) 0) 0 || below 4 (sameNumber (sentOf x) s)
 
 brings-passed : (s : Send) (x : Heard) → T (bringsTest s x) → Brings s x
-brings-passed s Nothing t = inl refl
-brings-passed s (Granted g) t = inr (same-send (sentOf (Granted g)) s t)
+brings-passed s heard.Nothing t = inl refl
+brings-passed s (heard.Granted g) t = inr (same-send (sentOf (heard.Granted g)) s t)
 
 -- each feed that is not refused brings nothing or what was sent
 abbrev pub feedsTest : Settings → List Send → List Item → Bool
 feedsTest set sends items =
-    below (length (heardFrom set 0 items)) (λ (s : ℕ). bringsTest (sending sends s) (getD (heardFrom set 0 items) s Nothing))
+    below (length (heardInRun set items)) (λ (s : ℕ). bringsTest (sending sends s) (getD (heardInRun set items) s heard.Nothing))
 
 pub brought : (set : Settings) (sends : List Send) (items : List Item) → T (feedsTest set sends items) → BringsSent set (sending sends) items
 brought set sends items t s h =
-    brings-passed (sending sends s) (getD (heardFrom set 0 items) s Nothing)
-    (below-at (length (heardFrom set 0 items)) (λ (s : ℕ). bringsTest (sending sends s) (getD (heardFrom set 0 items) s Nothing)) t s h)
+    brings-passed (sending sends s) (getD (heardInRun set items) s heard.Nothing)
+    (below-at (length (heardInRun set items)) (λ (s : ℕ). bringsTest (sending sends s) (getD (heardInRun set items) s heard.Nothing)) t s h)

@@ -1,10 +1,16 @@
 pub mod BundledWindow
+pub mod Computing
 pub mod Confirmation
 pub mod Demand3
 pub mod Entries
 pub mod Exactly
 pub mod Feeds
+pub mod Finite
 pub mod Folded
 pub mod Memory
 pub mod MultiplexedWindow
 pub mod NeverRefused
+pub mod Worked
+pub mod WrongEngines
+pub mod WrongHandsets
+pub mod WrongStations

@@ -13,6 +13,7 @@ use Rattle.frame.specs.Settings.{bundles, windowRefusal}
 use Rattle.frame.specs.Table.{windowOf}
 use Rattle.frame.proofs.Lists as lists
 use Rattle.frame.proofs.Windows.{window-k}
+use Rattle.resource.specs.declared.Mapped.{Mapped}
 use Rattle.resource.specs.declared.Mapped.the-variants as mapped
 use Rattle.resource.specs.Calls.{sizeOf, resourceOf}
 use Rattle.resource.specs.Formula.{edge}
@@ -34,6 +35,7 @@ use Rattle.reply.specs.declared.Reply.{Reply}
 use Rattle.heard.specs.declared.View.{View}
 use Rattle.heard.specs.Heard.{viewOf}
 use Rattle.reply.specs.Replies.{replyOn, stateOf, cceOf, windowState, symbolAnswer, multiplexedAnswer}
+use Rattle.station.specs.declared.Reading.{Reading}
 use Rattle.station.specs.Readings.{readOf}
 use Rattle.station.proofs.Back.{read-symbol}
 use Rattle.agreement.specs.Window.{Entry, anyHeard, decodedFirst, decodedSecond, stateIn, MultiplexedReply, Multiplexed}
@@ -76,6 +78,12 @@ module _ (H : ℕ → Heard) where
   dtx-all : (ks : List ℕ) → AllDtx (map (λ (k : ℕ). stateIn (H k)) ks) → AllOf (λ (k : ℕ). H k ≡ Nothing) ks
   dtx-all [] h = tt
   dtx-all (k ∷ ks) h = (dtx-unheard (H k) (h .0), dtx-all ks (h .1))
+
+-- The index of a multiplexed reply is a position of the window, whatever the engine: no row of the tables has another.
+pub index-inside : {resource : ℕ → ℕ → Mapped} {read : ℕ → ℕ → ℕ → Reading} {ks : List ℕ} {heard : ℕ → Heard} {r : Reply}
+    → (reply : MultiplexedReply resource read ks heard (map (λ (k : ℕ). stateIn (heard k)) ks) r) → reply .index < length ks
+index-inside {ks = ks} {heard = heard} reply =
+    rw (length-map ks (λ (k : ℕ). stateIn (heard k))) at (index-heard _ _ _ _ (reply .isSymbol) .0)
 
 module _ (set : Settings) (n : ℕ) (good : windowRefusal set n ≡ 0) (mode : bundles set (sizeOf set n) ≡ false)
     (least : 2 ≤ sizeOf set n) (most : sizeOf set n ≤ 4)
@@ -155,7 +163,6 @@ module _ (set : Settings) (n : ℕ) (good : windowRefusal set n ≡ 0) (mode : b
           kind = refl;
           index = i;
           isSymbol = e;
-          position = inside;
           granted = g .0;
           isHeard = g .1;
           onResource = p .3 .there;

@@ -1,63 +1,129 @@
--- Runs that meet the hypotheses of demand 3, with every answer: the claim is about something. N_RB 50, N1 10.
+-- Runs that meet the hypotheses of demand 3, each with every answer and with the station's reading of every reply: the claim is
+-- about something. N_RB 50, N1 10. The numbers were found from document 01 by hand and by another program.
 -- Assumes nothing.
-use Prim.Native.Nat.{ℕ}
+use Prim.Native.Nat.{ℕ, suc, zero, _+_, _%_, _<_}
 use mathlib.Core.Bool.{Bool, true, false}
-use mathlib.Core.List.{List, [], _∷_, map}
-use mathlib.Core.Path.{_≡_, refl}
+use mathlib.Core.List.{List, [], _∷_}
+use mathlib.Core.Path.{_≡_, refl, ap}
 use lib.Dec.{T}
+use lib.ListN.{length, getD}
 use Rattle.frame.specs.declared.Settings.{Settings}
-use Rattle.frame.specs.Layout.{layouts, letterOf, downlink}
-use Rattle.frame.specs.Order.{timesOf, orderOf}
-use Rattle.frame.specs.Settings.{bundles, cellRefusal, modeRefusal, blocksRefusal, laterRefusal, settingsRefusal, noWindowRefusal, windowRefusal}
-use Rattle.frame.specs.Table.{table, windowOf}
-use Rattle.resource.specs.Calls.{pairRefusal, resourceOf}
-use Rattle.resource.specs.Formula.{edge, regionOf, resourceNumber}
-use Rattle.symbols.specs.Selection.{symbolOf, tableOf, table2, table3, table4}
+use Rattle.frame.specs.Settings.{settingsRefusal}
+use Rattle.confirmation.specs.declared.Send.{Send}
+use Rattle.confirmation.specs.declared.Send.the-variants as send
+use Rattle.heard.specs.declared.Heard.{Heard}
+use Rattle.heard.specs.declared.Heard.the-variants.{Nothing, Granted}
+use Rattle.heard.specs.Heard.{heardRefusal}
 use Rattle.reply.specs.declared.Answer.{Answer}
 use Rattle.reply.specs.declared.Answer.the-variants as answer
-use Rattle.heard.specs.declared.Heard.the-variants.{Nothing, Granted}
-use Rattle.fold.specs.Fold.{stepOf, seenFrom, seenOf}
-use Rattle.heard.specs.Heard.{uplinkRefusal, grantRefusal, heardRefusal, viewOf}
-use Rattle.heard.specs.Memory.{slotOf, heardIn, viewIn, viewAgo}
-use Rattle.reply.specs.Replies.{replyOn, expected, missShown, secondBit, bundledAnswer, stateOf, cceOf, windowState, symbolAnswer, multiplexedAnswer, windowAnswer}
-use Rattle.handset.specs.Feed.{answerOf, dueOf, pushed, feedRefusal, feedOf}
-use Rattle.handset.specs.Make.{fresh, makeOf}
-use Rattle.handset.specs.Sound.{slotSound, allSound, stateSound, stateRefusal}
-use Rattle.agreement.specs.Run.{Send, nothing, grant, Item, feed, Turn, turns, Schedule, BringsSent}
+use Rattle.handset.specs.declared.Fed.{Fed}
+use Rattle.handset.specs.declared.Handset.{Handset}
+use Rattle.handset.specs.Feed.{feedOf}
+use Rattle.handset.specs.Make.{makeOf}
+use Rattle.station.specs.declared.Reading.{Reading}
+use Rattle.station.specs.declared.Reading.the-variants as reading
+use Rattle.station.specs.Readings.{readOf}
+use Rattle.agreement.specs.Demand3.{feedbackEngine, handsetAt, IsSubframe}
+use Rattle.agreement.specs.Run.{Item, feed, itemAt, subframeAt, Schedule, BringsSent}
+use Rattle.agreement.proofs.Computing.{handsets, stations}
 use Rattle.agreement.proofs.Finite.{sending, scheduleTest, feedsTest, scheduled, brought}
 
+-- a cell of one block, and one of two
 abbrev pub cell : ℕ → ℕ → Settings
 cell config mode = record { config = config; nrb = 50; n1 = 10; mode = mode; blocks = 1 }
 
--- a feed that brings nothing, and one that brings a grant of one block
-abbrev pub hearsNothing : Item
-hearsNothing = feed Nothing
-
-abbrev pub hears : ℕ → ℕ → Bool → Item
-hears c d decoded = feed (Granted (record { blocks = 1; first = decoded; second = false; cce = record { 0 = c }; dai = d }))
-
--- a cell of two blocks, and a feed that brings a grant of two
 abbrev pub twoBlockCell : ℕ → ℕ → Settings
 twoBlockCell config mode = record { config = config; nrb = 50; n1 = 10; mode = mode; blocks = 2 }
 
-abbrev pub hearsTwo : ℕ → ℕ → Bool → Bool → Item
-hearsTwo c d first second = feed (Granted (record { blocks = 2; first = first; second = second; cce = record { 0 = c }; dai = d }))
+-- n times x, then the rest of a list
+abbrev pub times : {A : Type 0} → ℕ → A → List A → List A
+times zero x l = l
+times (suc n) x l = x ∷ times n x l
 
+-- what the station sends: nothing, or a grant of b blocks with first CCE c and DAI d
+abbrev pub nothing : Send
+nothing = send.Nothing
+
+abbrev pub grant : ℕ → ℕ → ℕ → Send
+grant b c d = send.Granted (record { blocks = b; cce = record { 0 = c }; dai = d })
+
+-- a feed that brings nothing, one that brings a grant of one block, and one of two
+abbrev pub hearsNothing : Item
+hearsNothing = feed Nothing
+
+abbrev pub heardGrant : ℕ → ℕ → ℕ → Bool → Bool → Heard
+heardGrant b c d first second = Granted (record { blocks = b; first = first; second = second; cce = record { 0 = c }; dai = d })
+
+abbrev pub hears : ℕ → ℕ → Bool → Item
+hears c d decoded = feed (heardGrant 1 c d decoded false)
+
+abbrev pub hearsTwo : ℕ → ℕ → Bool → Bool → Item
+hearsTwo c d first second = feed (heardGrant 2 c d first second)
+
+-- a reply, and its reading: kind, resource and bits; position, first CCE and bits or the set of delivered positions
 abbrev pub reply : ℕ → ℕ → ℕ → ℕ → Answer
 reply kind r b0 b1 = answer.Sent (record { kind = kind; resource = record { 0 = r }; b0 = b0; b1 = b1 })
 
--- settings, what the station sends, the feeds and their answers
+abbrev pub bundledRead : ℕ → ℕ → ℕ → ℕ → Reading
+bundledRead m c b0 b1 = reading.Bundled m (record { 0 = c }) b0 b1
+
+abbrev pub multiplexedRead : ℕ → ℕ → ℕ → Reading
+multiplexedRead m c delivered = reading.Multiplexed m (record { 0 = c }) delivered
+
+-- settings, what the station sends, the feeds, their answers, and the readings of the replies among them
 pub record Run : Type 0 where
   pub set : Settings
   pub sends : List Send
   pub items : List Item
   pub answers : List Answer
+  pub readings : List Reading
+
+-- the answers to a list of feeds
+abbrev pub answersOf : (Handset → Heard → Fed) → Handset → List Item → List Answer
+answersOf step h [] = []
+answersOf step h (feed x ∷ items) = step h x .answer ∷ answersOf step (step h x .handset) items
+
+-- the readings of the replies, each with n = s mod 10 and its own resource and bits; a refused feed is no subframe
+abbrev pub readingsFrom : Settings → ℕ → List Answer → List Reading
+readingsFrom set s [] = []
+readingsFrom set s (answer.Taken ∷ l) = readingsFrom set (s + 1) l
+readingsFrom set s (answer.NoWindow ∷ l) = readingsFrom set (s + 1) l
+readingsFrom set s (answer.Silent ∷ l) = readingsFrom set (s + 1) l
+readingsFrom set s (answer.Sent r ∷ l) = readOf set (s % 10) (r .resource .0) (r .b0) (r .b1) ∷ readingsFrom set (s + 1) l
+readingsFrom set s (answer.Refused k ∷ l) = readingsFrom set s l
 
 pub record Worked (r : Run) : Type 0 where
   pub accepted : settingsRefusal (r .set) ≡ 0
   pub schedule : Schedule (r .set) (sending (r .sends))
   pub brings : BringsSent (r .set) (sending (r .sends)) (r .items)
-  pub answered : map (λ (t : Turn). t .fed .answer) (turns feedOf (makeOf (r .set) .handset) (r .items)) ≡ r .answers
+  pub answered : answersOf feedOf (makeOf (r .set) .handset) (r .items) ≡ r .answers
+  pub read : readingsFrom (r .set) 0 (r .answers) ≡ r .readings
+
+worked : (r : Run) → settingsRefusal (r .set) ≡ 0 → T (scheduleTest (r .set) (r .sends)) → T (feedsTest (r .set) (r .sends) (r .items))
+    → answersOf feedOf (makeOf (r .set) .handset) (r .items) ≡ r .answers → readingsFrom (r .set) 0 (r .answers) ≡ r .readings → Worked r
+worked r good s b e f =
+    record {
+      accepted = good;
+      schedule = scheduled (r .set) (r .sends) s;
+      brings = brought (r .set) (r .sends) (r .items) b;
+      answered = e;
+      read = f;
+    }
+
+-- In a worked run: what our handset answers to item i, and what our station reads from the j-th reply.
+pub answer-at : (r : Run) → Worked r → (i : ℕ) → getD (answersOf feedOf (makeOf (r .set) .handset) (r .items)) i answer.Silent ≡ getD (r .answers) i answer.Silent
+answer-at r w i = ap (λ (l : List Answer). getD l i answer.Silent) (w .answered)
+
+pub reading-at : (r : Run) → Worked r → (j : ℕ) → getD (readingsFrom (r .set) 0 (r .answers)) j (reading.Refused 0) ≡ getD (r .readings) j (reading.Refused 0)
+reading-at r w j = ap (λ (l : List Reading). getD l j (reading.Refused 0)) (w .read)
+
+-- Item s is the run's subframe s, fed with nothing.
+pub fed-nothing : (r : Run) (s : ℕ) → s < length (r .items) → itemAt (r .items) s ≡ feed Nothing → subframeAt (r .set) (r .items) s ≡ s
+    → IsSubframe (r .set) (r .items) s s Nothing
+unfolding heardRefusal
+fed-nothing r s inside brings counted = record { isFeed = record { inside = inside; brings = brings }; accepted = refl; counted = counted }
+
+-- Bundled.
 
 -- Configuration 1, mode 0: the window of subframe 7 is 0 and 1, both heard.
 abbrev pub allHeard : Run
@@ -65,9 +131,14 @@ allHeard =
     record {
       set = cell 1 0;
       sends = grant 1 3 1 ∷ grant 1 10 2 ∷ [];
-      items = hears 3 1 true ∷ hears 10 2 true ∷ hearsNothing ∷ hearsNothing ∷ hearsNothing ∷ hearsNothing ∷ hearsNothing ∷ hearsNothing ∷ [];
-      answers = answer.Taken ∷ answer.Taken ∷ answer.Silent ∷ answer.Silent ∷ answer.Taken ∷ answer.Taken ∷ answer.Taken ∷ reply 1 31 1 0 ∷ [];
+      items = hears 3 1 true ∷ hears 10 2 true ∷ times 6 hearsNothing [];
+      answers = times 2 answer.Taken (times 2 answer.Silent (times 3 answer.Taken (reply 1 31 1 0 ∷ [])));
+      readings = bundledRead 1 10 1 0 ∷ [];
     }
+
+pub all-heard : Worked allHeard
+unfolding handsets stations
+all-heard = worked allHeard refl tt tt refl refl
 
 -- The same with the first grant lost: a miss is shown.
 abbrev pub missed : Run
@@ -75,43 +146,89 @@ missed =
     record {
       set = cell 1 0;
       sends = grant 1 3 1 ∷ grant 1 10 2 ∷ [];
-      items = hearsNothing ∷ hears 10 2 true ∷ hearsNothing ∷ hearsNothing ∷ hearsNothing ∷ hearsNothing ∷ hearsNothing ∷ hearsNothing ∷ [];
-      answers = answer.Taken ∷ answer.Taken ∷ answer.Silent ∷ answer.Silent ∷ answer.Taken ∷ answer.Taken ∷ answer.Taken ∷ answer.Silent ∷ [];
+      items = hearsNothing ∷ hears 10 2 true ∷ times 6 hearsNothing [];
+      answers = times 2 answer.Taken (times 2 answer.Silent (times 3 answer.Taken (answer.Silent ∷ [])));
+      readings = [];
     }
 
--- The same with a feed in between whose DAI is 5: refused 12, and its subframe is fed again.
-abbrev pub refusedBetween : Run
-refusedBetween =
+pub first-missed : Worked missed
+unfolding handsets stations
+first-missed = worked missed refl tt tt refl refl
+
+-- The same with feeds in between that are refused, and their subframes fed again: in subframe 1 grants of 2 blocks (10), of first
+-- CCE 61 (11) and of DAI 5 (12), in the uplink subframe 2 a grant (9).
+abbrev pub refusedFeeds : Run
+refusedFeeds =
     record {
       set = cell 1 0;
       sends = grant 1 3 1 ∷ grant 1 10 2 ∷ [];
-      items = hears 3 1 true ∷ hears 10 5 true ∷ hears 10 2 false ∷ hearsNothing ∷ hearsNothing ∷ hearsNothing ∷ hearsNothing ∷ hearsNothing ∷ hearsNothing ∷ [];
-      answers = answer.Taken ∷ answer.Refused 12 ∷ answer.Taken ∷ answer.Silent ∷ answer.Silent ∷ answer.Taken ∷ answer.Taken ∷ answer.Taken ∷ reply 1 31 0 0 ∷ [];
+      items = hears 3 1 true ∷ hearsTwo 10 2 true true ∷ hears 61 2 true ∷ hears 10 5 true ∷ hears 10 2 false ∷ hears 10 3 true ∷ times 6 hearsNothing [];
+      answers =
+          answer.Taken ∷ answer.Refused 10 ∷ answer.Refused 11 ∷ answer.Refused 12 ∷ answer.Taken ∷ answer.Refused 9
+          ∷ times 2 answer.Silent (times 3 answer.Taken (reply 1 31 0 0 ∷ []));
+      readings = bundledRead 1 10 0 0 ∷ [];
     }
 
--- Configuration 5: of the window of subframe 12, which starts at -1, the grants in 0, 1, 3 and 4 are lost and the fifth, in 5, is heard.
+pub refused-feeds : Worked refusedFeeds
+unfolding handsets stations
+refused-feeds = worked refusedFeeds refl tt tt refl refl
+
+-- Item i leaves the handset as it was.
+abbrev Left : Run → ℕ → Type 0
+Left r i = handsetAt feedbackEngine (r .set) (r .items) (suc i) ≡ handsetAt feedbackEngine (r .set) (r .items) i
+
+pub refused-left : Left refusedFeeds 1 × Left refusedFeeds 2 × Left refusedFeeds 3 × Left refusedFeeds 5
+unfolding handsets
+refused-left = (refl, refl, refl, refl)
+
+-- Configuration 5: of the window of subframe 12, which starts at -1, the grants in 0, 1, 3 and 4 are lost and the fifth, in 5, is
+-- heard.
 abbrev pub fourLost : Run
 fourLost =
     record {
       set = cell 5 0;
       sends = grant 1 0 1 ∷ grant 1 0 2 ∷ nothing ∷ grant 1 0 3 ∷ grant 1 0 4 ∷ grant 1 0 1 ∷ [];
-      items = hearsNothing ∷ hearsNothing ∷ hearsNothing ∷ hearsNothing ∷ hearsNothing ∷ hears 0 1 true ∷ hearsNothing ∷ hearsNothing ∷ hearsNothing ∷ hearsNothing ∷ hearsNothing ∷ hearsNothing ∷ hearsNothing ∷ [];
-      answers =
-          answer.Taken ∷ answer.Taken ∷ answer.Silent ∷ answer.Taken ∷ answer.Taken ∷ answer.Taken ∷ answer.Taken ∷ answer.Taken ∷ answer.Taken ∷ answer.Taken ∷ answer.Taken
-          ∷ answer.Taken ∷ reply 1 54 1 0 ∷ [];
+      items = times 5 hearsNothing (hears 0 1 true ∷ times 7 hearsNothing []);
+      answers = times 2 answer.Taken (answer.Silent ∷ times 9 answer.Taken (reply 1 54 1 0 ∷ []));
+      readings = bundledRead 4 0 1 0 ∷ [];
     }
 
--- Configuration 2, mode 1: the window of subframe 12 is 4, 5, 8 and 6; A,A,D,D shares its symbol with A,A,A,N and others.
-abbrev pub shared : Run
-shared =
+pub four-lost : Worked fourLost
+unfolding handsets stations
+four-lost = worked fourLost refl tt tt refl refl
+
+-- Configuration 5: the window of subframe 22 is 9, 10, 11 and 13 to 18, all nine sent; eight are lost and the last, in 18, is heard.
+abbrev pub eightLost : Run
+eightLost =
     record {
-      set = cell 2 1;
-      sends = nothing ∷ nothing ∷ nothing ∷ nothing ∷ grant 1 0 1 ∷ grant 1 5 2 ∷ [];
-      items = hearsNothing ∷ hearsNothing ∷ hearsNothing ∷ hearsNothing ∷ hears 0 1 true ∷ hears 5 2 true ∷ hearsNothing ∷ hearsNothing ∷ hearsNothing ∷ hearsNothing ∷ hearsNothing ∷ hearsNothing ∷ hearsNothing ∷ [];
+      set = cell 5 0;
+      sends =
+          times 9 nothing
+          (grant 1 0 1 ∷ grant 1 0 2 ∷ grant 1 0 3 ∷ nothing ∷ grant 1 0 4 ∷ grant 1 0 1 ∷ grant 1 0 2 ∷ grant 1 0 3 ∷ grant 1 0 4 ∷ grant 1 20 1 ∷ []);
+      items = times 18 hearsNothing (hears 20 1 true ∷ times 4 hearsNothing []);
       answers =
-          answer.Taken ∷ answer.Taken ∷ answer.Silent ∷ answer.Taken ∷ answer.Taken ∷ answer.Taken ∷ answer.Taken ∷ answer.Silent ∷ answer.Taken ∷ answer.Taken ∷ answer.Taken
-          ∷ answer.Taken ∷ reply 2 26 1 0 ∷ [];
+          times 2 answer.Taken (answer.Silent ∷ times 9 answer.Taken (answer.Silent ∷ times 9 answer.Taken (reply 1 214 1 0 ∷ [])));
+      readings = bundledRead 6 20 1 0 ∷ [];
     }
+
+pub eight-lost : Worked eightLost
+unfolding handsets stations
+eight-lost = worked eightLost refl tt tt refl refl
+
+-- Configuration 5: four are sent in the window of subframe 12, in 0, 1, 3 and 4, all heard and decoded.
+abbrev pub fourHeard : Run
+fourHeard =
+    record {
+      set = cell 5 0;
+      sends = grant 1 0 1 ∷ grant 1 4 2 ∷ nothing ∷ grant 1 8 3 ∷ grant 1 40 4 ∷ [];
+      items = hears 0 1 true ∷ hears 4 2 true ∷ hearsNothing ∷ hears 8 3 true ∷ hears 40 4 true ∷ times 8 hearsNothing [];
+      answers = times 2 answer.Taken (answer.Silent ∷ times 9 answer.Taken (reply 1 317 1 0 ∷ []));
+      readings = bundledRead 3 40 1 0 ∷ [];
+    }
+
+pub four-heard : Worked fourHeard
+unfolding handsets stations
+four-heard = worked fourHeard refl tt tt refl refl
 
 -- Configuration 2, mode 0: the window of subframe 7 is -1, 0, 3 and 1, which reaches before the start; the grant in 0 is heard.
 abbrev pub beforeStart : Run
@@ -119,52 +236,119 @@ beforeStart =
     record {
       set = cell 2 0;
       sends = grant 1 0 1 ∷ [];
-      items = hears 0 1 true ∷ hearsNothing ∷ hearsNothing ∷ hearsNothing ∷ hearsNothing ∷ hearsNothing ∷ hearsNothing ∷ hearsNothing ∷ [];
-      answers = answer.Taken ∷ answer.Taken ∷ answer.Silent ∷ answer.Taken ∷ answer.Taken ∷ answer.Taken ∷ answer.Taken ∷ reply 1 21 1 0 ∷ [];
+      items = hears 0 1 true ∷ times 7 hearsNothing [];
+      answers = times 2 answer.Taken (answer.Silent ∷ times 4 answer.Taken (reply 1 21 1 0 ∷ []));
+      readings = bundledRead 1 0 1 0 ∷ [];
     }
 
+pub before-start : Worked beforeStart
+unfolding handsets stations
+before-start = worked beforeStart refl tt tt refl refl
+
 -- Configuration 0 in a cell of two blocks: subframe 3 has no window. Subframe 4 answers for a grant in 0 whose second block alone
--- decoded; subframe 7 for one in 1 of one block, which decoded and stands for both.
+-- decoded; subframe 7 for one in 1 of a sole block, which decoded and stands for both.
 abbrev pub twoBlocks : Run
 twoBlocks =
     record {
       set = twoBlockCell 0 0;
       sends = grant 2 3 1 ∷ grant 1 5 1 ∷ [];
-      items = hearsTwo 3 1 false true ∷ hears 5 1 true ∷ hearsNothing ∷ hearsNothing ∷ hearsNothing ∷ hearsNothing ∷ hearsNothing ∷ hearsNothing ∷ [];
-      answers = answer.Taken ∷ answer.Taken ∷ answer.Silent ∷ answer.NoWindow ∷ reply 1 13 0 1 ∷ answer.Taken ∷ answer.Taken ∷ reply 1 15 1 1 ∷ [];
+      items = hearsTwo 3 1 false true ∷ hears 5 1 true ∷ times 6 hearsNothing [];
+      answers = times 2 answer.Taken (answer.Silent ∷ answer.NoWindow ∷ reply 1 13 0 1 ∷ times 2 answer.Taken (reply 1 15 1 1 ∷ []));
+      readings = bundledRead 0 3 0 1 ∷ bundledRead 0 5 1 1 ∷ [];
     }
 
-abbrev pub AllWorked : List Run → Type 0
-AllWorked [] = Unit {0}
-AllWorked (r ∷ rs) = Worked r × AllWorked rs
+pub two-blocks : Worked twoBlocks
+unfolding handsets stations
+two-blocks = worked twoBlocks refl tt tt refl refl
 
-worked : (r : Run) → settingsRefusal (r .set) ≡ 0 → T (scheduleTest (r .set) (r .sends)) → T (feedsTest (r .set) (r .sends) (r .items))
-    → map (λ (t : Turn). t .fed .answer) (turns feedOf (makeOf (r .set) .handset) (r .items)) ≡ r .answers → Worked r
-worked r good s b e =
-    record { accepted = good; schedule = scheduled (r .set) (r .sends) s; brings = brought (r .set) (r .sends) (r .items) b; answered = e }
+-- Configuration 0: subframe 4 answers for 0, subframe 7 for 1; both grants are heard.
+abbrev pub twoWindows : Run
+twoWindows =
+    record {
+      set = cell 0 0;
+      sends = grant 1 0 1 ∷ grant 1 0 1 ∷ [];
+      items = hears 0 1 true ∷ hears 0 1 true ∷ times 6 hearsNothing [];
+      answers = times 2 answer.Taken (answer.Silent ∷ answer.NoWindow ∷ reply 1 10 1 0 ∷ times 2 answer.Taken (reply 1 10 1 0 ∷ []));
+      readings = times 2 (bundledRead 0 0 1 0) [];
+    }
 
--- The seven runs.
-pub runs : AllWorked (allHeard ∷ missed ∷ refusedBetween ∷ fourLost ∷ shared ∷ beforeStart ∷ twoBlocks ∷ [])
-unfolding layouts letterOf downlink timesOf orderOf bundles cellRefusal modeRefusal blocksRefusal laterRefusal settingsRefusal noWindowRefusal windowRefusal table windowOf pairRefusal resourceOf edge regionOf resourceNumber symbolOf tableOf table2 table3 table4 stepOf seenFrom seenOf uplinkRefusal grantRefusal heardRefusal viewOf slotOf heardIn viewIn viewAgo replyOn expected missShown secondBit bundledAnswer stateOf cceOf windowState symbolAnswer multiplexedAnswer windowAnswer answerOf dueOf pushed feedRefusal feedOf fresh makeOf slotSound allSound stateSound stateRefusal
-runs = (
-  worked allHeard refl tt tt refl,
-  (
-    worked missed refl tt tt refl,
-    (
-      worked refusedBetween refl tt tt refl,
-      (
-        worked fourLost refl tt tt refl,
-        (
-          worked shared refl tt tt refl,
-          (
-            worked beforeStart refl tt tt refl,
-            (
-              worked twoBlocks refl tt tt refl,
-              tt,
-            ),
-          ),
-        ),
-      ),
-    ),
-  ),
-)
+pub two-windows : Worked twoWindows
+unfolding handsets stations
+two-windows = worked twoWindows refl tt tt refl refl
+
+-- Configuration 1 in a cell of two blocks: of the grants in 0 and 1 the first block of the earlier one alone is not decoded.
+abbrev pub oneUndecoded : Run
+oneUndecoded =
+    record {
+      set = twoBlockCell 1 0;
+      sends = grant 2 3 1 ∷ grant 2 10 2 ∷ [];
+      items = hearsTwo 3 1 false true ∷ hearsTwo 10 2 true true ∷ times 6 hearsNothing [];
+      answers = times 2 answer.Taken (times 2 answer.Silent (times 3 answer.Taken (reply 1 31 0 1 ∷ [])));
+      readings = bundledRead 1 10 0 1 ∷ [];
+    }
+
+pub one-undecoded : Worked oneUndecoded
+unfolding handsets stations
+one-undecoded = worked oneUndecoded refl tt tt refl refl
+
+-- Multiplexed: mode 1.
+
+-- M = 2, configuration 1: of the window of subframe 7, which is 0 and 1, the grant in 0 is lost. The state is D,A.
+abbrev pub laterOnly : Run
+laterOnly =
+    record {
+      set = cell 1 1;
+      sends = grant 1 3 1 ∷ grant 1 10 2 ∷ [];
+      items = hearsNothing ∷ hears 10 2 true ∷ times 6 hearsNothing [];
+      answers = times 2 answer.Taken (times 2 answer.Silent (times 3 answer.Taken (reply 2 31 0 0 ∷ [])));
+      readings = multiplexedRead 1 10 2 ∷ [];
+    }
+
+pub later-only : Worked laterOnly
+unfolding handsets stations
+later-only = worked laterOnly refl tt tt refl refl
+
+-- M = 2 in a cell of two blocks: all but the second block of the later grant is decoded. The state is A,N.
+abbrev pub secondUndecoded : Run
+secondUndecoded =
+    record {
+      set = twoBlockCell 1 1;
+      sends = grant 2 3 1 ∷ grant 2 10 2 ∷ [];
+      items = hearsTwo 3 1 true true ∷ hearsTwo 10 2 true false ∷ times 6 hearsNothing [];
+      answers = times 2 answer.Taken (times 2 answer.Silent (times 3 answer.Taken (reply 2 13 0 1 ∷ [])));
+      readings = multiplexedRead 0 3 1 ∷ [];
+    }
+
+pub second-undecoded : Worked secondUndecoded
+unfolding handsets stations
+second-undecoded = worked secondUndecoded refl tt tt refl refl
+
+-- M = 3, configuration 3: the window of subframe 12 is 5, 6 and 1. The grant in 6 alone is not decoded. The state is A,N,A.
+abbrev pub middleUndecoded : Run
+middleUndecoded =
+    record {
+      set = cell 3 1;
+      sends = nothing ∷ grant 1 4 1 ∷ nothing ∷ nothing ∷ nothing ∷ grant 1 12 2 ∷ grant 1 30 3 ∷ [];
+      items = hearsNothing ∷ hears 4 1 true ∷ times 3 hearsNothing (hears 12 2 true ∷ hears 30 3 false ∷ times 6 hearsNothing []);
+      answers = times 2 answer.Taken (times 3 answer.Silent (times 7 answer.Taken (reply 2 44 1 1 ∷ [])));
+      readings = multiplexedRead 0 12 5 ∷ [];
+    }
+
+pub middle-undecoded : Worked middleUndecoded
+unfolding handsets stations
+middle-undecoded = worked middleUndecoded refl tt tt refl refl
+
+-- M = 4, configuration 2: the window of subframe 12 is 4, 5, 8 and 6; A,A,D,D shares its symbol with A,A,A,N and others.
+abbrev pub shared : Run
+shared =
+    record {
+      set = cell 2 1;
+      sends = times 4 nothing (grant 1 0 1 ∷ grant 1 5 2 ∷ []);
+      items = times 4 hearsNothing (hears 0 1 true ∷ hears 5 2 true ∷ times 7 hearsNothing []);
+      answers = times 2 answer.Taken (answer.Silent ∷ times 4 answer.Taken (answer.Silent ∷ times 4 answer.Taken (reply 2 26 1 0 ∷ [])));
+      readings = multiplexedRead 1 5 3 ∷ [];
+    }
+
+pub symbol-shared : Worked shared
+unfolding handsets stations
+symbol-shared = worked shared refl tt tt refl refl

@@ -1,248 +1,193 @@
--- What the claim shuts out: for each "hollow engine" of document 01 ("Four questions about each public call") that demand 3 names,
--- a proof that it does not meet the claim; and for two ends that agree with each other and not with the formula. Each is the
--- engine of this repository but for one fault.
+-- What the statement shuts out, field by field. For each field that speaks of the engine there is the engine of this repository with
+-- one fault, and a proof that the statement does not hold of it. The proof asks the statement for this field, and for those that
+-- settle the witnesses it speaks of; without the field it no longer checks. The handsets are in WrongHandsets.antt, the stations in
+-- WrongStations.antt; here is what both use.
+--
+-- Demand3
+--   byFormula       all ends number the resources from the top of the range down            not-top-down
+--   oneToOne        the inverse answers position and first CCE exchanged (into)             not-back-exchanged
+--                   a single resource for everyone (once)                                   not-one-for-all
+--   givesBack       bits that 14 refuses are read as the first pair                         not-refused-as-first
+--   made            every cell is refused                                                   not-refuses-to-make
+--   run             by its fields, below; over a whole list: the first window only          not-first-only
+-- HoldsAfter
+--   refusedExactly  every feed is refused                                                   not-refuses-all
+--                   8 where there is nothing to send                                        not-refuses-silence
+--                   "taken" where a cause is met                                            not-refuses-none
+--   leaves          9 whatever the cause                                                    not-refuses-with-nine
+--                   the handset moves on at a refused feed                                  not-moves-on
+--   taken           "silent" for "taken"                                                    not-silent-for-taken
+--   noWindow        "silent" for "no window"                                                not-silent-for-no-window
+-- SentExactly, bundled and multiplexed
+--   sent when due   always silent                                not-always-silent, not-always-silent-multiplexed
+--                   silent as if missed before any grant                                    not-as-if-missed
+--   due when sent   V is held against the value for U + 1                                   not-counts-one-more
+--                   a reply in every window                                                 not-never-silent-multiplexed
+--   the reply       by its fields, below
+--   else silent     "no window" for "silent"       not-no-window-for-silent, not-no-window-for-silent-multiplexed
+-- BundledReply
+--   kind            a bundled reply goes out as a multiplexed one                           not-other-kind
+--   isRead          on the resource of the first heard grant                                not-on-first
+--                   both ends raised by 4000 resources                                      not-both-raised
+--                   the station refuses every bit pattern with 14                           not-refuses-bits
+--   first           the bits exchanged                                                      not-exchanged-first
+--                   the first bit is that of the last heard grant alone                     not-last-alone
+--   second          the bits exchanged                                                      not-exchanged-second
+--   bits            the second bit set in a cell of one block                               not-second-set
+--                   a NACK goes out as 2                                                    not-nack-as-two
+-- MultiplexedReply
+--   kind            a multiplexed reply goes out as a bundled one                           not-other-kind-multiplexed
+--   isSymbol        the bits exchanged: another row's symbol                                not-exchanged-symbol
+--   isHeard         the right position with the first CCE of another heard grant            not-on-first-cce
+--   onResource      on the resource of the first heard grant                                not-on-first-multiplexed
+--                   both ends raised by 4000 resources                                      not-both-raised-multiplexed
+--   isRead          the station refuses every bit pattern with 14                           not-refuses-bits-multiplexed
+--   exactly         the station marks no position delivered                                 not-delivers-nothing
+--                   it marks those that are A in one of the symbol's rows                   not-delivers-one-row
+--   noOther         it marks a position beyond the window                                   not-delivers-beyond
+--
+-- No engine can break the other fields: `exactlyOne` speaks of the table of windows alone; `index`, `granted` and `delivered` are
+-- witnesses, which `isSymbol`, `isHeard` and `isRead` settle. That the index is a position of the window needs no field: it follows
+-- from `isSymbol`, since the tables give no other (`index-inside` in MultiplexedWindow.antt). `refusedExactly` follows from the other fields of HoldsAfter, whatever the engine: a feed whose cause is
+-- met is refused by `leaves`, and any other is answered by one of the four after it; it says in one sentence what they say in five.
 -- Assumes nothing.
-use Prim.Native.Nat.{ℕ, _+_, _-_, _/_, _%_, _^_, _≤_}
-use mathlib.Core.Bool.{Bool, true, false, cond}
-use mathlib.Core.List.{[], _∷_}
+use Prim.Native.Nat.{ℕ, _+_, _%_}
+use mathlib.Core.Bool.{cond}
 use mathlib.Core.Logic.{inl}
-use mathlib.Core.Path.{_≡_, refl, ap, _∙_}
+use mathlib.Core.Path.{_≡_, refl, ap, sym, _∙_}
 use native.Mathlib.Omega.{arith}
-use lib.Dec.{ltb, eqb}
-use lib.ListN.{getD}
-use borrow.Author.Tests.{eqb-false}
+use lib.Dec.{eqb}
 use Rattle.frame.specs.declared.Settings.{Settings}
-use Rattle.frame.specs.Layout.{layouts, letterOf, downlink}
-use Rattle.frame.specs.Order.{timesOf, orderOf}
-use Rattle.frame.specs.Settings.{bundles, cellRefusal, modeRefusal, blocksRefusal, laterRefusal, settingsRefusal, noWindowRefusal, windowRefusal}
-use Rattle.frame.specs.Table.{table, windowOf}
-use Rattle.resource.specs.declared.Cce.{Cce}
+use Rattle.resource.specs.declared.Inverted.{Inverted}
 use Rattle.resource.specs.declared.Mapped.{Mapped}
-use Rattle.resource.specs.declared.Mapped.the-variants as mapped
-use Rattle.resource.specs.Calls.{pairRefusal, resourceOf, inverseOf}
-use Rattle.resource.proofs.OneToOne.{resource-range}
-use Rattle.resource.specs.Formula.{edge, regionOf, resourceNumber}
+use Rattle.resource.specs.Calls.{resourceOf, inverseOf}
 use Rattle.symbols.specs.declared.Symbol.{Symbol}
 use Rattle.symbols.specs.declared.Symbol.the-variants as symbol
-use Rattle.symbols.specs.Delivered.{deliveredAt}
-use Rattle.symbols.proofs.Reading.{delivered-exactly}
-use Rattle.symbols.specs.Selection.{symbolOf, tableOf, table4}
-use Rattle.reply.specs.declared.Answer.{Answer}
-use Rattle.reply.specs.declared.Answer.the-variants as answer
 use Rattle.heard.specs.declared.Heard.{Heard}
 use Rattle.heard.specs.declared.Heard.the-variants.{Nothing}
+use Rattle.reply.specs.declared.Answer.{Answer}
+use Rattle.reply.specs.declared.Answer.the-variants as answer
 use Rattle.reply.specs.declared.Reply.{Reply}
-use Rattle.fold.specs.Fold.{stepOf, seenFrom, seenOf}
-use Rattle.heard.specs.Heard.{uplinkRefusal, grantRefusal, heardRefusal, viewOf}
-use Rattle.heard.specs.Memory.{slotOf, heardIn, viewIn, viewAgo}
-use Rattle.reply.specs.Replies.{replyOn, expected, missShown, secondBit, bundledAnswer, windowAnswer}
 use Rattle.handset.specs.declared.Fed.{Fed}
 use Rattle.handset.specs.declared.Handset.{Handset}
-use Rattle.handset.specs.Feed.{answerOf, dueOf, pushed, feedRefusal, feedOf}
-use Rattle.handset.specs.Make.{fresh, makeOf}
-use Rattle.handset.specs.Sound.{slotSound, allSound, stateSound, stateRefusal}
+use Rattle.handset.specs.declared.Made.{Made}
+use Rattle.handset.specs.Feed.{feedOf}
+use Rattle.handset.specs.Make.{makeOf}
 use Rattle.station.specs.declared.Reading.{Reading}
-use Rattle.station.specs.declared.Reading.the-variants as reading
 use Rattle.station.specs.Readings.{readOf}
-use Rattle.agreement.specs.Demand3.{Engine, turnAt, Demand3}
-use Rattle.agreement.specs.Run.{grant, Turn, turns}
-use Rattle.agreement.proofs.Finite.{sending, scheduled, brought}
-use Rattle.agreement.proofs.Worked.{cell, hearsNothing, hears, Run, allHeard, shared, runs}
+use Rattle.agreement.specs.Demand3.{Engine, fedAt, HoldsAfter, Demand3}
+use Rattle.agreement.specs.Run.{heardInRun, sentAgo, heardAgo, windowAt}
+use Rattle.agreement.specs.Window.{inTime, Bundled, Multiplexed}
+use Rattle.agreement.proofs.Computing.{schedules}
+use Rattle.agreement.proofs.Finite.{sending}
+use Rattle.agreement.proofs.Worked.{Run, Worked, fed-nothing, allHeard, all-heard, missed, first-missed, oneUndecoded, one-undecoded, twoWindows, two-windows, shared, symbol-shared}
 
--- our engine with another feed, another resource call, another reading
+-- The engine of this repository, with another making, feeding, resource call, inverse or reading.
+abbrev pub engine : (Settings → Made) → (Handset → Heard → Fed) → (Settings → ℕ → ℕ → ℕ → Mapped) → (Settings → ℕ → ℕ → Inverted)
+    → (Settings → ℕ → ℕ → ℕ → ℕ → Reading) → Engine
+engine make step onto back read = record { make = make; feed = step; resource = onto; inverse = back; read = read }
+
+abbrev pub madeBy : (Settings → Made) → Engine
+madeBy make = engine make feedOf resourceOf inverseOf readOf
+
 abbrev pub fedBy : (Handset → Heard → Fed) → Engine
-fedBy step = record { make = makeOf; feed = step; resource = resourceOf; inverse = inverseOf; read = readOf }
+fedBy step = engine makeOf step resourceOf inverseOf readOf
 
 abbrev pub mappedBy : (Settings → ℕ → ℕ → ℕ → Mapped) → Engine
-mappedBy onto = record { make = makeOf; feed = feedOf; resource = onto; inverse = inverseOf; read = readOf }
+mappedBy onto = engine makeOf feedOf onto inverseOf readOf
+
+abbrev pub invertedBy : (Settings → ℕ → ℕ → Inverted) → Engine
+invertedBy back = engine makeOf feedOf resourceOf back readOf
 
 abbrev pub readBy : (Settings → ℕ → ℕ → ℕ → ℕ → Reading) → Engine
-readBy read = record { make = makeOf; feed = feedOf; resource = resourceOf; inverse = inverseOf; read = read }
+readBy read = engine makeOf feedOf resourceOf inverseOf read
 
--- our handset with its answers changed
-abbrev pub changed : (Answer → Answer) → Handset → Heard → Fed
-changed change h x = record { answer = change (feedOf h x .answer); handset = feedOf h x .handset }
+-- Our handset with its answers changed, by what it knows before the feed and by what it would answer; it remembers as ours does.
+abbrev pub changed : (Handset → Answer → Answer) → Handset → Heard → Fed
+changed change h x = record { answer = change h (feedOf h x .answer); handset = feedOf h x .handset }
 
--- Whatever is changed, the claim owes the run of two heard grants a bundled reply at subframe 7.
-due : (change : Answer → Answer) → Demand3 (fedBy (changed change)) → (a : Answer) × (r : Reply) × (change a ≡ answer.Sent r) × (r .kind ≡ 1)
-unfolding timesOf table windowOf heardRefusal uplinkRefusal grantRefusal downlink letterOf layouts edge
-due change d =
-    let w = runs .0 in
-    let h : Handset = makeOf (cell 1 0) .handset in
-    let turn : Turn = getD (turns (changed change) h (allHeard .items)) 7 (record { handset = h; brought = Nothing; fed = changed change h Nothing }) in
-    let c = d .run (cell 1 0) (w .accepted) (sending (allHeard .sends)) (w .schedule) (allHeard .items) (w .brings) in
-    let a = c .bundled 7 7 (record { inside = omega arith; accepted = refl; counted = refl }) (omega arith) (inl refl) in
-    let r = a .0 .1 (refl, inl refl) in
-    (feedOf (turn .handset) (turn .brought) .answer, r .0, r .1, a .1 (r .0) (r .1) .kind)
+abbrev pub knowsBy : (Handset → Answer → Answer) → Engine
+knowsBy change = fedBy (changed change)
 
--- A handset always silent.
-abbrev pub silenced : Answer → Answer
-silenced answer.Taken = answer.Taken
-silenced answer.NoWindow = answer.NoWindow
-silenced answer.Silent = answer.Silent
-silenced (answer.Sent r) = answer.Silent
-silenced (answer.Refused k) = answer.Refused k
+abbrev pub answersBy : (Answer → Answer) → Engine
+answersBy change = knowsBy (λ (h : Handset). change)
 
-never-sent : (a : Answer) (r : Reply) → silenced a ≡ answer.Sent r → ⊥
-never-sent answer.Taken r e = let z : _≡_ {A = ℕ} 0 1 = cc in omega arith
-never-sent answer.NoWindow r e = let z : _≡_ {A = ℕ} 0 1 = cc in omega arith
-never-sent answer.Silent r e = let z : _≡_ {A = ℕ} 0 1 = cc in omega arith
-never-sent (answer.Sent q) r e = let z : _≡_ {A = ℕ} 0 1 = cc in omega arith
-never-sent (answer.Refused k) r e = let z : _≡_ {A = ℕ} 0 1 = cc in omega arith
+-- By cases of an answer: "taken", "no window", "silent", a reply, a refusal.
+abbrev pub answering : {A : Type 0} → A → A → A → (Reply → A) → (ℕ → A) → Answer → A
+answering taken noWindow silent sent refused answer.Taken = taken
+answering taken noWindow silent sent refused answer.NoWindow = noWindow
+answering taken noWindow silent sent refused answer.Silent = silent
+answering taken noWindow silent sent refused (answer.Sent r) = sent r
+answering taken noWindow silent sent refused (answer.Refused k) = refused k
 
-pub not-always-silent : Demand3 (fedBy (changed silenced)) → ⊥
-not-always-silent d =
-    let r = due silenced d in
-    never-sent (r .0) (r .1) (r .2)
+-- Replies alone are changed; those of one kind alone are.
+abbrev pub replying : (Reply → Answer) → Answer → Answer
+replying sent = answering answer.Taken answer.NoWindow answer.Silent sent answer.Refused
 
--- A handset silent as if missed before any grant: no bundled reply goes out.
-abbrev pub unbundled : Answer → Answer
-unbundled answer.Taken = answer.Taken
-unbundled answer.NoWindow = answer.NoWindow
-unbundled answer.Silent = answer.Silent
-unbundled (answer.Sent r) = cond (eqb (r .kind) 1) answer.Silent (answer.Sent r)
-unbundled (answer.Refused k) = answer.Refused k
+abbrev pub replyingIn : ℕ → (Reply → Answer) → Answer → Answer
+replyingIn kind sent = replying (λ (r : Reply). cond (eqb (r .kind) kind) (sent r) (answer.Sent r))
 
-never-bundled : (a : Answer) (r : Reply) → unbundled a ≡ answer.Sent r → r .kind ≡ 1 → ⊥
-never-bundled answer.Taken r e k = let z : _≡_ {A = ℕ} 0 1 = cc in omega arith
-never-bundled answer.NoWindow r e k = let z : _≡_ {A = ℕ} 0 1 = cc in omega arith
-never-bundled answer.Silent r e k = let z : _≡_ {A = ℕ} 0 1 = cc in omega arith
-never-bundled (answer.Sent q) r e k = go (eqb (q .kind) 1) refl e
-  where
-    go : (b : Bool) → eqb (q .kind) 1 ≡ b → cond b answer.Silent (answer.Sent q) ≡ answer.Sent r → ⊥
-    go true b e = let z : _≡_ {A = ℕ} 0 1 = cc in omega arith
-    go false b e =
-        let same : q ≡ r = cc in
-        eqb-false (q .kind) 1 b (ap (λ (r : Reply). r .kind) same ∙ k)
-never-bundled (answer.Refused k′) r e k = let z : _≡_ {A = ℕ} 0 1 = cc in omega arith
+-- a reply on another resource, and one with other bits
+abbrev pub sentOn : Reply → ℕ → Answer
+sentOn r number = answer.Sent (record { kind = r .kind; resource = record { 0 = number }; b0 = r .b0; b1 = r .b1 })
 
-pub not-as-if-missed : Demand3 (fedBy (changed unbundled)) → ⊥
-not-as-if-missed d =
-    let r = due unbundled d in
-    never-bundled (r .0) (r .1) (r .2) (r .3)
+abbrev pub withBits : Reply → ℕ → ℕ → Answer
+withBits r b0 b1 = answer.Sent (record { kind = r .kind; resource = r .resource; b0 = b0; b1 = b1 })
 
--- A handset that refuses all.
-abbrev pub refusesAll : Handset → Heard → Fed
-refusesAll h x = record { answer = answer.Refused 9; handset = h }
+-- An answer by a number: two answers with different numbers are not the same.
+abbrev numberOf : Answer → ℕ
+numberOf = answering 0 1 2 (λ (r : Reply). 3) (λ (k : ℕ). 4 + k)
 
-pub not-refuses-all : Demand3 (fedBy refusesAll) → ⊥
-unfolding heardRefusal
-not-refuses-all d =
-    let c = d .run (cell 1 0) (runs .0 .accepted) (sending (allHeard .sends)) (runs .0 .schedule) (allHeard .items) (runs .0 .brings) in
-    c .refusedExactly 7 (omega arith) .0 (9, refl) refl
+pub same-answer : {a b c : Answer} → a ≡ b → a ≡ c → numberOf b ≡ numberOf c
+same-answer e f = ap numberOf (sym e ∙ f)
 
--- A handset that answers its first window and is silent after. It marks itself by expecting ten more.
-abbrev pub marked : Handset → Handset
-marked h = record { settings = h .settings; next = h .next + 10; past = h .past }
+-- A symbol's parts.
+pub symbol-parts : (i b0 b1 i′ b0′ b1′ : ℕ) → _≡_ {A = Symbol} (symbol.Sent i b0 b1) (symbol.Sent i′ b0′ b1′) → (i ≡ i′) × (b0 ≡ b0′) × (b1 ≡ b1′)
+symbol-parts i b0 b1 i′ b0′ b1′ e = (cc, cc, cc)
 
-abbrev pub unmarked : Handset → Handset
-unmarked h = record { settings = h .settings; next = h .next - 10; past = h .past }
+-- In a worked run the statement holds; it gives the reply at the uplink subframe s, which item s feeds with nothing.
+pub holds-in : (e : Engine) → Demand3 e → (r : Run) → Worked r → HoldsAfter e (r .set) (sending (r .sends)) (r .items)
+holds-in e d r w = d .run (r .set) (w .accepted) (sending (r .sends)) (w .schedule) (r .items) (w .brings)
 
-abbrev pub markedAfter : Answer → Handset → Handset
-markedAfter answer.Taken h = h
-markedAfter answer.NoWindow h = h
-markedAfter answer.Silent h = h
-markedAfter (answer.Sent r) h = marked h
-markedAfter (answer.Refused k) h = h
+abbrev pub BundledIn : Engine → Run → ℕ → Type 0
+BundledIn e r s =
+    Bundled (r .set) (e .resource (r .set) (s % 10)) (e .read (r .set) (s % 10)) (windowAt (r .set) s)
+    (inTime (sentAgo (sending (r .sends)) s) (heardAgo (heardInRun (r .set) (r .items)) s) (windowAt (r .set) s)) (fedAt e (r .set) (r .items) s Nothing .answer)
 
-abbrev pub firstOnly : Handset → Heard → Fed
-firstOnly h x =
-    cond (ltb (h .next) 10)
-    (record { answer = feedOf h x .answer; handset = markedAfter (feedOf h x .answer) (feedOf h x .handset) })
-    (record { answer = silenced (feedOf (unmarked h) x .answer); handset = marked (feedOf (unmarked h) x .handset) })
+abbrev pub MultiplexedIn : Engine → Run → ℕ → Type 0
+MultiplexedIn e r s =
+    Multiplexed (e .resource (r .set) (s % 10)) (e .read (r .set) (s % 10)) (windowAt (r .set) s) (heardAgo (heardInRun (r .set) (r .items)) s)
+    (inTime (sentAgo (sending (r .sends)) s) (heardAgo (heardInRun (r .set) (r .items)) s) (windowAt (r .set) s)) (fedAt e (r .set) (r .items) s Nothing .answer)
 
--- Configuration 0: subframe 4 answers for 0, subframe 7 for 1; both grants are heard.
-abbrev twoWindows : Run
-twoWindows =
-    record {
-      set = cell 0 0;
-      sends = grant 1 0 1 ∷ grant 1 0 1 ∷ [];
-      items = hears 0 1 true ∷ hears 0 1 true ∷ hearsNothing ∷ hearsNothing ∷ hearsNothing ∷ hearsNothing ∷ hearsNothing ∷ hearsNothing ∷ [];
-      answers = [];
-    }
+module _ (e : Engine) (d : Demand3 e) where
+  -- Two grants are heard, in 0 and 1, and answered at 7.
+  pub in-all-heard : BundledIn e allHeard 7
+  unfolding schedules
+  in-all-heard = holds-in e d allHeard all-heard .bundled 7 7 Nothing (fed-nothing allHeard 7 (omega arith) refl refl) (omega arith) (inl refl)
 
-pub not-first-only : Demand3 (fedBy firstOnly) → ⊥
-unfolding layouts letterOf downlink timesOf orderOf bundles cellRefusal modeRefusal blocksRefusal laterRefusal settingsRefusal noWindowRefusal windowRefusal table windowOf pairRefusal resourceOf edge regionOf resourceNumber stepOf seenFrom seenOf uplinkRefusal grantRefusal heardRefusal viewOf slotOf heardIn viewIn viewAgo replyOn expected missShown secondBit bundledAnswer windowAnswer answerOf dueOf pushed feedRefusal feedOf fresh makeOf slotSound allSound stateSound stateRefusal
-not-first-only d =
-    let c = d .run (cell 0 0) refl (sending (twoWindows .sends)) (scheduled (cell 0 0) (twoWindows .sends) tt) (twoWindows .items)
-    (brought (cell 0 0) (twoWindows .sends) (twoWindows .items) tt) in
-    let a = c .bundled 7 7 (record { inside = omega arith; accepted = refl; counted = refl }) (omega arith) (inl refl) in
-    let r = a .0 .1 (refl, inl refl) in
-    never-sent answer.Silent (r .0) (r .1)
+  -- The first of them is lost.
+  pub in-missed : BundledIn e missed 7
+  unfolding schedules
+  in-missed = holds-in e d missed first-missed .bundled 7 7 Nothing (fed-nothing missed 7 (omega arith) refl refl) (omega arith) (inl refl)
 
--- A single resource for everyone.
-abbrev pub oneForAll : Settings → ℕ → ℕ → ℕ → Mapped
-oneForAll s n m c = mapped.At (record { 0 = s .n1 })
+  -- Of their four blocks the first one of the earlier grant is not decoded.
+  pub in-one-undecoded : BundledIn e oneUndecoded 7
+  unfolding schedules
+  in-one-undecoded =
+      holds-in e d oneUndecoded one-undecoded .bundled 7 7 Nothing (fed-nothing oneUndecoded 7 (omega arith) refl refl) (omega arith) (inl refl)
 
-pub not-one-for-all : Demand3 (mappedBy oneForAll) → ⊥
-unfolding windowRefusal noWindowRefusal settingsRefusal cellRefusal modeRefusal blocksRefusal laterRefusal windowOf table
-not-one-for-all d = omega (arith, d .oneToOne (cell 1 0) 2 refl .once 0 0 1 0 10 refl refl .0)
+  -- Two grants, in two windows, are heard; the second is answered at 7.
+  pub in-two-windows : BundledIn e twoWindows 7
+  unfolding schedules
+  in-two-windows = holds-in e d twoWindows two-windows .bundled 7 7 Nothing (fed-nothing twoWindows 7 (omega arith) refl refl) (omega arith) (inl refl)
 
--- A station that marks no position delivered.
-abbrev pub emptied : Reading → Reading
-emptied (reading.Bundled m c b0 b1) = reading.Bundled m c b0 b1
-emptied (reading.Multiplexed m c p) = reading.Multiplexed m c 0
-emptied (reading.Refused k) = reading.Refused k
+  -- Multiplexed: the state A,A,D,D is answered at 12; nothing was heard before 7.
+  pub in-shared : MultiplexedIn e shared 12
+  unfolding schedules
+  in-shared =
+      holds-in e d shared symbol-shared .multiplexed 12 12 Nothing (fed-nothing shared 12 (omega arith) refl refl) (omega arith) refl (λ one. omega arith)
 
-abbrev pub deliversNothing : Settings → ℕ → ℕ → ℕ → ℕ → Reading
-deliversNothing s n r b0 b1 = emptied (readOf s n r b0 b1)
-
-no-set : (x : Reading) (m : ℕ) (c : Cce) (p : ℕ) → emptied x ≡ reading.Multiplexed m c p → p ≡ 0
-no-set (reading.Bundled m′ c′ b0 b1) m c p e = let z : _≡_ {A = ℕ} 0 1 = cc in absurd (omega arith)
-no-set (reading.Multiplexed m′ c′ p′) m c p e = cc
-no-set (reading.Refused k) m c p e = let z : _≡_ {A = ℕ} 0 1 = cc in absurd (omega arith)
-
-symbol-parts : (i b0 b1 : ℕ) → _≡_ {A = Symbol} (symbol.Sent 1 1 0) (symbol.Sent i b0 b1) → (i ≡ 1) × (b0 ≡ 1) × (b1 ≡ 0)
-symbol-parts i b0 b1 e = (cc, cc, cc)
-
--- in the run with the shared symbol (1, 10) position 0 is A in every state that sends it
-pub not-delivers-nothing : Demand3 (readBy deliversNothing) → ⊥
-unfolding timesOf table windowOf heardRefusal uplinkRefusal grantRefusal downlink letterOf layouts edge symbolOf tableOf table4 deliveredAt
-not-delivers-nothing d =
-    let w = runs .1 .1 .1 .1 .0 in
-    let c = d .run (cell 2 1) (w .accepted) (sending (shared .sends)) (w .schedule) (shared .items) (w .brings) in
-    let a = c .multiplexed 12 12 (record { inside = omega arith; accepted = refl; counted = refl }) (omega arith) refl (λ e. omega arith) in
-    let r = a .0 .1 refl in
-    let m = a .1 (r .0) (r .1) in
-    let none : m .delivered ≡ 0 = no-set (readOf (cell 2 1) 2 (r .0 .resource .0) (r .0 .b0) (r .0 .b1)) _ _ _ (m .isRead) in
-    let same : (m .index ≡ 1) × (r .0 .b0 ≡ 1) × (r .0 .b1 ≡ 0) = symbol-parts _ _ _ (m .isSymbol) in
-    let bit : m .delivered / 2 ^ 0 % 2 ≡ 1 = m .exactly 0 (omega arith) .1 (λ ss size sent. delivered-exactly 4 1 1 0 0 .0 refl ss size (sent ∙ rw (same .0, same .1, same .2))) in
-    omega arith
-
--- A handset that sends every reply 4000 resources higher, and a station that reads it so: they agree, and with nobody else.
-abbrev pub raised : Answer → Answer
-raised answer.Taken = answer.Taken
-raised answer.NoWindow = answer.NoWindow
-raised answer.Silent = answer.Silent
-raised (answer.Sent r) = answer.Sent (record { kind = r .kind; resource = record { 0 = r .resource .0 + 4000 }; b0 = r .b0; b1 = r .b1 })
-raised (answer.Refused k) = answer.Refused k
-
-abbrev pub raisedReading : Settings → ℕ → ℕ → ℕ → ℕ → Reading
-raisedReading s n r b0 b1 = readOf s n (cond (ltb r 4000) r (r - 4000)) b0 b1
-
-abbrev pub bothRaised : Engine
-bothRaised = record { make = makeOf; feed = changed raised; resource = resourceOf; inverse = inverseOf; read = raisedReading }
-
-raised-high : (a : Answer) (r : Reply) → raised a ≡ answer.Sent r → 4000 ≤ r .resource .0
-raised-high answer.Taken r e = let z : _≡_ {A = ℕ} 0 1 = cc in absurd (omega arith)
-raised-high answer.NoWindow r e = let z : _≡_ {A = ℕ} 0 1 = cc in absurd (omega arith)
-raised-high answer.Silent r e = let z : _≡_ {A = ℕ} 0 1 = cc in absurd (omega arith)
-raised-high (answer.Sent q) r e =
-    let same : _≡_ {A = Reply} (record { kind = q .kind; resource = record { 0 = q .resource .0 + 4000 }; b0 = q .b0; b1 = q .b1 }) r = cc in
-    let higher = ap (λ (r : Reply). r .resource .0) same in
-    omega arith
-raised-high (answer.Refused k) r e = let z : _≡_ {A = ℕ} 0 1 = cc in absurd (omega arith)
-
-pub not-both-raised : Demand3 bothRaised → ⊥
-unfolding timesOf table windowOf heardRefusal uplinkRefusal grantRefusal downlink letterOf layouts edge windowRefusal noWindowRefusal settingsRefusal cellRefusal modeRefusal blocksRefusal laterRefusal
-not-both-raised d =
-    let w = runs .0 in
-    let h : Handset = makeOf (cell 1 0) .handset in
-    let turn : Turn = turnAt bothRaised (cell 1 0) (allHeard .items) 7 in
-    let c = d .run (cell 1 0) (w .accepted) (sending (allHeard .sends)) (w .schedule) (allHeard .items) (w .brings) in
-    let a = c .bundled 7 7 (record { inside = omega arith; accepted = refl; counted = refl }) (omega arith) (inl refl) in
-    let r = a .0 .1 (refl, inl refl) in
-    let high = raised-high (feedOf (turn .handset) (turn .brought) .answer) (r .0) (r .1) in
-    let m = a .1 (r .0) (r .1) .isRead 6 10 refl in
-    let range = resource-range (cell 1 0) 7 refl (m .0) 10 (r .0 .resource .0) (m .3) in
-    omega (arith, range .1)
+  pub in-shared-before : MultiplexedIn e shared 7
+  unfolding schedules
+  in-shared-before =
+      holds-in e d shared symbol-shared .multiplexed 7 7 Nothing (fed-nothing shared 7 (omega arith) refl refl) (omega arith) refl (λ one. omega arith)

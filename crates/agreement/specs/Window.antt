@@ -123,7 +123,6 @@ pub record MultiplexedReply (resource : ℕ → ℕ → Mapped) (read : ℕ → 
   -- "01's symbol for its state is sent": its index and its two bits
   pub index : ℕ
   pub isSymbol : symbolOf states ≡ symbol.Sent index (r .b0) (r .b1)
-  pub position : index < length ks
   -- the grant at its index, on whose resource it is sent
   pub granted : Grant
   pub isHeard : heard (getD ks index 0) ≡ Granted granted
