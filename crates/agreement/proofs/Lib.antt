@@ -1,6 +1,7 @@
 pub mod BundledWindow
 pub mod Computing
 pub mod Confirmation
+pub mod ConfirmedRuns
 pub mod Demand3
 pub mod Entries
 pub mod Exactly

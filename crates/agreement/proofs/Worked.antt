@@ -291,6 +291,21 @@ pub one-undecoded : Worked oneUndecoded
 unfolding handsets stations
 one-undecoded = worked oneUndecoded refl tt tt refl refl
 
+-- The same with a sole block in 1, which decoded and stands for both: the second bit alone is ACK.
+abbrev pub soleBlock : Run
+soleBlock =
+    record {
+      set = twoBlockCell 1 0;
+      sends = grant 2 3 1 ∷ grant 1 10 2 ∷ [];
+      items = hearsTwo 3 1 false true ∷ hears 10 2 true ∷ times 6 hearsNothing [];
+      answers = times 2 answer.Taken (times 2 answer.Silent (times 3 answer.Taken (reply 1 31 0 1 ∷ [])));
+      readings = bundledRead 1 10 0 1 ∷ [];
+    }
+
+pub sole-block : Worked soleBlock
+unfolding handsets stations
+sole-block = worked soleBlock refl tt tt refl refl
+
 -- Multiplexed: mode 1.
 
 -- M = 2, configuration 1: of the window of subframe 7, which is 0 and 1, the grant in 0 is lost. The state is D,A.

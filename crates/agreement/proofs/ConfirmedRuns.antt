@@ -1,0 +1,71 @@
+-- Runs in which blocks are confirmed: what a station confirms is something. Which blocks, in the worked runs of Worked.antt.
+-- Assumes nothing.
+use Prim.Native.Nat.{ℕ, zero, suc}
+use mathlib.Core.Bool.{Bool, cond}
+use mathlib.Core.List.{List, [], _∷_}
+use mathlib.Core.Path.{_≡_, refl}
+use lib.ListN.{length, getD}
+use Rattle.station.specs.declared.Reading.the-variants as reading
+use Rattle.confirmation.specs.Confirmed.{confirmed}
+use Rattle.agreement.specs.Run.{sentAgo, windowAt}
+use Rattle.agreement.proofs.Computing.{schedules}
+use Rattle.agreement.proofs.Finite.{sending}
+use Rattle.agreement.proofs.Worked.{Run, fourHeard, fourLost, eightLost, missed, oneUndecoded, soleBlock, secondUndecoded, middleUndecoded, shared}
+
+-- the numbers, of `count` from i on, that pass the test
+abbrev passing : (ℕ → Bool) → ℕ → ℕ → List ℕ
+passing f zero i = []
+passing f (suc count) i = cond (f i) (i ∷ passing f count (suc i)) (passing f count (suc i))
+
+-- The positions of the window of subframe s whose block the reading of the run's first reply confirms.
+abbrev positions : Run → ℕ → ℕ → List ℕ
+positions r s block =
+    passing (λ (m : ℕ). confirmed (windowAt (r .set) s) (sentAgo (sending (r .sends)) s) (getD (r .readings) 0 (reading.Refused 0)) m block)
+    (length (windowAt (r .set) s)) 0
+
+-- Those of a first or only block, and those of a second one.
+abbrev Confirms : Run → ℕ → List ℕ → List ℕ → Type 0
+Confirms r s first second = (positions r s 0 ≡ first) × (positions r s 1 ≡ second)
+
+-- Four sent and heard, of which the one named is the last: all four. K is 13,12,9,8,7,5,4,11,6; subframes 0, 1, 3 and 4 are the
+-- positions 1, 7, 2 and 3.
+pub four-sent : Confirms fourHeard 12 (1 ∷ 2 ∷ 3 ∷ 7 ∷ []) []
+unfolding schedules confirmed
+four-sent = (refl, refl)
+
+-- Five sent, the first four lost: the one named alone; and so of nine sent, the first eight lost.
+pub five-sent : Confirms fourLost 12 (4 ∷ []) []
+unfolding schedules confirmed
+five-sent = (refl, refl)
+
+pub nine-sent : Confirms eightLost 22 (6 ∷ []) []
+unfolding schedules confirmed
+nine-sent = (refl, refl)
+
+-- Two blocks, of which the first bit is NACK: the second blocks of both grants.
+pub second-bit : Confirms oneUndecoded 7 [] (0 ∷ 1 ∷ [])
+unfolding schedules confirmed
+second-bit = (refl, refl)
+
+-- The later grant carries a sole block: the second bit confirms it, and no second block there.
+pub sole : Confirms soleBlock 7 (1 ∷ []) (0 ∷ [])
+unfolding schedules confirmed
+sole = (refl, refl)
+
+-- Multiplexed: both blocks of the position that is A; two positions of three; the two that every state of a shared symbol has.
+pub delivered-two-blocks : Confirms secondUndecoded 7 (0 ∷ []) (0 ∷ [])
+unfolding schedules confirmed
+delivered-two-blocks = (refl, refl)
+
+pub delivered-two-of-three : Confirms middleUndecoded 12 (0 ∷ 2 ∷ []) []
+unfolding schedules confirmed
+delivered-two-of-three = (refl, refl)
+
+pub delivered-shared : Confirms shared 12 (0 ∷ 1 ∷ []) []
+unfolding schedules confirmed
+delivered-shared = (refl, refl)
+
+-- A silent window confirms nothing: there is no reply to read.
+pub silent : Confirms missed 7 [] []
+unfolding schedules confirmed
+silent = (refl, refl)
