@@ -7,7 +7,7 @@ use lib.Dec.{ltb}
 use Rattle.frame.specs.declared.Settings.{Settings}
 use Rattle.frame.specs.Settings.{windowRefusal}
 use Rattle.resource.specs.Calls.{ccesOf, sizeOf}
-use Rattle.resource.proofs.Counts.{cces-answered, resources-most}
+use Rattle.resource.proofs.Counts.{cces-answered, window-resources}
 use Rattle.claims.specs.declared.ClaimedWindow.{ClaimedWindow}
 use Rattle.claims.specs.Claims.{resourcesOf, roomOf, isBad}
 use Rattle.claims.specs.Marking.{Accepted}
@@ -29,4 +29,4 @@ module _ (w : ClaimedWindow) (known : Accepted w) where
   bad-read claim = rw (known .positions, known .cces)
 
   pub room-most : w .size * w .top ≤ 1206
-  room-most = rw (known .positions, known .cces) (resources-most (w .s) (w .n) (known .accepted))
+  room-most = rw (known .positions, known .cces) (window-resources (w .s) (w .n) (known .accepted))

@@ -10,7 +10,7 @@ use Rattle.frame.proofs.Accepted.{answered, not-outside}
 use Rattle.frame.proofs.Windows.{window-size}
 use Rattle.resource.specs.Formula.{edge}
 use Rattle.resource.specs.Calls.{ccesOf, sizeOf}
-use Rattle.resource.proofs.Edges.{edge-least, edge-most}
+use Rattle.resource.proofs.Edges.{edge-least, resources-most}
 
 module _ (s : Settings) (n : ℕ) (e : windowRefusal s n ≡ 0) where
   pub cces-answered : ccesOf (s .nrb) ≡ edge (s .nrb) 4
@@ -22,6 +22,5 @@ module _ (s : Settings) (n : ℕ) (e : windowRefusal s n ≡ 0) where
       let a = answered s n e in
       mul-le-mul {n₁ = 1} {m₁ = 1} (a .1) (omega (arith, edge-least (s .nrb) (a .0 .nrbLeast)))
 
-  pub resources-most : sizeOf s n * edge (s .nrb) 4 ≤ 1206
-  resources-most =
-      mul-le-mul {n₂ = 9} {m₂ = 134} (window-size (s .config) n) (edge-most (s .nrb) (answered s n e .0 .nrbMost))
+  pub window-resources : sizeOf s n * edge (s .nrb) 4 ≤ 1206
+  window-resources = resources-most (s .nrb) (sizeOf s n) (window-size (s .config) n) (answered s n e .0 .nrbMost)

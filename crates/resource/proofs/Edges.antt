@@ -1,8 +1,9 @@
 -- Laws of the edges N_p and of the region search: N_p does not fall, and each CCE below N_4 lies in exactly one region.
 -- Assumes nothing.
-use Prim.Native.Nat.{ℕ, zero, suc, _+_, _<_, _≤_}
+use Prim.Native.Nat.{ℕ, zero, suc, _+_, _*_, _<_, _≤_}
 use mathlib.Core.Path.{_≡_}
 use native.Mathlib.Decide.{decLt}
+use native.Mathlib.Nat.{mul-le-mul}
 use native.Mathlib.Omega.{arith}
 use borrow.Author.Tests.{lt-ltb, le-ltb}
 use Rattle.resource.specs.Formula.{edge, regionOf}
@@ -63,3 +64,7 @@ region-only nrb c (suc (suc (suc zero))) i =
     rw
     (le-ltb c (edge nrb 1) (omega (arith, i .low)), le-ltb c (edge nrb 2) (omega (arith, i .low)), le-ltb c (edge nrb 3) (i .low))
 region-only nrb c (suc (suc (suc (suc p)))) i = absurd (omega (arith, i .region))
+
+-- A window has at most 9 × 134 resources.
+pub resources-most : (nrb size : ℕ) → size ≤ 9 → nrb ≤ 110 → size * edge nrb 4 ≤ 1206
+resources-most nrb size h top = mul-le-mul {n₂ = 9} {m₂ = 134} h (edge-most nrb top)

@@ -2,19 +2,15 @@
 -- Assumes nothing.
 use Prim.Native.Nat.{ℕ, _+_, _-_, _*_, _/_, _%_, _<_, _≤_}
 use mathlib.Core.Path.{_≡_, refl}
-use native.Mathlib.Nat.{div-lt-iff-lt-mul, mul-comm, mul-le-mul}
+use native.Mathlib.Nat.{div-lt-iff-lt-mul, mul-comm}
 use native.Mathlib.Omega.{arith}
 use Rattle.resource.specs.Bounds.{Bounds}
 use Rattle.resource.specs.Formula.{edge, regionOf, resourceNumber, regionBack, positionBack, cceBack}
-use Rattle.resource.proofs.Edges.{In, edge-most, edge-top, region-in}
+use Rattle.resource.proofs.Edges.{In, edge-most, edge-top, region-in, resources-most}
 use Rattle.resource.proofs.Layers.{back}
 use Rattle.resource.proofs.OneToOne.{Forth, forth}
 
 module _ (nrb n1 size : ℕ) (bounds : Bounds nrb n1 size) where
-  -- A window has at most 9 × 134 resources.
-  pub resources-most : size * edge nrb 4 ≤ 1206
-  resources-most = mul-le-mul {n₂ = 9} {m₂ = 134} (bounds .sizeMost) (edge-most nrb (bounds .nrbMost))
-
   pub record Computed (m c p low high : ℕ) : Type 0 where
     pub region : p ≤ 3
     pub number : (size - m - 1) * low + m * high + c + n1 ≡ resourceNumber nrb n1 size m c
@@ -27,7 +23,7 @@ module _ (nrb n1 size : ℕ) (bounds : Bounds nrb n1 size) where
       let i : In nrb c (regionOf nrb c) = region-in nrb c top in
       let f : Forth nrb n1 size m c (resourceNumber nrb n1 size m c) = forth nrb n1 size m c h top in
       let e : (size - m - 1) * low + m * high + c + n1 ≡ resourceNumber nrb n1 size m c = rw (el, eh, ep) in
-      record { region = omega (arith, i .region); number = e; most = omega (arith, f .high, resources-most, bounds .n1Most) }
+      record { region = omega (arith, i .region); number = e; most = omega (arith, f .high, resources-most nrb size (bounds .sizeMost) (bounds .nrbMost), bounds .n1Most) }
 
   -- The quotient of a number of the range lies below N_4.
   pub quotient : (t : ℕ) → t < size * edge nrb 4 → t / size < edge nrb 4
