@@ -14,11 +14,11 @@ use Rattle.resource.proofs.OneToOne.{resource-range}
 use Rattle.resource.proofs.Sized.{resource-told}
 use Rattle.claims.specs.declared.ClaimedWindow.{ClaimedWindow}
 use Rattle.claims.specs.Claims.{positionIn, cceIn, claimed, resourcesOf, roomOf, isResource}
-use Rattle.claims.specs.Marking.{Has, Accepted, Byte}
+use Rattle.claims.specs.Marking.{Has, AcceptedWindow, Byte}
 use Rattle.claims.proofs.Share.{has-resource}
 
 -- what was asked for the claim, and answered
-module _ (w : ClaimedWindow) (known : Accepted w) (claim c : ℕ) (a : Mapped) (cce : c ≡ claim % 256)
+module _ (w : ClaimedWindow) (known : AcceptedWindow w) (claim c : ℕ) (a : Mapped) (cce : c ≡ claim % 256)
     (asked : a ≡ resourceSized (w .s) (w .size) (claim / 256) c) where
   answer : claimed (w .s) (w .n) claim ≡ a
   answer =

@@ -12,7 +12,7 @@ use Rattle.frame.specs.Settings.{orElse, windowRefusal}
 use Rattle.claims.specs.declared.Checked.{Checked}
 use Rattle.claims.specs.declared.Checked.the-variants.{Clean, Clash, Refused}
 use Rattle.claims.specs.Claims.{roomOf, firstBad, firstClash, scratchRefusal, checkedOn, refusedOr, checkedOf, markedUpTo, markedScratch, scratchAfter, scratchOf}
-use Rattle.claims.specs.Marking.{Accepted, Ready}
+use Rattle.claims.specs.Marking.{AcceptedWindow, Ready}
 use Rattle.claims.proofs.Read.{room}
 use Rattle.claims.proofs.Marks.{none-marked}
 
@@ -34,7 +34,7 @@ module _ (s : Settings) (n : ℕ) (claims old : List ℕ) where
   unfolding checkedOf scratchRefusal
   refused k e h = right (Refused k 0) old (refused-as k (windowRefusal s n) _ _ e h) refl
 
-  module _ (size top : ℕ) (known : Accepted (record { s = s; n = n; size = size; top = top })) where
+  module _ (size top : ℕ) (known : AcceptedWindow (record { s = s; n = n; size = size; top = top })) where
     -- 15
     pub short : length old < size * top → Right (Refused 15 0) old
     unfolding checkedOf scratchRefusal

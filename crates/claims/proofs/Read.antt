@@ -10,16 +10,16 @@ use Rattle.resource.specs.Calls.{ccesOf, sizeOf}
 use Rattle.resource.proofs.Counts.{cces-answered, window-resources}
 use Rattle.claims.specs.declared.ClaimedWindow.{ClaimedWindow}
 use Rattle.claims.specs.Claims.{resourcesOf, roomOf, isBad}
-use Rattle.claims.specs.Marking.{Accepted}
+use Rattle.claims.specs.Marking.{AcceptedWindow}
 
 -- What was read before the claims are M and N_4.
 pub window-read : (s : Settings) (n k top : ℕ) (size : ℕ) → k ≡ windowRefusal s n → k ≡ 0 → size ≡ sizeOf s n
-    → top ≡ ccesOf (s .nrb) → Accepted (record { s = s; n = n; size = size; top = top })
+    → top ≡ ccesOf (s .nrb) → AcceptedWindow (record { s = s; n = n; size = size; top = top })
 window-read s n k top size asked none ew et =
     let accepted = sym asked ∙ none in
     record { accepted = accepted; positions = ew; cces = et ∙ cces-answered s n accepted }
 
-module _ (w : ClaimedWindow) (known : Accepted w) where
+module _ (w : ClaimedWindow) (known : AcceptedWindow w) where
   pub room : w .size * w .top ≡ roomOf (w .s) (w .n)
   unfolding roomOf resourcesOf
   room = rw (known .positions, known .cces)

@@ -18,14 +18,14 @@ abbrev pub Has : Settings → ℕ → ℕ → ℕ → Type 0
 Has s n claim r = claimed s n claim ≡ mapped.At (record { 0 = r })
 
 -- 1 to 7 are not met, and the numbers are M and N_4.
-pub record Accepted (w : ClaimedWindow) : Type 0 where
+pub record AcceptedWindow (w : ClaimedWindow) : Type 0 where
   pub accepted : windowRefusal (w .s) (w .n) ≡ 0
   pub positions : w .size ≡ sizeOf (w .s) (w .n)
   pub cces : w .top ≡ edge (w .s .nrb) 4
 
 -- No claim is bad either, and the scratch is long enough and cleared.
 pub record Ready (w : ClaimedWindow) (claims scratch : List ℕ) : Type 0 where
-  pub accepted : Accepted w
+  pub accepted : AcceptedWindow w
   pub good : length claims ≤ firstBad (w .s) (w .n) claims
   pub room : roomOf (w .s) (w .n) ≤ length scratch
   pub cleared : scratch ≡ markedUpTo (w .s) (w .n) claims scratch 0

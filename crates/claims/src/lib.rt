@@ -5,7 +5,7 @@ use resource::Mapped;
 ghost use mathlib.Core.Path.{_≡_};
 ghost use lib.ListN.{length, replicate};
 ghost use Rattle.claims.specs.Claims.{isBad, firstBad, firstClash, markedUpTo, checkedOf, scratchOf};
-ghost use Rattle.claims.specs.Marking.{Accepted, Ready, Byte};
+ghost use Rattle.claims.specs.Marking.{AcceptedWindow, Ready, Byte};
 
 // The answer: clean; the index of the first claim equal to an earlier one; or a refusal's number with an index, that of the first
 // bad claim for 16, else 0.
@@ -54,7 +54,7 @@ pub fn claims_of(s: Settings, n: u16, claims: &[u16], scratch: &mut [u8]) -> Che
 
 // 16: m not below M or CCE not below N_4.
 fn is_bad(w: ClaimedWindow, claim: u16) -> bool
-    requires { ⌜ Accepted w ⌝ }
+    requires { ⌜ AcceptedWindow w ⌝ }
     ensures { λ r. ⌜ r ≡ isBad (w .s) (w .n) claim ⌝ }
 {
     if claim / 256 < w.size {
@@ -67,7 +67,7 @@ fn is_bad(w: ClaimedWindow, claim: u16) -> bool
 
 // The first bad claim; the length of the list where none is bad.
 fn first_bad(w: ClaimedWindow, claims: &[u16]) -> usize
-    requires { ⌜ Accepted w ⌝ }
+    requires { ⌜ AcceptedWindow w ⌝ }
     ensures { λ r. ⌜ r ≡ firstBad (w .s) (w .n) (now (claims .entry)) ⌝ }
 {
     let mut i = 0;
@@ -93,7 +93,7 @@ fn clear(bytes: &mut [u8])
 
 // The byte of a claim, its resource less N1; 0 for a claim without a resource, so that no claim has a byte past the room.
 fn byte_of(w: ClaimedWindow, claim: u16) -> usize
-    requires { ⌜ Accepted w ⌝ }
+    requires { ⌜ AcceptedWindow w ⌝ }
     ensures { λ t. ⌜ Byte (w .s) (w .n) claim t ⌝ }
 {
     let s = w.s;

@@ -3,7 +3,7 @@ use mathlib.Core.Path.{sym}
 use native.Mathlib.Omega.{arith}
 use lib.Seq.{length-take-le}
 use borrow.Author.Needs.{needs}
-use Rattle.claims.specs.Marking.{Accepted}
+use Rattle.claims.specs.Marking.{AcceptedWindow}
 use Rattle.claims.proofs.Read.{window-read, room-most}
 use Rattle.claims.proofs.Checks.{refused, short, bad, ready, clash, clean}
 use Rattle.claims.proofs.claims_of.Statement.{statement}
@@ -24,7 +24,7 @@ cces-of-requires c κs = search needs
 -- the window that was read
 window : (c : tie.After-cces-of) →
     let a = c .before .before .before .before .before .before .args in
-    Accepted (record { s = a .s; n = a .n; size = c .before .size-of .result; top = c .cces-of .result })
+    AcceptedWindow (record { s = a .s; n = a .n; size = c .before .size-of .result; top = c .cces-of .result })
 window c =
     let a = c .before .before in
     window-read _ _ _ _ _ (a .before .window-refusal .ensures) (a .if1 .left) (c .before .size-of .ensures) (c .cces-of .ensures)
