@@ -1,16 +1,16 @@
--- What a station confirms was decoded (specs/Confirmation.antt), of every engine that meets demand 3, and so of the engine of this
--- repository. A bundled reply is sent where 0, 4 or 8 grants before the last heard one were lost, and is read as that one; so an
--- ACK holds only for grants that were received (confirmation/proofs/Received.antt), and it says that each decoded its block.
+-- One window that was answered, from what demand 3 says of it: which of its grants were heard, and that what the reading confirms was
+-- decoded. A bundled reply is sent where 0, 4 or 8 grants before the last heard one were lost, and is read as that one; so an ACK
+-- holds only for grants that were received (confirmation/proofs/Received.antt), and it says that each decoded its block.
 -- Assumes nothing.
-use Prim.Native.Nat.{ℕ, zero, suc, _-_, _/_, _%_, _^_, _<_, _≤_, suc-le-suc}
+use Prim.Native.Nat.{ℕ, zero, suc, _-_, _%_, _<_, _≤_, suc-le-suc}
 use mathlib.Core.Bool.{Bool, true, false, cond, _&&_, _||_, false≢true}
 use mathlib.Core.List.{List, [], _∷_, map}
-use mathlib.Core.Logic.{_⊎_, inl, inr, ⊎-elim}
+use mathlib.Core.Logic.{inl, inr, ⊎-elim}
 use mathlib.Core.Path.{_≡_, refl, sym, ap, _∙_}
 use native.Mathlib.Decide.{ℕ-discrete}
 use native.Mathlib.Nat.{le-of-suc-le-suc, not-suc-le-zero}
 use native.Mathlib.Omega.{arith}
-use lib.Dec.{eqb, leb, ltb}
+use lib.Dec.{eqb, leb}
 use lib.ListN.{length, getD, length-map}
 use borrow.Author.Tests.{eqb-true, eqb-false, eq-eqb, ne-eqb, lt-ltb, le-ltb}
 use Rattle.frame.specs.declared.Settings.{Settings}
@@ -26,9 +26,9 @@ use Rattle.station.specs.declared.Reading.{Reading}
 use Rattle.station.specs.declared.Reading.the-variants as reading
 use Rattle.confirmation.specs.declared.Send.{Send}
 use Rattle.confirmation.specs.declared.Send.the-variants as send
-use Rattle.confirmation.specs.Confirmed.{namedSent, holdsFor, acknowledged, saysAck, confirmed}
+use Rattle.confirmation.specs.Confirmed.{holdsFor, confirmed}
 use Rattle.confirmation.specs.Sent.{isGrant, blocksOf}
-use Rattle.confirmation.proofs.Confirmed.{both, carried}
+use Rattle.confirmation.proofs.Confirmed.{BundledConfirmed, bundled-exactly, multiplexed-exactly, says-holds}
 use Rattle.confirmation.proofs.Received.{lostUpTo, none-before, holds-received}
 use Rattle.heard.specs.declared.Grant.{Grant}
 use Rattle.heard.specs.declared.Heard.{Heard}
@@ -38,13 +38,10 @@ use Rattle.heard.proofs.Valid.{valid}
 use Rattle.reply.specs.declared.Answer.{Answer}
 use Rattle.reply.specs.declared.Answer.the-variants as answer
 use Rattle.reply.specs.declared.Reply.{Reply}
-use Rattle.agreement.specs.Confirmation.{decodedBlock, ConfirmedDecoded}
-use Rattle.agreement.specs.Demand3.{Engine, feedbackEngine, Demand3}
-use Rattle.agreement.specs.Run.{asHeard, sentAgo, heardAgo, heardInRun, windowAt, Schedule, Brings}
+use Rattle.agreement.specs.Confirmation.{decodedBlock}
+use Rattle.agreement.specs.Run.{asHeard, sentAgo, windowAt, Schedule, Brings}
 use Rattle.agreement.specs.Window.{isHeard, anyHeard, lostBefore, Last, unheard, heardAt, asLast, later, lastHeard, decodedFirst, decodedSecond, EveryHeard, stateIn, BundledReply, Bundled, Multiplexed}
-use Rattle.agreement.proofs.Demand3.{demand3}
-use Rattle.agreement.proofs.Entries.{AllOf, of-all, entry, in-window, last-of, some-last}
-use Rattle.agreement.proofs.Feeds.{ago-brings}
+use Rattle.agreement.proofs.Entries.{AllOf, of-all, entry, in-window, last-of, some-last, none-heard}
 
 -- Each number of a list is smaller than the ones before it.
 abbrev Falls : List ℕ → Type 0
@@ -140,6 +137,21 @@ module _ (S : ℕ → Send) (H : ℕ → Heard) (brings : (k : ℕ) → Brings (
           let here = last-here j ts k c t e .0 in
           rw (t, le-ltb k j (omega arith), none-before S (λ (j : ℕ). isHeard (H j)) k ts (λ i m. let before = falls-head j ts f i m in omega arith))
 
+  -- After the last heard one none was heard.
+  none-after : (ts : List ℕ) → Falls ts → (k c : ℕ) → lastHeard (map (entry S H) ts) ≡ heardAt k c
+      → (j : ℕ) → member j ts ≡ true → j < k → isHeard (H j) ≡ false
+  none-after [] f k c e j m h = absurd (false≢true m)
+  none-after (t ∷ ts) f k c e j m h = go (anyHeard (map (entry S H) ts)) refl (eqb t j) refl m (none-after ts (falls-tail t ts f) k c)
+    where
+      go : (a : Bool) → anyHeard (map (entry S H) ts) ≡ a → (b : Bool) → eqb t j ≡ b → (b || member j ts) ≡ true
+          → (lastHeard (map (entry S H) ts) ≡ heardAt k c → (j : ℕ) → member j ts ≡ true → j < k → isHeard (H j) ≡ false) → isHeard (H j) ≡ false
+      go true a true b m rest =
+          let before = falls-head t ts f k (last-of S H ts k c (last-later t ts k c a e) .inside) in
+          absurd (omega (arith, eqb-true t j b))
+      go true a false b m rest = rest (last-later t ts k c a e) j m h
+      go false a true b m rest = absurd (omega (arith, eqb-true t j b, last-here t ts k c a e .0))
+      go false a false b m rest = rw (none-heard S H ts a j m)
+
   -- Every heard grant of a list decoded the block, so that of j ago did.
   decoded-at : (decoded : Heard → Bool) (ts : List ℕ) → EveryHeard decoded (map (entry S H) ts) → (j : ℕ) → member j ts ≡ true → decoded (H j) ≡ true
   decoded-at decoded ts every j m = of-all (λ (k : ℕ). decoded (H k) ≡ true) ts (all ts every) j m
@@ -149,25 +161,25 @@ module _ (S : ℕ → Send) (H : ℕ → Heard) (brings : (k : ℕ) → Brings (
       all (t ∷ ts) e = (e .0, all ts (e .1))
 
 -- A block that a heard grant carries was decoded where the results that its bits speak of are.
-decoded-bundled : (x : Send) (g : Grant) (block b0 b1 : ℕ) → blocksOf x ≡ g .blocks → g .blocks ≤ 2 → block < g .blocks
-    → (b0 ≡ 1 → g .first ≡ true) → (b1 ≡ 1 → cond (eqb (g .blocks) 2) (g .second) (g .first) ≡ true)
-    → acknowledged x block b0 b1 ≡ true → decodedBlock (Granted g) block ≡ true
-decoded-bundled x g block b0 b1 same most h first second e =
-    rw (lt-ltb block (g .blocks) h) (go (ℕ-discrete (g .blocks) 2) (eqb block 0) refl (rw same at e))
+decoded-bundled : {ks : List ℕ} {sent : ℕ → Send} {named c m : ℕ} (x : Send) (g : Grant) (block b0 b1 : ℕ) → blocksOf x ≡ g .blocks → blocksOf x ≤ 2
+    → BundledConfirmed ks sent named c b0 b1 m block → sent (getD ks m 0) ≡ x
+    → (b0 ≡ 1 → g .first ≡ true) → (b1 ≡ 1 → cond (eqb (g .blocks) 2) (g .second) (g .first) ≡ true) → decodedBlock (Granted g) block ≡ true
+decoded-bundled x g block b0 b1 same most c is first second =
+    let inside : block < g .blocks = rw (is, same) at (c .carries) in
+    rw (lt-ltb block (g .blocks) inside) (go (ℕ-discrete (g .blocks) 2) (eqb block 0) refl)
   where
-    either : (p q : Bool) → (p || q) ≡ true → (p ≡ true) ⊎ (q ≡ true)
-    either true q e = inl refl
-    either false q e = inr e
+    two : g .blocks ≡ 2 → blocksOf x ≡ 2
+    two e = same ∙ e
 
-    go : Dec (g .blocks ≡ 2) → (b : Bool) → eqb block 0 ≡ b
-        → cond (eqb (g .blocks) 2) (cond b (eqb b0 1) (eqb b1 1)) (eqb b0 1 || eqb b1 1) ≡ true → cond b (g .first) (g .second) ≡ true
-    go (yes two) true b e = first (eqb-true b0 1 (rw (eq-eqb (g .blocks) 2 two) at e))
-    go (yes two) false b e =
-        rw (eq-eqb (g .blocks) 2 two) at (second (eqb-true b1 1 (rw (eq-eqb (g .blocks) 2 two) at e)))
-    go (no one) true b e =
-        ⊎-elim (λ p. first (eqb-true b0 1 p)) (λ p. rw (ne-eqb (g .blocks) 2 one) at (second (eqb-true b1 1 p)))
-        (either (eqb b0 1) (eqb b1 1) (rw (ne-eqb (g .blocks) 2 one) at e))
-    go (no one) false b e = let other = eqb-false block 0 b in absurd (omega arith)
+    go : Dec (g .blocks ≡ 2) → (b : Bool) → eqb block 0 ≡ b → cond b (g .first) (g .second) ≡ true
+    go (yes e) true b = first (c .first (rw is (two e)) (eqb-true block 0 b))
+    go (yes e) false b = rw (eq-eqb (g .blocks) 2 e) at (second (c .second (rw is (two e)) (eqb-false block 0 b)))
+    go (no e) true b =
+        ⊎-elim first (λ p. rw (ne-eqb (g .blocks) 2 e) at (second p)) (c .sole (λ z. e (sym same ∙ ap blocksOf (sym is) ∙ z)))
+    go (no e) false b =
+        let other = eqb-false block 0 b in
+        let inside : block < g .blocks = rw (is, same) at (c .carries) in
+        absurd (omega arith)
 
 -- A position that is A decoded each block that it carries.
 decoded-ack : (x : Heard) (block : ℕ) → stateIn x ≡ Ack → (g : Grant) × (x ≡ Granted g) × (g .blocks ≤ 2 → block < g .blocks → decodedBlock x block ≡ true)
@@ -199,7 +211,7 @@ module _ (set : Settings) (good : settingsRefusal set ≡ 0) (sent : ℕ → Sen
       go true = two-blocks (sent (s - k)) ((s - k) % 10) (schedule .valid (s - k))
       go false = omega arith
 
-  module _ (H : ℕ → Heard) (brings : (k : ℕ) → Brings (sentAgo sent s k) (H k)) (r : Reply) (m block : ℕ) where
+  module _ (H : ℕ → Heard) (brings : (k : ℕ) → Brings (sentAgo sent s k) (H k)) (r : Reply) where
     abbrev S : ℕ → Send
     S = sentAgo sent s
 
@@ -209,37 +221,55 @@ module _ (set : Settings) (good : settingsRefusal set ≡ 0) (sent : ℕ → Sen
     falls : Falls (timesOf (windowAt set s))
     falls = in-time-order (set .config) (s % 10) .falls
 
-    inside : m < length (windowAt set s) → member (getD (windowAt set s) m 0) (timesOf (windowAt set s)) ≡ true
-    inside h = in-window (set .config) (s % 10) (getD (windowAt set s) m 0) (at-member (windowAt set s) m h)
+    pub inside : (m : ℕ) → m < length (windowAt set s) → member (getD (windowAt set s) m 0) (timesOf (windowAt set s)) ≡ true
+    inside m h = in-window (set .config) (s % 10) (getD (windowAt set s) m 0) (at-member (windowAt set s) m h)
 
-    bundled-confirmed : (resource : ℕ → ℕ → Mapped) (read : ℕ → ℕ → ℕ → Reading) (a : Answer)
+    -- A bundled window that was answered: the last heard grant, which the reading names, and whether a grant of it was heard.
+    pub record LastRead (read : ℕ → ℕ → ℕ → Reading) : Type 0 where
+      pub named : ℕ
+      pub k : ℕ
+      pub c : ℕ
+      pub isLast : lastHeard (map (entry S H) ts) ≡ heardAt k c
+      pub place : getD (windowAt set s) named 0 ≡ k
+      pub isRead : read (r .resource .0) (r .b0) (r .b1) ≡ reading.Bundled named (record { 0 = c }) (r .b0) (r .b1)
+      pub heard : (j : ℕ) → member j ts ≡ true → isGrant (S j) ≡ true → holdsFor (windowAt set s) S k j ≡ true → isHeard (H j) ≡ true
+      pub lost : (j : ℕ) → member j ts ≡ true → j < k → isHeard (H j) ≡ false
+
+    pub last-read : (resource : ℕ → ℕ → Mapped) (read : ℕ → ℕ → ℕ → Reading) (a : Answer)
+        → Bundled set resource read (windowAt set s) (map (entry S H) ts) a → a ≡ answer.Sent r → LastRead read
+    last-read resource read a window is =
+        let due = window .0 .0 (r, is) in
+        let l = some-last S H ts (due .0) in
+        let named = window .1 r is .isRead (l .0) (l .1) (l .2) in
+        let last = last-of S H ts (l .0) (l .1) (l .2) in
+        record {
+          named = named .0;
+          k = l .0;
+          c = l .1;
+          isLast = l .2;
+          place = named .2;
+          isRead = named .4;
+          heard = holds-received S (λ (j : ℕ). isHeard (H j)) (l .0) (heard-sent (S (l .0)) (last .granted) (rw (last .heard) at (brings (l .0))) .0) (rw (last .heard)) (windowAt set s)
+              (last .inside) (rw (lost-same S H brings ts falls (l .0) (l .1) (l .2)) at (due .1));
+          lost = none-after S H brings ts falls (l .0) (l .1) (l .2);
+        }
+
+    pub bundled-confirmed : (m block : ℕ) (resource : ℕ → ℕ → Mapped) (read : ℕ → ℕ → ℕ → Reading) (a : Answer)
         → Bundled set resource read (windowAt set s) (map (entry S H) ts) a → a ≡ answer.Sent r
         → confirmed (windowAt set s) S (read (r .resource .0) (r .b0) (r .b1)) m block ≡ true
         → decodedBlock (H (getD (windowAt set s) m 0)) block ≡ true
-    unfolding confirmed
-    bundled-confirmed resource read a window is e =
-        let due = window .0 .0 (r, is) in
+    bundled-confirmed m block resource read a window is e =
         let reply = window .1 r is in
-        let l = some-last S H ts (due .0) in
-        let named = reply .isRead (l .0) (l .1) (l .2) in
+        let l = last-read resource read a window is in
         let k : ℕ = getD (windowAt set s) m 0 in
-        let c = carried (windowAt set s) S (read (r .resource .0) (r .b0) (r .b1)) m block e in
-        let said : saysAck (windowAt set s) S (reading.Bundled (named .0) (record { 0 = l .1 }) (r .b0) (r .b1)) m block ≡ true =
-        rw (named .4) at (both (ltb m (length (windowAt set s)) && ltb block (blocksOf (S k))) (saysAck (windowAt set s) S (read (r .resource .0) (r .b0) (r .b1)) m block) e .1) in
-        let p = both (namedSent (windowAt set s) S (named .0) (l .1) && holdsFor (windowAt set s) S (getD (windowAt set s) (named .0) 0) k) (acknowledged (S k) block (r .b0) (r .b1)) said in
-        let q = both (namedSent (windowAt set s) S (named .0) (l .1)) (holdsFor (windowAt set s) S (getD (windowAt set s) (named .0) 0) k) (p .0) in
-        let holds : holdsFor (windowAt set s) S (l .0) k ≡ true = rw (named .2) at (q .1) in
-        let last = last-of S H ts (l .0) (l .1) (l .2) in
-        let heard =
-        holds-received S (λ (j : ℕ). isHeard (H j)) (l .0) (heard-sent (S (l .0)) (last .granted) (rw (last .heard) at (brings (l .0))) .0) (rw (last .heard)) (windowAt set s)
-        (last .inside) (rw (lost-same S H brings ts falls (l .0) (l .1) (l .2)) at (due .1)) k (inside (c .0)) (carries-grant (S k) block (c .1)) holds in
-        let g = is-granted (H k) heard in
+        let c = bundled-exactly (windowAt set s) S (l .named) (l .c) (r .b0) (r .b1) m block .0 (rw (l .isRead) at e) in
+        let holds : holdsFor (windowAt set s) S (l .k) k ≡ true = rw (l .place) at (says-holds (windowAt set s) S (getD (windowAt set s) (l .named) 0) k (c .upTo)) in
+        let g = is-granted (H k) (l .heard k (inside m (c .inside)) (carries-grant (S k) block (c .carries)) holds) in
         let there = heard-sent (S k) (g .0) (rw (g .1) at (brings k)) in
-        let first : r .b0 ≡ 1 → g .0 .first ≡ true = λ b. rw (g .1) at (decoded-at S H brings decodedFirst ts (reply .first .0 b) k (inside (c .0))) in
+        let first : r .b0 ≡ 1 → g .0 .first ≡ true = λ b. rw (g .1) at (decoded-at S H brings decodedFirst ts (reply .first .0 b) k (inside m (c .inside))) in
         let second : r .b1 ≡ 1 → cond (eqb (g .0 .blocks) 2) (g .0 .second) (g .0 .first) ≡ true = λ b.
-        rw (g .1) at (decoded-at S H brings decodedSecond ts (reply .second (two-bits reply b) .0 b) k (inside (c .0))) in
-        rw (g .1)
-        (decoded-bundled (S k) (g .0) block (r .b0) (r .b1) (there .1) (omega (arith, sent-blocks k, there .1)) (omega (arith, c .1, there .1)) first second (p .1))
+        rw (g .1) at (decoded-at S H brings decodedSecond ts (reply .second (two-bits reply b) .0 b) k (inside m (c .inside))) in
+        rw (g .1) (decoded-bundled (S k) (g .0) block (r .b0) (r .b1) (there .1) (sent-blocks k) c refl first second)
       where
         -- the second bit is set only in a cell of two blocks
         two-bits : BundledReply set resource read (windowAt set s) (map (entry S H) ts) r → r .b1 ≡ 1 → set .blocks ≡ 2
@@ -249,50 +279,16 @@ module _ (set : Settings) (good : settingsRefusal set ≡ 0) (sent : ℕ → Sen
             go (yes one) = absurd (omega (arith, reply .bits .2 one))
             go (no one) = omega (arith, accepted set good .blocksLeast, accepted set good .blocksMost)
 
-    multiplexed-confirmed : (resource : ℕ → ℕ → Mapped) (read : ℕ → ℕ → ℕ → Reading) (a : Answer)
+    pub multiplexed-confirmed : (m block : ℕ) (resource : ℕ → ℕ → Mapped) (read : ℕ → ℕ → ℕ → Reading) (a : Answer)
         → Multiplexed resource read (windowAt set s) H (map (entry S H) ts) a → a ≡ answer.Sent r
         → confirmed (windowAt set s) S (read (r .resource .0) (r .b0) (r .b1)) m block ≡ true
         → decodedBlock (H (getD (windowAt set s) m 0)) block ≡ true
-    unfolding confirmed
-    multiplexed-confirmed resource read a window is e =
+    multiplexed-confirmed m block resource read a window is e =
         let reply = window .1 r is in
         let k : ℕ = getD (windowAt set s) m 0 in
         let states : List State = map (λ (k : ℕ). stateIn (H k)) (windowAt set s) in
-        let c = carried (windowAt set s) S (read (r .resource .0) (r .b0) (r .b1)) m block e in
-        let said : saysAck (windowAt set s) S (reading.Multiplexed (reply .index) (reply .granted .cce) (reply .delivered)) m block ≡ true =
-        rw (reply .isRead) at (both (ltb m (length (windowAt set s)) && ltb block (blocksOf (S k))) (saysAck (windowAt set s) S (read (r .resource .0) (r .b0) (r .b1)) m block) e .1) in
-        let p = both (namedSent (windowAt set s) S (reply .index) (reply .granted .cce .0)) (eqb (reply .delivered / 2 ^ m % 2) 1) said in
-        let ack : getD states m Dtx ≡ Ack =
-        reply .exactly m (c .0) .0 (eqb-true (reply .delivered / 2 ^ m % 2) 1 (p .1)) states (length-map (windowAt set s) (λ (k : ℕ). stateIn (H k))) (reply .isSymbol) in
-        let d = decoded-ack (H k) block (sym (lists.entry (λ (k : ℕ). stateIn (H k)) (windowAt set s) m Dtx 0 (c .0)) ∙ ack) in
+        let c = multiplexed-exactly (windowAt set s) S (reply .index) (reply .granted .cce .0) (reply .delivered) m block .0 (rw (reply .isRead) at e) in
+        let ack : getD states m Dtx ≡ Ack = reply .exactly m (c .inside) .0 (c .delivered) states (length-map (windowAt set s) (λ (k : ℕ). stateIn (H k))) (reply .isSymbol) in
+        let d = decoded-ack (H k) block (sym (lists.entry (λ (k : ℕ). stateIn (H k)) (windowAt set s) m Dtx 0 (c .inside)) ∙ ack) in
         let there = heard-sent (S k) (d .0) (rw (d .1) at (brings k)) in
-        d .2 (omega (arith, sent-blocks k, there .1)) (omega (arith, c .1, there .1))
-
--- Of every engine that meets demand 3.
-pub confirmed-decoded : (e : Engine) → Demand3 e → ConfirmedDecoded e
-unfolding confirmed
-confirmed-decoded e d set good sent schedule items brings i s x subframe r is m block c = go (ℕ-discrete (set .mode) 0) (ℕ-discrete (length (windowAt set s)) 1)
-  where
-    some : 0 < length (windowAt set s)
-    some =
-        let inside = carried (windowAt set s) (sentAgo sent s) (e .read set (s % 10) (r .resource .0) (r .b0) (r .b1)) m block c .0 in
-        omega arith
-
-    brought : (k : ℕ) → Brings (sentAgo sent s k) (heardAgo (heardInRun set items) s k)
-    brought k = ago-brings sent (heardInRun set items) brings s k
-
-    bundled : (set .mode ≡ 0) ⊎ (length (windowAt set s) ≡ 1) → decodedBlock (heardAgo (heardInRun set items) s (getD (windowAt set s) m 0)) block ≡ true
-    bundled mode =
-        bundled-confirmed set good sent schedule s (heardAgo (heardInRun set items) s) brought r m block (e .resource set (s % 10)) (e .read set (s % 10)) _
-        (d .run set good sent schedule items brings .bundled i s x subframe some mode) is c
-
-    go : Dec (set .mode ≡ 0) → Dec (length (windowAt set s) ≡ 1) → decodedBlock (heardAgo (heardInRun set items) s (getD (windowAt set s) m 0)) block ≡ true
-    go (yes mode) size = bundled (inl mode)
-    go (no mode) (yes size) = bundled (inr size)
-    go (no mode) (no size) =
-        multiplexed-confirmed set good sent schedule s (heardAgo (heardInRun set items) s) brought r m block (e .resource set (s % 10)) (e .read set (s % 10)) _
-        (d .run set good sent schedule items brings .multiplexed i s x subframe some (omega (arith, accepted set good .mode)) size) is c
-
--- What a scheduler may conclude, of the engine of this repository.
-pub confirmation : ConfirmedDecoded feedbackEngine
-confirmation = confirmed-decoded feedbackEngine demand3
+        d .2 (omega (arith, sent-blocks k, there .1)) (omega (arith, c .carries, there .1))

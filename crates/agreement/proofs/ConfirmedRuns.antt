@@ -10,7 +10,7 @@ use Rattle.confirmation.specs.Confirmed.{confirmed}
 use Rattle.agreement.specs.Run.{sentAgo, windowAt}
 use Rattle.agreement.proofs.Computing.{schedules}
 use Rattle.agreement.proofs.Finite.{sending}
-use Rattle.agreement.proofs.Worked.{Run, fourHeard, fourLost, eightLost, missed, oneUndecoded, soleBlock, secondUndecoded, middleUndecoded, shared}
+use Rattle.agreement.proofs.Worked.{Run, fourHeard, fourLost, eightLost, oneUndecoded, soleBlock, secondUndecoded, middleUndecoded, shared}
 
 -- the numbers, of `count` from i on, that pass the test
 abbrev passing : (ℕ → Bool) → ℕ → ℕ → List ℕ
@@ -64,8 +64,3 @@ delivered-two-of-three = (refl, refl)
 pub delivered-shared : Confirms shared 12 (0 ∷ 1 ∷ []) []
 unfolding schedules confirmed
 delivered-shared = (refl, refl)
-
--- A silent window confirms nothing: there is no reply to read.
-pub silent : Confirms missed 7 [] []
-unfolding schedules confirmed
-silent = (refl, refl)

@@ -1,5 +1,6 @@
 pub mod BundledWindow
 pub mod Computing
+pub mod Conclusions
 pub mod Confirmation
 pub mod ConfirmedRuns
 pub mod Demand3

@@ -1,5 +1,5 @@
--- Runs that meet the hypotheses of demand 3, each with every answer and with the station's reading of every reply: the claim is
--- about something. N_RB 50, N1 10. The numbers were found from document 01 by hand and by another program.
+-- Runs that meet the hypotheses of demand 3, each with every answer and with the station's reading of every reply: the theorem is
+-- about something. N_RB 50, N1 10.
 -- Assumes nothing.
 use Prim.Native.Nat.{ℕ, suc, zero, _+_, _%_, _<_}
 use mathlib.Core.Bool.{Bool, true, false}

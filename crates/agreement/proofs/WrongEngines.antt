@@ -1,4 +1,4 @@
--- What the statement shuts out, field by field. For each field that speaks of the engine there is the engine of this repository with
+-- What the statement shuts out, field by field. For each field that an engine can break there is the engine of this repository with
 -- one fault, and a proof that the statement does not hold of it. The proof asks the statement for this field, and for those that
 -- settle the witnesses it speaks of; without the field it no longer checks. The handsets are in WrongHandsets.antt, the stations in
 -- WrongStations.antt; here is what both use.
@@ -7,6 +7,7 @@
 --   byFormula       all ends number the resources from the top of the range down            not-top-down
 --   oneToOne        the inverse answers position and first CCE exchanged (into)             not-back-exchanged
 --                   a single resource for everyone (once)                                   not-one-for-all
+--                   a position beyond the window is taken for its last one (once)           not-last-for-beyond
 --   givesBack       bits that 14 refuses are read as the first pair                         not-refused-as-first
 --   made            every cell is refused                                                   not-refuses-to-make
 --   run             by its fields, below; over a whole list: the first window only          not-first-only
@@ -34,7 +35,7 @@
 --                   the first bit is that of the last heard grant alone                     not-last-alone
 --   second          the bits exchanged                                                      not-exchanged-second
 --   bits            the second bit set in a cell of one block                               not-second-set
---                   a NACK goes out as 2                                                    not-nack-as-two
+--                   the first block's NACK goes out as 2, the second's ACK       not-nack-as-two, not-ack-as-two
 -- MultiplexedReply
 --   kind            a multiplexed reply goes out as a bundled one                           not-other-kind-multiplexed
 --   isSymbol        the bits exchanged: another row's symbol                                not-exchanged-symbol
@@ -46,10 +47,12 @@
 --                   it marks those that are A in one of the symbol's rows                   not-delivers-one-row
 --   noOther         it marks a position beyond the window                                   not-delivers-beyond
 --
--- No engine can break the other fields: `exactlyOne` speaks of the table of windows alone; `index`, `granted` and `delivered` are
--- witnesses, which `isSymbol`, `isHeard` and `isRead` settle. That the index is a position of the window needs no field: it follows
--- from `isSymbol`, since the tables give no other (`index-inside` in MultiplexedWindow.antt). `refusedExactly` follows from the other fields of HoldsAfter, whatever the engine: a feed whose cause is
--- met is refused by `leaves`, and any other is answered by one of the four after it; it says in one sentence what they say in five.
+-- The other fields no engine can break: `exactlyOne` speaks of the table of windows alone; `index`, `granted` and `delivered` are
+-- witnesses, which `isSymbol`, `isHeard` and `isRead` settle; `onto` of the one-to-one map follows from `into` and `back`, which give
+-- M × N_4 pairs as many different resources of the range. That the index is a position of the window needs no field: it follows from
+-- `isSymbol`, since the tables give no other (`index-inside` in MultiplexedWindow.antt). `refusedExactly` is broken by no engine
+-- alone: of accepted settings it follows from the other fields of HoldsAfter, for a feed whose cause is met is refused by `leaves`,
+-- and any other is answered by one of the four after it. It stays, since it is 01's sentence.
 -- Assumes nothing.
 use Prim.Native.Nat.{ℕ, _+_, _%_}
 use mathlib.Core.Bool.{cond}

@@ -290,6 +290,15 @@ unfolding schedules
 not-nack-as-two d =
     omega (arith, in-one-undecoded (answersBy nackAsTwo) d .1 _ (ap nackAsTwo (answer-at oneUndecoded one-undecoded 7)) .bits .0)
 
+-- The ACK of a second block goes out as 2.
+abbrev pub ackAsTwo : Answer → Answer
+ackAsTwo = replyingIn 1 (λ (r : Reply). withBits r (r .b0) (cond (eqb (r .b1) 1) 2 0))
+
+pub not-ack-as-two : Demand3 (answersBy ackAsTwo) → ⊥
+unfolding schedules
+not-ack-as-two d =
+    omega (arith, in-one-undecoded (answersBy ackAsTwo) d .1 _ (ap ackAsTwo (answer-at oneUndecoded one-undecoded 7)) .bits .1)
+
 -- The right bits go out on the resource of the first heard grant.
 abbrev firstSeen : Handset → Seen
 firstSeen h = seenFrom (viewIn h) (windowIn h) (reverse (orderOf (windowIn h))) unseen

@@ -7,7 +7,7 @@ use mathlib.Core.List.{List, [], _∷_}
 use mathlib.Core.Logic.{⊎-elim}
 use mathlib.Core.Path.{_≡_, refl, sym, ap, _∙_}
 use native.Mathlib.Omega.{arith}
-use lib.Dec.{eqb}
+use lib.Dec.{eqb, ltb}
 use Rattle.frame.specs.declared.Settings.{Settings}
 use Rattle.resource.specs.declared.Cce.{Cce}
 use Rattle.resource.specs.declared.Inverted.{Inverted}
@@ -46,6 +46,14 @@ oneForAll s n m c = onlyOne s (resourceOf s n m c)
 pub not-one-for-all : Demand3 (mappedBy oneForAll) → ⊥
 unfolding handsets
 not-one-for-all d = omega (arith, d .oneToOne (cell 1 0) 2 refl .once 0 0 1 0 10 refl refl .0)
+
+-- A position beyond the window is taken for its last one.
+abbrev pub lastForBeyond : Settings → ℕ → ℕ → ℕ → Mapped
+lastForBeyond s n m c = resourceOf s n (cond (ltb m (sizeOf s n)) m (sizeOf s n - 1)) c
+
+pub not-last-for-beyond : Demand3 (mappedBy lastForBeyond) → ⊥
+unfolding handsets
+not-last-for-beyond d = omega (arith, d .oneToOne (cell 1 0) 2 refl .once 1 0 2 0 21 refl refl .0)
 
 -- An inverse that answers the position as the first CCE, and the reverse.
 abbrev pairExchanged : Inverted → Inverted

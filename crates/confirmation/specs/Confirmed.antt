@@ -1,6 +1,6 @@
 -- Which blocks a station may take for decoded. It knows K of the window, what it SENT in the window's subframes and its reading of
 -- the reply; what the handset heard is asked nowhere. That each confirmed block was heard and decoded, in every run of demand 3, is
--- proved in agreement/proofs/Confirmation.antt.
+-- proved in agreement/proofs/Conclusions.antt.
 -- `sent k` is what was sent k subframes before the reply; `ks` is K as printed; a position m stands for subframe n - k_m; block 0
 -- is a grant's first or only one, block 1 its second.
 -- Assumes nothing.

@@ -1,4 +1,4 @@
--- What a station sent in a subframe, by tests that hold of every kind of it: document 01, "The runs of demand 3".
+-- What a station sent in a subframe, by tests that every kind of it answers: document 01, "The runs of demand 3".
 -- Assumes nothing.
 use Prim.Native.Nat.{ℕ}
 use mathlib.Core.Bool.{Bool, true, false}

@@ -1,5 +1,5 @@
 -- Demand 3: "the pairs of position and first CCE map, by 01's formula, one to one onto the resources N1 to N1 + M × N_4 − 1".
--- The claim is about any map and inverse; proofs/OneToOne.antt shows it of the ones that the calls promise.
+-- It is said of any map and inverse; proofs/OneToOne.antt shows it of the ones that the calls promise.
 -- Assumes nothing.
 use Prim.Native.Nat.{ℕ, _+_, _*_, _<_, _≤_}
 use mathlib.Core.Path.{_≡_}

@@ -1,0 +1,110 @@
+-- What a scheduler may conclude (specs/Confirmation.antt), of every engine that meets demand 3, and so of the engine of this
+-- repository.
+-- Assumes nothing.
+use Prim.Native.Nat.{ℕ, _%_, _<_}
+use mathlib.Core.Bool.{true, false}
+use mathlib.Core.List.{List}
+use mathlib.Core.Logic.{_⊎_, inl, inr}
+use mathlib.Core.Path.{_≡_, ap, _∙_}
+use native.Mathlib.Decide.{ℕ-discrete}
+use native.Mathlib.Omega.{arith}
+use lib.ListN.{length, getD}
+use Rattle.frame.specs.declared.Settings.{Settings}
+use Rattle.frame.proofs.Accepted.{accepted}
+use Rattle.resource.specs.declared.Cce.{Cce}
+use Rattle.station.specs.declared.Reading.the-variants as reading
+use Rattle.confirmation.specs.declared.Send.{Send}
+use Rattle.confirmation.specs.Confirmed.{holdsFor, confirmed}
+use Rattle.confirmation.specs.Sent.{isGrant}
+use Rattle.confirmation.proofs.Confirmed.{carried}
+use Rattle.heard.specs.declared.Heard.{Heard}
+use Rattle.reply.specs.declared.Reply.{Reply}
+use Rattle.agreement.specs.Confirmation.{Replied, readingAt, decodedBlock, Conclusions}
+use Rattle.agreement.specs.Demand3.{Engine, feedbackEngine, fedAt, HoldsAfter, Demand3}
+use Rattle.agreement.specs.Run.{Item, sentAgo, heardAgo, heardInRun, windowAt, Brings}
+use Rattle.agreement.specs.Window.{isHeard, inTime, Bundled, Multiplexed}
+use Rattle.agreement.proofs.Confirmation.{inside, LastRead, last-read, bundled-confirmed, multiplexed-confirmed}
+use Rattle.agreement.proofs.Demand3.{demand3}
+use Rattle.agreement.proofs.Feeds.{ago-brings}
+
+module _ (e : Engine) (d : Demand3 e) (set : Settings) (sent : ℕ → Send) (items : List Item) (s : ℕ) (r : Reply) (replied : Replied e set sent items s r) where
+  abbrev H : ℕ → Heard
+  H = heardAgo (heardInRun set items) s
+
+  -- What demand 3 says of a window: it is bundled, or it is multiplexed.
+  abbrev Answered : Type 0
+  Answered =
+      Bundled set (e .resource set (s % 10)) (e .read set (s % 10)) (windowAt set s) (inTime (sentAgo sent s) H (windowAt set s))
+      (fedAt e set items (replied .item) (replied .brought) .answer)
+      ⊎ Multiplexed (e .resource set (s % 10)) (e .read set (s % 10)) (windowAt set s) H (inTime (sentAgo sent s) H (windowAt set s))
+      (fedAt e set items (replied .item) (replied .brought) .answer)
+
+  brought : (k : ℕ) → Brings (sentAgo sent s k) (heardAgo (heardInRun set items) s k)
+  brought k = ago-brings sent (heardInRun set items) (replied .brings) s k
+
+  -- It says one of the two of every window with a position.
+  window : (m : ℕ) → m < length (windowAt set s)
+      → Answered
+  window m h = go (ℕ-discrete (set .mode) 0) (ℕ-discrete (length (windowAt set s)) 1)
+    where
+      holds : HoldsAfter e set sent items
+      holds = d .run set (replied .accepted) sent (replied .schedule) items (replied .brings)
+
+      go : Dec (set .mode ≡ 0) → Dec (length (windowAt set s) ≡ 1)
+          → Answered
+      go (yes mode) size = inl (holds .bundled (replied .item) s (replied .brought) (replied .subframe) (omega arith) (inl mode))
+      go (no mode) (yes size) = inl (holds .bundled (replied .item) s (replied .brought) (replied .subframe) (omega arith) (inr size))
+      go (no mode) (no size) =
+          inr (holds .multiplexed (replied .item) s (replied .brought) (replied .subframe) (omega arith) (omega (arith, accepted set (replied .accepted) .mode)) size)
+
+  -- Where it is read as bundled, it is.
+  bundled : (m : ℕ) → m < length (windowAt set s) → (named : ℕ) (c : Cce) (b0 b1 : ℕ) → readingAt e set s r ≡ reading.Bundled named c b0 b1
+      → (l : LastRead set (replied .accepted) sent (replied .schedule) s H brought r (e .read set (s % 10))) × (getD (windowAt set s) named 0 ≡ l .k)
+  bundled m h named c b0 b1 is = go (window m h)
+    where
+      go : Answered
+          → (l : LastRead set (replied .accepted) sent (replied .schedule) s H brought r (e .read set (s % 10))) × (getD (windowAt set s) named 0 ≡ l .k)
+      go (inl w) =
+          let l = last-read set (replied .accepted) sent (replied .schedule) s H brought r (e .resource set (s % 10)) (e .read set (s % 10)) _ w (replied .answered) in
+          let same : named ≡ l .named = cc (is, l .isRead) in
+          (l, ap (λ (m : ℕ). getD (windowAt set s) m 0) same ∙ l .place)
+      go (inr w) = let z : _≡_ {A = ℕ} 0 1 = cc (is, w .1 r (replied .answered) .isRead) in absurd (omega arith)
+
+  heard-up-to : (named : ℕ) (c : Cce) (b0 b1 : ℕ) → readingAt e set s r ≡ reading.Bundled named c b0 b1
+      → (m : ℕ) → m < length (windowAt set s) → isGrant (sentAgo sent s (getD (windowAt set s) m 0)) ≡ true
+      → holdsFor (windowAt set s) (sentAgo sent s) (getD (windowAt set s) named 0) (getD (windowAt set s) m 0) ≡ true
+      → isHeard (H (getD (windowAt set s) m 0)) ≡ true
+  heard-up-to named c b0 b1 is m h granted holds =
+      let l = bundled m h named c b0 b1 is in
+      l .0 .heard (getD (windowAt set s) m 0) (inside set (replied .accepted) sent (replied .schedule) s H brought r m h) granted (rw (l .1) at holds)
+
+  lost-after : (named : ℕ) (c : Cce) (b0 b1 : ℕ) → readingAt e set s r ≡ reading.Bundled named c b0 b1
+      → (m : ℕ) → m < length (windowAt set s) → getD (windowAt set s) m 0 < getD (windowAt set s) named 0
+      → isHeard (H (getD (windowAt set s) m 0)) ≡ false
+  lost-after named c b0 b1 is m h after =
+      let l = bundled m h named c b0 b1 is in
+      l .0 .lost (getD (windowAt set s) m 0) (inside set (replied .accepted) sent (replied .schedule) s H brought r m h) (rw (l .1) at after)
+
+  confirmed-decoded : (m block : ℕ) → confirmed (windowAt set s) (sentAgo sent s) (readingAt e set s r) m block ≡ true
+      → decodedBlock (H (getD (windowAt set s) m 0)) block ≡ true
+  confirmed-decoded m block c = go (window m (carried (windowAt set s) (sentAgo sent s) (readingAt e set s r) m block c .0))
+    where
+      go : Answered
+          → decodedBlock (H (getD (windowAt set s) m 0)) block ≡ true
+      go (inl w) =
+          bundled-confirmed set (replied .accepted) sent (replied .schedule) s H brought r m block (e .resource set (s % 10)) (e .read set (s % 10)) _ w (replied .answered) c
+      go (inr w) =
+          multiplexed-confirmed set (replied .accepted) sent (replied .schedule) s H brought r m block (e .resource set (s % 10)) (e .read set (s % 10)) _ w (replied .answered) c
+
+-- Of every engine that meets demand 3.
+pub conclusions : (e : Engine) → Demand3 e → Conclusions e
+conclusions e d =
+    record {
+      confirmedDecoded = confirmed-decoded e d;
+      heardUpTo = heard-up-to e d;
+      lostAfter = lost-after e d;
+    }
+
+-- Of the engine of this repository.
+pub scheduler-may-conclude : Conclusions feedbackEngine
+scheduler-may-conclude = conclusions feedbackEngine demand3
