@@ -1,8 +1,15 @@
 -- Document 01's refusal number and values for each case of an answer, as a C caller gets them.
 -- Assumes nothing.
-use Prim.Native.Nat.{ℕ}
+use Prim.Native.Nat.{ℕ, zero, suc}
 use mathlib.Core.Bool.{not}
+use mathlib.Core.List.{List, []}
 use lib.Dec.{eqb}
+use lib.ListN.{length}
+use Rattle.frame.specs.declared.Settings.{Settings}
+use Rattle.frame.specs.Coded.{padded}
+use Rattle.frame.specs.Order.{orderOf}
+use Rattle.frame.specs.Settings.{windowRefusal}
+use Rattle.frame.specs.Table.{windowOf}
 use Rattle.resource.specs.declared.Mapped.{Mapped}
 use Rattle.resource.specs.declared.Mapped.the-variants as mapped
 use Rattle.resource.specs.declared.Inverted.{Inverted}
@@ -22,7 +29,17 @@ use Rattle.feedback.specs.declared.FedAnswer.{FedAnswer}
 use Rattle.feedback.specs.declared.ReadingAnswer.{ReadingAnswer}
 use Rattle.feedback.specs.declared.ResourceAnswer.{ResourceAnswer}
 use Rattle.feedback.specs.declared.InverseAnswer.{InverseAnswer}
+use Rattle.feedback.specs.declared.WindowAnswer.{WindowAnswer}
 use Rattle.feedback.specs.Kinds.{kindRefused, kindBundled, kindMultiplexed, kindSilent, kindTaken, kindNoWindow, claimsClean, claimsClash, claimsRefused}
+
+-- A refusal, with zeros beside it, or where it is 0 a window: M, K in the print's order and its positions in time order.
+abbrev pub windowAs : ℕ → List ℕ → WindowAnswer
+windowAs zero ks = record { refusal = 0; size = length ks; k = padded 9 ks; order = padded 9 (orderOf ks) }
+windowAs (suc r) ks = record { refusal = suc r; size = 0; k = padded 9 []; order = padded 9 [] }
+
+-- The window of uplink subframe n.
+unfoldable pub windowAnswer : Settings → ℕ → WindowAnswer
+windowAnswer s n = windowAs (windowRefusal s n) (windowOf (s .config) n)
 
 abbrev pub resourceAnswer : Mapped → ResourceAnswer
 resourceAnswer (mapped.At r) = record { refusal = 0; resource = r .0 }
@@ -41,9 +58,9 @@ readingAnswer (reading.Refused k) =
     record { refusal = k; kind = kindRefused; position = 0; cce = 0; b0 = 0; b1 = 0; delivered = 0 }
 
 abbrev pub claimsAnswer : Checked → ClaimsAnswer
-claimsAnswer checked.Clean = record { kind = claimsClean; refusal = 0; index = 0 }
-claimsAnswer (checked.Clash i) = record { kind = claimsClash; refusal = 0; index = i }
-claimsAnswer (checked.Refused k i) = record { kind = claimsRefused; refusal = k; index = i }
+claimsAnswer checked.Clean = record { refusal = 0; kind = claimsClean; index = 0 }
+claimsAnswer (checked.Clash i) = record { refusal = 0; kind = claimsClash; index = i }
+claimsAnswer (checked.Refused k i) = record { refusal = k; kind = claimsRefused; index = i }
 
 abbrev pub noReply : ℕ → ℕ → Handset → FedAnswer
 noReply refusal kind h = record { refusal = refusal; kind = kind; resource = 0; b0 = 0; b1 = 0; handset = h }

@@ -1,5 +1,5 @@
--- The way back from the numbers of a C answer to the answer, and that no answer of a call is lost on the way there. The numbers of
--- feedback_make are the engine's own answer.
+-- The way back from the numbers of a C answer to the answer, and that no answer of a call is lost on the way there. The answers of
+-- feedback_window, feedback_answered and feedback_make are numbers of the engine as they are: there is nothing to lose.
 -- Assumes nothing.
 use Prim.Native.Nat.{ℕ, zero, suc}
 use mathlib.Core.Bool.{cond, not}

@@ -20,11 +20,11 @@ kindTaken = 4
 abbrev pub kindNoWindow : ℕ
 kindNoWindow = 5
 
+abbrev pub claimsRefused : ℕ
+claimsRefused = 0
+
 abbrev pub claimsClean : ℕ
-claimsClean = 0
+claimsClean = 1
 
 abbrev pub claimsClash : ℕ
-claimsClash = 1
-
-abbrev pub claimsRefused : ℕ
-claimsRefused = 2
+claimsClash = 2

@@ -1,6 +1,7 @@
 // The engine's C interface: one static library, libfeedback.a, with the header include/feedback.h. The papers' numbers are sixteen
 // bits wide. An answer is a struct of numbers: the refusal, 0 for none, and the values, which are 0 where they say nothing.
 use claims::Checked;
+use frame::Answered;
 use frame::Settings;
 use handset::Fed;
 use handset::Handset;
@@ -14,14 +15,25 @@ use resource::Mapped;
 use resource::Resource;
 use station::Reading;
 ghost use mathlib.Core.Path.{_≡_};
+ghost use Rattle.frame.specs.Distance.{answeredOf};
 ghost use Rattle.resource.specs.Calls.{resourceOf, inverseOf};
 ghost use Rattle.station.specs.Readings.{readOf};
 ghost use Rattle.claims.specs.Claims.{checkedOf, scratchOf};
 ghost use lib.ListN.{length};
-ghost use Rattle.feedback.specs.Answers.{resourceAnswer, inverseAnswer, readingAnswer, claimsAnswer, noReply, answerNumbers, fedAnswer, grantOf};
+ghost use Rattle.feedback.specs.Answers.{windowAnswer, resourceAnswer, inverseAnswer, readingAnswer, claimsAnswer, noReply, answerNumbers, fedAnswer, grantOf};
 ghost use Rattle.handset.specs.Feed.{feedOf};
 ghost use Rattle.handset.specs.Make.{makeOf};
 ghost use Rattle.heard.specs.declared.Heard.the-variants.{Nothing};
+
+// `size` is M, `k` has K in the print's order and `order` its positions in time order, zeros after the M entries of both; all 0 where
+// refused.
+#[repr(C)]
+pub struct WindowAnswer {
+    pub refusal: u16,
+    pub size: u16,
+    pub k: [u16; 9],
+    pub order: [u16; 9],
+}
 
 #[repr(C)]
 pub struct ResourceAnswer {
@@ -49,12 +61,12 @@ pub struct ReadingAnswer {
     pub delivered: u16,
 }
 
-// Kind 0 is clean, 1 a clash with the index of the first claim equal to an earlier one, 2 refused; 16 has the index of the first
-// bad claim.
+// Kind 1 is clean, 2 a clash with the index of the first claim equal to an earlier one; 0 where refused, and 16 has the index of the
+// first bad claim.
 #[repr(C)]
 pub struct ClaimsAnswer {
-    pub kind: u16,
     pub refusal: u16,
+    pub kind: u16,
     pub index: u64,
 }
 
@@ -140,18 +152,18 @@ fn claims_numbers(x: Checked) -> ClaimsAnswer
 {
     match x {
         Checked::Clean => ClaimsAnswer {
-            kind: 0,
             refusal: 0,
+            kind: 1,
             index: 0,
         },
         Checked::Clash(i) => ClaimsAnswer {
-            kind: 1,
             refusal: 0,
+            kind: 2,
             index: i as u64,
         },
         Checked::Refused(k, i) => ClaimsAnswer {
-            kind: 2,
             refusal: k,
+            kind: 0,
             index: i as u64,
         },
     }
@@ -198,6 +210,45 @@ fn fed_numbers(f: Fed) -> FedAnswer
     let answer = f.answer;
     let handset = f.handset;
     answer_numbers(answer, handset)
+}
+
+// The number of the structs' layout, which the name carries too: a program that was compiled for another layout does not link.
+#[no_mangle]
+pub extern "C" fn feedback_layout_1() -> u16
+    ensures { λ r. ⌜ r ≡ 1 ⌝ }
+{
+    1
+}
+
+#[no_mangle]
+pub extern "C" fn feedback_window(settings: Settings, n: u16) -> WindowAnswer
+    ensures { λ r. ⌜ r ≡ windowAnswer settings n ⌝ }
+{
+    let refusal = frame::window_refusal(settings, n);
+    if refusal != 0 {
+        return WindowAnswer {
+            refusal,
+            size: 0,
+            k: [0; 9],
+            order: [0; 9],
+        };
+    }
+    let w = frame::window_of(settings.config, n);
+    let k = w.k;
+    let order = w.order;
+    WindowAnswer {
+        refusal: 0,
+        size: w.size,
+        k,
+        order,
+    }
+}
+
+#[no_mangle]
+pub extern "C" fn feedback_answered(settings: Settings, subframe: u16) -> Answered
+    ensures { λ r. ⌜ r ≡ answeredOf settings subframe ⌝ }
+{
+    frame::answered_of(settings, subframe)
 }
 
 #[no_mangle]

@@ -1,7 +1,9 @@
 pub mod Accepted
+pub mod Answers
 pub mod Arms
 pub mod Below
 pub mod Causes
+pub mod Distances
 pub mod Hex
 pub mod Layouts
 pub mod Lists

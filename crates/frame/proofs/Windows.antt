@@ -15,6 +15,7 @@ use lib.Ieee.Fits.{and-l, and-r}
 use lib.ListN.{length, getD, List·getD-eq-default}
 use borrow.Author.Tests.{eqb-true, eqb-false, leb-true}
 use Rattle.frame.specs.declared.Settings.{Settings}
+use Rattle.frame.specs.Distance.{distanceUpTo, distanceOf}
 use Rattle.frame.specs.Layout.{layouts, letterOf, downlink}
 use Rattle.frame.specs.Once.{InWindow, InExactlyOne}
 use Rattle.frame.specs.Order.{member, positionOf}
@@ -141,15 +142,6 @@ k-before c s m d w = omega (arith, window-k c (s % 10) m (w .position))
 pub inside-downlink : (c s m d : ℕ) → InWindow c s m d → downlink c (d % 10) ≡ true
 inside-downlink c s m d w = rw (k-before c s m d w) at (window-downlink c (s % 10) m (w .position))
 
--- the largest k, at most the bound, for which subframe x is in the window of subframe x + k; 0 where there is none
-distanceUpTo : ℕ → ℕ → ℕ → ℕ
-distanceUpTo zero c x = zero
-distanceUpTo (suc k) c x = cond (member (suc k) (windowOf c ((x + suc k) % 10))) (suc k) (distanceUpTo k c x)
-
--- how far after downlink subframe x the uplink subframe stands that has x in its window
-distanceOf : ℕ → ℕ → ℕ
-distanceOf c x = distanceUpTo 13 c x
-
 -- if subframe x is downlink, it is in the window at its distance
 abbrev atDistance : ℕ → ℕ → Bool
 atDistance c x = not (downlink c x) || member (distanceOf c x) (windowOf c ((x + distanceOf c x) % 10))
@@ -172,7 +164,7 @@ downlink-range c x e = go (decLt c 7)
     go (no h) = absurd (false≢true (rw (List·getD-eq-default layouts [] {n = c} (omega arith)) at e))
 
 -- A downlink subframe of the run is in the window at its distance.
-distance-inside : (c d : ℕ) → downlink c (d % 10) ≡ true
+pub distance-inside : (c d : ℕ) → downlink c (d % 10) ≡ true
     → member (distanceOf c (d % 10)) (windowOf c ((d + distanceOf c (d % 10)) % 10)) ≡ true
 distance-inside c d e =
     let k = distanceOf c (d % 10) in

@@ -2,12 +2,14 @@
 -- below 16 stand in one number, as its hexadecimal digits.
 -- Assumes nothing.
 use Prim.Native.Nat.{ℕ, zero, suc, _+_, _*_, _/_, _%_, _^_}
+use mathlib.Core.Bool.{cond}
 use mathlib.Core.List.{List, [], _∷_}
 use lib.ListN.{length}
 use Rattle.frame.specs.declared.Window.{Window}
 use Rattle.frame.specs.declared.table.Order.{Order}
 use Rattle.frame.specs.declared.table.Row.{Row}
-use Rattle.frame.specs.Layout.{Letter, D, S, U, letterOf}
+use Rattle.frame.specs.Distance.{distanceOf, answeredPosition}
+use Rattle.frame.specs.Layout.{Letter, D, S, U, letterOf, downlink}
 use Rattle.frame.specs.Order.{orderOf}
 use Rattle.frame.specs.Table.{windowOf}
 
@@ -55,3 +57,15 @@ layoutDigits c = digits 10 (λ (n : ℕ). letterDigit (letterOf c n))
 -- M of a configuration's ten subframes
 unfoldable pub sizeDigits : ℕ → ℕ
 sizeDigits c = digits 10 (λ (n : ℕ). length (windowOf c n))
+
+-- how far after each of a configuration's ten subframes its answer stands
+unfoldable pub distanceDigits : ℕ → ℕ
+distanceDigits c = digits 10 (distanceOf c)
+
+-- the position of a downlink subframe in its window; 0 for any other
+unfoldable pub codedPosition : ℕ → ℕ → ℕ
+codedPosition c d = cond (downlink c d) (answeredPosition c d) 0
+
+-- the position of each of a configuration's ten subframes
+unfoldable pub positionDigits : ℕ → ℕ
+positionDigits c = digits 10 (codedPosition c)

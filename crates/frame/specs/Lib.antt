@@ -1,4 +1,5 @@
 pub mod Coded
+pub mod Distance
 pub mod Layout
 pub mod Once
 pub mod Order

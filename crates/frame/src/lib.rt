@@ -1,8 +1,10 @@
 // The frame of a TDD cell: its settings, its layout, and the windows of Table 10.1-1.
+mod answering;
 mod digits;
 mod refusals;
 mod table;
 
+pub use answering::answered_of;
 pub use refusals::is_bundled;
 pub use refusals::settings_refusal;
 pub use refusals::window_refusal;
@@ -28,4 +30,14 @@ pub struct Window {
     pub size: u16,
     pub k: [u16; 9],
     pub order: [u16; 9],
+}
+
+// The uplink subframe n that answers for a downlink subframe, k subframes after it, and the position of that subframe in the window
+// of n; or the refusal, 0 for none, with zeros.
+#[repr(C)]
+pub struct Answered {
+    pub refusal: u16,
+    pub n: u16,
+    pub k: u16,
+    pub position: u16,
 }

@@ -4,7 +4,8 @@ use crate::digits::digit_at;
 use crate::digits::packed;
 ghost use mathlib.Core.Path.{_≡_};
 ghost use lib.ListN.{length};
-ghost use Rattle.frame.specs.Coded.{layoutDigits, sizeDigits, codedK, codedOrder, codedWindow};
+ghost use Rattle.frame.specs.Coded.{layoutDigits, sizeDigits, distanceDigits, positionDigits, codedPosition, codedK, codedOrder, codedWindow};
+ghost use Rattle.frame.specs.Distance.{distanceOf};
 ghost use Rattle.frame.specs.Layout.{downlink};
 ghost use Rattle.frame.specs.Table.{windowOf};
 
@@ -100,6 +101,39 @@ fn sizes_of(config: u16) -> u64
     }
 }
 
+// Derived from the rows: how far after subframes 9 to 0 of a configuration the uplink subframe stands that answers for each, a digit
+// each; 0 for an uplink subframe.
+fn distances_of(config: u16) -> u64
+    ensures { λ r. ⌜ r ≡ distanceDigits config ⌝ }
+{
+    match config {
+        0 => 0x0006400064,
+        1 => 0x4006740067,
+        2 => 0x8406784067,
+        3 => 0x55667000B4,
+        4 => 0x45677800BC,
+        5 => 0xD4567890BC,
+        6 => 0x5007700077,
+        _ => 0,
+    }
+}
+
+// Derived from the rows: the positions of subframes 9 to 0 of a configuration in their windows, a digit each; 0 for an uplink subframe.
+fn positions_of(config: u16) -> u64
+    ensures { λ r. ⌜ r ≡ positionDigits config ⌝ }
+{
+    match config {
+        0 => 0x0000000000,
+        1 => 0x0001000010,
+        2 => 0x0203102031,
+        3 => 0x0101000021,
+        4 => 0x2103210030,
+        5 => 0x0658432071,
+        6 => 0x0000000000,
+        _ => 0,
+    }
+}
+
 // Derived from the rows: the positions with k falling, that is the window in time order.
 fn order_of(size: u16, config: u16, n: u16) -> Order
     requires { ⌜ size ≡ length (windowOf config n) ⌝ }
@@ -138,6 +172,23 @@ pub fn size_of(config: u16, n: u16) -> u16
         return 0;
     }
     digit_at(sizes_of(config), n)
+}
+
+// How far after subframe d, of an endless run, the uplink subframe stands that answers for it; 0 where there is none.
+pub fn distance_of(config: u16, d: u16) -> u16
+    ensures { λ r. ⌜ r ≡ distanceOf config d ⌝ }
+{
+    digit_at(distances_of(config), d % 10)
+}
+
+// The position of downlink subframe d in its window; 0 for any other.
+pub fn position_of(config: u16, d: u16) -> u16
+    ensures { λ r. ⌜ r ≡ codedPosition config d ⌝ }
+{
+    if 9 < d {
+        return 0;
+    }
+    digit_at(positions_of(config), d)
 }
 
 // The window of subframe n; its size is 0 where there is none, outside the table too.
