@@ -91,15 +91,15 @@
  * pushed to make it (the return address, and a handset that goes in by value) and
  * without the answer, which lies where its caller puts it:
  *
- *             feedback_window         @W
- *             feedback_answered       @A
- *             feedback_resource       @R
- *             feedback_inverse        @I
- *             feedback_reading        @D
- *             feedback_claims         @C
- *             feedback_make           @M
- *             feedback_feed_nothing   @N
- *             feedback_feed_grant     @G
+ *             feedback_window         128
+ *             feedback_answered       64
+ *             feedback_resource       64
+ *             feedback_inverse        64
+ *             feedback_reading        256
+ *             feedback_claims         128
+ *             feedback_make           64
+ *             feedback_feed_nothing   4096
+ *             feedback_feed_grant     1024
  *
  * Of the C library the calls use memset and nothing else.
  */
@@ -107,7 +107,7 @@
 #define FEEDBACK_H
 
 #if !defined(__x86_64__) || defined(__ILP32__) || defined(_WIN32) || defined(__CYGWIN__)
-#error "feedback.h: libfeedback.a is for x86-64 with the System V calling convention and 64-bit pointers; this compiler's target is another one"
+#error "feedback.h: libfeedback.a is built for x86-64, System V convention, not for this target"
 #endif
 
 #include <stddef.h>

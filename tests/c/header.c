@@ -73,10 +73,13 @@ static const char *declaration(const char *name)
     return at;
 }
 
-/* Puts a name at the end of a list of names, and gives back the new end. */
-static char *put_name(char *names, char *end, const char *word, size_t length)
+/* Puts the word between two places at the end of a list of names; gives back the new end. */
+static char *put_name(char *names, char *end, const char *word, const char *stop)
 {
-    return end + sprintf(end, "%s%.*s", end == names ? "(" : ", ", (int)length, word);
+    end += sprintf(end, "%s", end == names ? "(" : ", ");
+    while (word < stop)
+        *end++ = *word++;
+    return end;
 }
 
 /* The names of a declaration's parameters, as (a, b, c): the word before each comma and the end. */
@@ -88,7 +91,7 @@ static void read_parameters(const char *at, char *names)
             const char *word = at + 1;
             while (is_word(word[-1]))
                 word--;
-            end = put_name(names, end, word, (size_t)(at + 1 - word));
+            end = put_name(names, end, word, at + 1);
         }
     strcpy(end, ")");
 }
@@ -105,7 +108,7 @@ static void read_descriptions(const char *at, char *names)
             const char *word = at;
             while (is_word(*at))
                 at++;
-            end = put_name(names, end, word, (size_t)(at - word));
+            end = put_name(names, end, word, at);
         }
     strcpy(end, ")");
 }
