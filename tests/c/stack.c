@@ -90,7 +90,7 @@ static void fill_settings(void)
         settings[i] = FEEDBACK_SETTINGS(i % 7, bandwidths[i / 28], 10, i / 7 % 2, 1 + i / 14 % 2);
 }
 
-/* The states of runs in which none, a third, two thirds and all of the grants are lost; some spoilt. */
+/* The states of runs that lose none, a third, two thirds and all of the grants; some spoilt. */
 static void fill_handsets(void)
 {
     EACH(i, HANDSETS)
@@ -115,7 +115,7 @@ static void fill_handsets(void)
     }
 }
 
-/* Claims of many windows: with the first bad one, and without. */
+/* A list of claims; how far they are good depends on the window. */
 static void fill_list(void)
 {
     EACH(i, 600) list[i] = FEEDBACK_CLAIM(i / 7 % 9, i % 7 + 7 * (i / 63));
