@@ -6,13 +6,15 @@
  * are those of 3GPP TS 36.213 version 9.3.0 (Release 9), sections 7.3 and 10.1,
  * for one serving cell with normal dynamic grants and PUCCH formats 1a, 1b and
  * 1b with channel selection. Link with libfeedback.a, which is built for x86-64
- * with the System V calling convention.
+ * with the System V calling convention. For C99 and C++98 and all later.
  *
+ *   calls of both ends      feedback_window, feedback_answered
  *   calls of the station    feedback_resource, feedback_inverse,
  *                           feedback_reading, feedback_claims
  *   calls of the handset    feedback_make, feedback_feed_nothing,
  *                           feedback_feed_grant
  *
+ * feedback_text.h has the refusals and the kinds as sentences for a log.
  * examples/cell.c runs both ends against each other.
  *
  *
@@ -24,9 +26,11 @@
  * grant       a PDCCH that schedules one or two transport blocks in its own
  *             subframe. Its first CCE and its DAI come with it.
  * window      the M downlink subframes n - k_0, n - k_1, .. that are answered in
- *             n. K = k_0, k_1, .. is printed in Table 10.1-1; an uplink subframe
- *             that is not in it has no window. Each downlink subframe is in
- *             exactly one window.
+ *             n, modulo 10 in the frame. K = k_0, k_1, .. is printed in Table
+ *             10.1-1; an uplink subframe that is not in it has no window. Each
+ *             downlink subframe is in exactly one window. feedback_window gives
+ *             the window of n, feedback_answered the window that a downlink
+ *             subframe is in; for reading, here is the table:
  *
  *             configuration   0 to 9        n: K
  *             0               DSUUUDSUUU    2: 6    4: 4    7: 6    9: 4
@@ -37,11 +41,10 @@
  *             5               DSUDDDDDDD    2: 13,12,9,8,7,5,4,11,6
  *             6               DSUUUDSUUD    2: 7    3: 7    4: 5    7: 7    8: 7
  *
- *             No call gives K: a caller has it from here. examples/cell.c has it
- *             as an array.
  * position    m, 0 to M - 1, counted in K as printed. K is not sorted: the last
  *             position need not be the latest subframe. In 8,7,4,6 the latest is
- *             m = 2. Time order inside a window is k falling.
+ *             m = 2. Time order inside a window is k falling; feedback_window
+ *             gives it too.
  * first CCE   the number of the first CCE of the PDCCH that carried the grant,
  *             0 to N_4 - 1.
  * N_p         max(0, floor(N_RB * (12 * p - 4) / 36)), p 0 to 4. A first CCE c
@@ -59,8 +62,8 @@
  *             miss: V is not ((U - 1) mod 4) + 1, where U grants were heard.
  *             Else a block's bit is ACK (1) if every grant heard decoded that
  *             block, and the resource is that of the last grant heard, last in
- *             time. One bit (format 1a) in a cell with one block, two (1b) with
- *             two. There a grant that carries one block answers for both bits.
+ *             time. One bit (format 1a) where the setting blocks is 1, two (1b)
+ *             where it is 2. There a grant with one block answers for both bits.
  * multiplexed in mode 1 where M is 2 to 4. Each position is A (heard, every
  *             block carried was decoded), N (heard, not so) or D (not heard).
  *             Tables 10.1-2 to 10.1-4 give a position i and two bits for the
@@ -74,14 +77,60 @@
  * may be given any numbers: it does its work, or it refuses and says why. C cuts
  * a wider number to 16 bits before the call sees it: hand over none above 65535.
  *
+ * FEEDBACK_SETTINGS and FEEDBACK_CLAIM take numbers of any width: one that is too
+ * wide becomes one that the call refuses.
+ *
  * Answers come back by value. The calls keep nothing from one call to the next,
- * allocate nothing, and may be made from several threads at once.
+ * allocate nothing, and may be made from several threads at once. GCC, Clang and
+ * every compiler of C23 or C++17 warn where an answer is dropped.
+ *
+ *
+ * STACK
+ *
+ * The most bytes of stack that a call takes, measured and rounded up, with what is
+ * pushed to make it (the return address, and a handset, which goes in by value) and
+ * without the answer, which lies where its caller puts it:
+ *
+ *             feedback_window         128
+ *             feedback_answered       64
+ *             feedback_resource       64
+ *             feedback_inverse        64
+ *             feedback_reading        256
+ *             feedback_claims         128
+ *             feedback_make           64
+ *             feedback_feed_nothing   4096
+ *             feedback_feed_grant     1024
+ *
+ * Of the C library the calls use memset and nothing else.
  */
 #ifndef FEEDBACK_H
 #define FEEDBACK_H
 
+#if !defined(__x86_64__) || defined(__ILP32__) || defined(_WIN32) || defined(__CYGWIN__)
+#error "feedback.h: libfeedback.a is built for x86-64, System V convention, not for this target"
+#endif
+
 #include <stddef.h>
 #include <stdint.h>
+
+/* This header's version: major * 10000 + minor * 100 + patch, and the same as text. */
+#define FEEDBACK_VERSION 10000
+#define FEEDBACK_VERSION_TEXT "1.0.0"
+
+#define FEEDBACK_WINDOW_MOST 9     /* the most subframes of a window: M in configuration 5 */
+#define FEEDBACK_MEMORY 13         /* the subframes that a handset remembers: the greatest k */
+#define FEEDBACK_SCRATCH_MOST 1206 /* the most scratch that feedback_claims needs: 9 * 134 */
+
+/* Before a call whose answer must not be dropped: with a feed's the grant would be lost. */
+#if defined(__cplusplus) && __cplusplus >= 201703L
+#define FEEDBACK_MUST_USE [[nodiscard]]
+#elif defined(__STDC_VERSION__) && __STDC_VERSION__ >= 202311L
+#define FEEDBACK_MUST_USE [[nodiscard]]
+#elif defined(__GNUC__)
+#define FEEDBACK_MUST_USE __attribute__((warn_unused_result))
+#else
+#define FEEDBACK_MUST_USE
+#endif
 
 #ifdef __cplusplus
 extern "C" {
@@ -92,8 +141,8 @@ extern "C" {
  * call names the refusals it can give. Where several causes are met, the lowest
  * number is given. A refused call changes nothing: no buffer is written, no state
  * moves on, nothing is made. Beside a refusal every other number of the answer is
- * 0, with three exceptions: a feed gives back the handset as it was, claims have
- * kind 2, and 16 comes with an index.
+ * 0, with two exceptions: a feed gives back the handset as it was, and 16 comes
+ * with an index.
  */
 enum feedback_refusal {
     FEEDBACK_NOT_REFUSED = 0,
@@ -103,7 +152,9 @@ enum feedback_refusal {
     FEEDBACK_REFUSED_MODE = 4,          /* mode not 0 or 1 */
     FEEDBACK_REFUSED_MULTIPLEXING = 5,  /* mode 1, configuration 5 */
     FEEDBACK_REFUSED_BLOCKS = 6,        /* blocks not 1 or 2 */
-    FEEDBACK_REFUSED_SUBFRAME = 7,      /* subframe over 9 or without a window */
+    FEEDBACK_REFUSED_SUBFRAME = 7,      /* subframe over 9 or without a window; in
+                                           feedback_answered an uplink subframe, which lies in no
+                                           window, or one over 9 */
     FEEDBACK_REFUSED_STATE = 8,         /* lent state fails 1 to 6, expects a subframe over 9, or
                                            remembers a grant failing 9 to 12 there, in the
                                            subframe that brought it; also a remembered kind that
@@ -122,22 +173,22 @@ enum feedback_refusal {
 
 /* The kind of a feed's answer, and of a reading (there 0, 1 or 2). */
 enum feedback_kind {
-    FEEDBACK_REFUSED = 0,     /* refused; the refusal says why */
-    FEEDBACK_BUNDLED = 1,     /* a bundled reply: ACK bits */
-    FEEDBACK_MULTIPLEXED = 2, /* a multiplexed reply: channel selection */
-    FEEDBACK_SILENT = 3,      /* an uplink subframe with a window: nothing is to be sent */
-    FEEDBACK_TAKEN = 4,       /* a downlink subframe: taken into the memory */
-    FEEDBACK_NO_WINDOW = 5    /* an uplink subframe without a window */
+    FEEDBACK_KIND_REFUSED = 0,     /* refused; the refusal says why */
+    FEEDBACK_KIND_BUNDLED = 1,     /* a bundled reply: ACK bits */
+    FEEDBACK_KIND_MULTIPLEXED = 2, /* a multiplexed reply: channel selection */
+    FEEDBACK_KIND_SILENT = 3,      /* an uplink subframe with a window: nothing is to be sent */
+    FEEDBACK_KIND_TAKEN = 4,       /* a downlink subframe: taken into the memory */
+    FEEDBACK_KIND_NO_WINDOW = 5    /* an uplink subframe without a window */
 };
 
 /* The kind of an answer about claims. */
 enum feedback_claims_kind {
-    FEEDBACK_CLAIMS_CLEAN = 0,  /* no two claims are equal */
-    FEEDBACK_CLAIMS_CLASH = 1,  /* two claims are equal */
-    FEEDBACK_CLAIMS_REFUSED = 2 /* refused; the refusal says why */
+    FEEDBACK_CLAIMS_REFUSED = 0, /* refused; the refusal says why */
+    FEEDBACK_CLAIMS_CLEAN = 1,   /* no two claims are equal */
+    FEEDBACK_CLAIMS_CLASH = 2    /* two claims are equal */
 };
 
-/* The mode of a cell, as in feedback_settings. */
+/* The mode of a handset, as in feedback_settings. */
 enum feedback_mode {
     FEEDBACK_MODE_BUNDLING = 0,
     FEEDBACK_MODE_MULTIPLEXING = 1
@@ -154,13 +205,39 @@ enum feedback_slot_results {
     FEEDBACK_TWO_CARRIED = 4     /* the grant carried two blocks, else one */
 };
 
-/* The settings of a cell. 10 bytes. Every call that takes them refuses 1 to 6 for them. */
+/*
+ * The settings of a handset in a cell. 10 bytes. config, nrb and n1 are the cell's,
+ * the same for all its handsets; mode and blocks are the handset's own, set by
+ * higher layers for each, and its replies are read with them. Every call that takes
+ * settings refuses 1 to 6 for them; feedback_window, feedback_answered,
+ * feedback_resource, feedback_inverse and feedback_claims ask no more of mode and
+ * blocks than that, and answer alike for all handsets of a cell.
+ *
+ * FEEDBACK_SETTINGS, below, fills these fields and those that a later version adds.
+ */
 struct feedback_settings {
     uint16_t config; /* uplink-downlink configuration, 0 to 6 */
     uint16_t nrb;    /* bandwidth N_RB in resource blocks, 6 to 110 */
     uint16_t n1;     /* N1, the higher-layer N_PUCCH^(1), 0 to 2047 */
     uint16_t mode;   /* 0 bundling, 1 multiplexing; configuration 5 has no multiplexing */
     uint16_t blocks; /* the most transport blocks one grant may carry, 1 or 2 */
+};
+
+/* The answer of feedback_window. 40 bytes. */
+struct feedback_window_answer {
+    uint16_t refusal;                     /* 0, or 1 to 7 */
+    uint16_t size;                        /* M, 1 to 9; 0 if refused */
+    uint16_t k[FEEDBACK_WINDOW_MOST];     /* k_0 to k_(M-1), K as printed; 0 from M on */
+    uint16_t order[FEEDBACK_WINDOW_MOST]; /* the positions 0 to M - 1 in time order, the earliest
+                                             subframe first; 0 from M on */
+};
+
+/* The answer of feedback_answered. 8 bytes. */
+struct feedback_answered_answer {
+    uint16_t refusal;  /* 0, or 1 to 7 */
+    uint16_t n;        /* the uplink subframe that answers; 0 if refused */
+    uint16_t k;        /* how many subframes later that is, 4 to 13; 0 if refused */
+    uint16_t position; /* the position m in the window of n, 0 to M - 1; 0 if refused */
 };
 
 /* The answer of feedback_resource. 4 bytes. */
@@ -179,7 +256,7 @@ struct feedback_inverse_answer {
 /* The answer of feedback_reading. 14 bytes. */
 struct feedback_reading_answer {
     uint16_t refusal;   /* 0, or 1 to 7, 13 or 14 */
-    uint16_t kind;      /* FEEDBACK_BUNDLED or FEEDBACK_MULTIPLEXED; 0 if refused */
+    uint16_t kind;      /* FEEDBACK_KIND_BUNDLED or FEEDBACK_KIND_MULTIPLEXED; 0 if refused */
     uint16_t position;  /* the position m of the grant whose resource this is; 0 if refused */
     uint16_t cce;       /* the first CCE of that grant; 0 if refused */
     uint16_t b0;        /* bundled: 1 ACK of the first block, 0 NACK; else 0 */
@@ -191,8 +268,8 @@ struct feedback_reading_answer {
 
 /* The answer of feedback_claims. 16 bytes. */
 struct feedback_claims_answer {
-    uint16_t kind;    /* FEEDBACK_CLAIMS_CLEAN, FEEDBACK_CLAIMS_CLASH or FEEDBACK_CLAIMS_REFUSED */
     uint16_t refusal; /* 0, or 1 to 7, 15 or 16 */
+    uint16_t kind;    /* FEEDBACK_CLAIMS_CLEAN or FEEDBACK_CLAIMS_CLASH; 0 if refused */
     uint64_t index;   /* clash: the index of the first claim that is equal to an earlier one;
                          refused 16: the index of the first bad claim; else 0 */
 };
@@ -217,8 +294,8 @@ struct feedback_slot {
  */
 struct feedback_handset {
     struct feedback_settings settings;
-    uint16_t next;                 /* the subframe that the next feed brings, 0 to 9 */
-    struct feedback_slot past[13]; /* the last 13 subframes, the newest first */
+    uint16_t next; /* the subframe that the next feed brings, 0 to 9 */
+    struct feedback_slot past[FEEDBACK_MEMORY]; /* the last 13 subframes, the newest first */
 };
 
 /* The answer of feedback_make. 66 bytes. */
@@ -240,6 +317,37 @@ struct feedback_fed {
 };
 
 /*
+ * The window of an uplink subframe: K as printed, and the positions in time order.
+ *
+ *   settings   the settings of the cell
+ *   n          the uplink subframe of the reply, 0 to 9, one with a window
+ *
+ * Position order[0] has the earliest subframe, order[M - 1] the latest: with w the
+ * answer, w.k[w.order[j]] falls as j rises.
+ *
+ * Refuses 1 to 7.
+ */
+FEEDBACK_MUST_USE
+struct feedback_window_answer feedback_window(struct feedback_settings settings, uint16_t n);
+
+/*
+ * The window that a downlink subframe is in: where and when it is answered. That is
+ * what a station asks before it sends a grant there.
+ *
+ *   settings   the settings of the cell
+ *   subframe   the downlink subframe, 0 to 9
+ *
+ * The answer's n is (subframe + k) modulo 10, and the subframe has the answer's
+ * position in the window of n. Each downlink subframe is in exactly one window.
+ *
+ * Refuses 1 to 7; 7 is an uplink subframe here, which lies in no window, or one
+ * over 9.
+ */
+FEEDBACK_MUST_USE
+struct feedback_answered_answer feedback_answered(struct feedback_settings settings,
+                                                  uint16_t subframe);
+
+/*
  * The PUCCH resource that belongs to a grant.
  *
  *   settings   the settings of the cell
@@ -250,6 +358,7 @@ struct feedback_fed {
  *
  * Refuses 1 to 7 and 11.
  */
+FEEDBACK_MUST_USE
 struct feedback_resource_answer feedback_resource(struct feedback_settings settings, uint16_t n,
                                                   uint16_t position, uint16_t cce);
 
@@ -263,13 +372,14 @@ struct feedback_resource_answer feedback_resource(struct feedback_settings setti
  *
  * Refuses 1 to 7 and 13.
  */
+FEEDBACK_MUST_USE
 struct feedback_inverse_answer feedback_inverse(struct feedback_settings settings, uint16_t n,
                                                 uint16_t resource);
 
 /*
  * What a reply on PUCCH says.
  *
- *   settings   the settings of the cell
+ *   settings   the settings of the handset that replied
  *   n          the uplink subframe of the reply, 0 to 9, one with a window
  *   resource   the PUCCH resource on which the reply came
  *   b0, b1     its bits, each 0 or 1; in a one-bit reply (bundled, settings.blocks
@@ -291,20 +401,45 @@ struct feedback_inverse_answer feedback_inverse(struct feedback_settings setting
  * decoded) in every state of the window that sends this symbol. Where states
  * share a symbol, a position that is A in only some of them is left out.
  *
+ * A reading says what the resource and the bits mean; it does not know what was
+ * sent. If the station sent this handset no grant with that first CCE at the
+ * position named, the reply is not this handset's, but a false alarm of the
+ * receiver (or another handset's reply): the station confirms nothing by it, at any
+ * position. So a scheduler may conclude this, from the window, what it sent there
+ * and the reading alone. A block that it sent is confirmed if the grant named was
+ * sent, at that position with that first CCE, and
+ *
+ *   bundled       the block's grant is the one named, or was sent before it where
+ *                 at most four of the window were sent up to and with the one
+ *                 named; and b0 is 1 for a first block, b1 for a second one, either
+ *                 of them for an only one
+ *   multiplexed   the position of the block's grant is in delivered
+ *
+ * Where nothing was sent there is nothing to confirm, whatever delivered has there.
+ *
+ * It is proved that each block confirmed by this rule was heard and decoded by the
+ * handset, whatever grants were lost: crates/confirmation/specs/Confirmed.antt has
+ * the rule, crates/agreement/proofs/Confirmation.antt the proof. It needs grants with
+ * DAIs by the rule above, a handset that is fed, for every subframe, what was sent
+ * there or nothing, and its reply as it was sent, read with its own settings.
+ *
  * Refuses 1 to 7, 13 and 14.
  */
+FEEDBACK_MUST_USE
 struct feedback_reading_answer feedback_reading(struct feedback_settings settings, uint16_t n,
                                                 uint16_t resource, uint16_t b0, uint16_t b1);
 
 /*
  * Whether the grants answered in one uplink subframe keep out of each other's
- * PUCCH resources. A claim is one grant: position m * 256 + first CCE.
+ * PUCCH resources. A claim is one grant: position m * 256 + first CCE, as
+ * FEEDBACK_CLAIM makes it.
  *
  *   settings   the settings of the cell
  *   n          the uplink subframe of the replies, 0 to 9, one with a window
  *   claims     the list of claims, only read; aligned as C demands of uint16_t
  *   count      the number of claims
- *   scratch    bytes to work in, at least M * N_4 of them (never more than 1206)
+ *   scratch    bytes to work in, at least M * N_4 of them (FEEDBACK_SCRATCH_MOST
+ *              are always enough)
  *   room       the number of bytes lent in scratch
  *
  * Clean if no two claims are equal, which is to say that no two grants share a
@@ -324,6 +459,7 @@ struct feedback_reading_answer feedback_reading(struct feedback_settings setting
  * a length beyond the memory lent. The two must not overlap, and nothing else may
  * write either during the call.
  */
+FEEDBACK_MUST_USE
 struct feedback_claims_answer feedback_claims(struct feedback_settings settings, uint16_t n,
                                               const uint16_t *claims, size_t count,
                                               uint8_t *scratch, size_t room);
@@ -331,29 +467,35 @@ struct feedback_claims_answer feedback_claims(struct feedback_settings settings,
 /*
  * A fresh handset. It expects subframe 0; the 13 subframes before it count as
  * unheard. To start elsewhere in the frame, set next: that is the state to which
- * as many feeds of nothing lead. When the settings of the cell change, make a
- * fresh handset.
+ * as many feeds of nothing lead. When a setting changes, make a fresh handset.
  *
- *   settings   the settings of the cell
+ *   settings   the settings of the handset
  *
  * Refuses 1 to 6; nothing is made then, and the handset beside the refusal is 64
  * zero bytes.
  */
+FEEDBACK_MUST_USE
 struct feedback_made feedback_make(struct feedback_settings settings);
 
 /*
  * The next subframe brought no grant: none was sent, or it was lost, or the
  * subframe is uplink. Call one of the two feeds for every subframe, uplink ones
  * too, and use the handset of its answer for the next: after subframe 9 comes 0.
+ * For subframes that the radio slept through feed nothing, once for each of them:
+ * the handset knows where in the frame it is by counting its feeds. (13 of them
+ * empty its memory: after so long a sleep a fresh handset with next set is the
+ * same.)
  *
  *   handset    the state that the feed before answered, or feedback_make
  *
- * In a downlink subframe the answer is FEEDBACK_TAKEN. In an uplink subframe it
- * is what to send in that very subframe: FEEDBACK_BUNDLED or FEEDBACK_MULTIPLEXED
- * with the resource and the bits, FEEDBACK_SILENT, or FEEDBACK_NO_WINDOW.
+ * In a downlink subframe the kind of the answer is FEEDBACK_KIND_TAKEN. In an
+ * uplink subframe it is what to send in that very subframe: FEEDBACK_KIND_BUNDLED
+ * or FEEDBACK_KIND_MULTIPLEXED with the resource and the bits,
+ * FEEDBACK_KIND_SILENT, or FEEDBACK_KIND_NO_WINDOW.
  *
  * Refuses 8. The handset of the answer is then the one given, byte for byte.
  */
+FEEDBACK_MUST_USE
 struct feedback_fed feedback_feed_nothing(struct feedback_handset handset);
 
 /*
@@ -368,25 +510,57 @@ struct feedback_fed feedback_feed_nothing(struct feedback_handset handset);
  *   dai        the DAI of the grant, 1 to 4 (in configuration 0 too, where no
  *              reply depends on it)
  *
- * The answer is FEEDBACK_TAKEN: only a downlink subframe can bring a grant.
+ * The kind of the answer is FEEDBACK_KIND_TAKEN: only a downlink subframe can bring
+ * a grant.
  *
  * Refuses 8 to 12. The handset of the answer is then the one given, byte for
  * byte: it still expects the same subframe.
  */
+FEEDBACK_MUST_USE
 struct feedback_fed feedback_feed_grant(struct feedback_handset handset, uint16_t blocks,
                                         uint16_t first, uint16_t second, uint16_t cce,
                                         uint16_t dai);
 
+/*
+ * The number of the layout of the structs above is part of a name in the library,
+ * and every object that includes this header refers to that name. So an object that
+ * was compiled against another layout does not link: "undefined reference to
+ * feedback_layout_.." with the number that it was compiled against. The reference is
+ * a pointer that nobody uses; GCC and Clang keep it by the attribute used, and from
+ * ld --gc-sections by retain, where they have it. With a compiler that has neither,
+ * use FEEDBACK_LAYOUT_LINKED once in your code: its value is 1, and it refers to the
+ * name in the same way. A program without the library, such as a test of your own,
+ * needs a feedback_layout_1 of its own.
+ */
+FEEDBACK_MUST_USE
+uint16_t feedback_layout_1(void);
+#define FEEDBACK_LAYOUT_LINKED (feedback_layout_1() == 1)
+
+#if defined(__GNUC__)
+#if defined(__ELF__) && defined(__has_attribute)
+#if __has_attribute(retain)
+#define FEEDBACK_KEPT __attribute__((used, retain))
+#endif
+#endif
+#ifndef FEEDBACK_KEPT
+#define FEEDBACK_KEPT __attribute__((used))
+#endif
+static uint16_t (*const feedback_layout_kept)(void) FEEDBACK_KEPT = feedback_layout_1;
+#undef FEEDBACK_KEPT
+#endif
+
 /* The layout that the library was built with; a compiler that lays out otherwise stops here. */
 #if defined(__cplusplus) && __cplusplus >= 201103L
-#define FEEDBACK_LAYOUT(condition) static_assert(condition, #condition);
+#define FEEDBACK_HOLDS(name, condition) static_assert(condition, #name);
 #elif defined(__STDC_VERSION__) && __STDC_VERSION__ >= 201112L
-#define FEEDBACK_LAYOUT(condition) _Static_assert(condition, #condition);
+#define FEEDBACK_HOLDS(name, condition) _Static_assert(condition, #name);
 #else
-#define FEEDBACK_LAYOUT(condition) extern char feedback_layout[(condition) ? 1 : -1];
+#define FEEDBACK_HOLDS(name, condition) typedef char name[(condition) ? 1 : -1];
 #endif
-#define FEEDBACK_SIZE(type, size) FEEDBACK_LAYOUT(sizeof(struct type) == size)
-#define FEEDBACK_PLACE(type, field, place) FEEDBACK_LAYOUT(offsetof(struct type, field) == place)
+#define FEEDBACK_SIZE(type, size) \
+    FEEDBACK_HOLDS(type##_has_##size##_bytes, sizeof(struct type) == size)
+#define FEEDBACK_PLACE(type, field, place) \
+    FEEDBACK_HOLDS(type##_has_##field##_at_##place, offsetof(struct type, field) == place)
 
 FEEDBACK_SIZE(feedback_settings, 10)
 FEEDBACK_PLACE(feedback_settings, config, 0)
@@ -394,6 +568,16 @@ FEEDBACK_PLACE(feedback_settings, nrb, 2)
 FEEDBACK_PLACE(feedback_settings, n1, 4)
 FEEDBACK_PLACE(feedback_settings, mode, 6)
 FEEDBACK_PLACE(feedback_settings, blocks, 8)
+FEEDBACK_SIZE(feedback_window_answer, 40)
+FEEDBACK_PLACE(feedback_window_answer, refusal, 0)
+FEEDBACK_PLACE(feedback_window_answer, size, 2)
+FEEDBACK_PLACE(feedback_window_answer, k, 4)
+FEEDBACK_PLACE(feedback_window_answer, order, 22)
+FEEDBACK_SIZE(feedback_answered_answer, 8)
+FEEDBACK_PLACE(feedback_answered_answer, refusal, 0)
+FEEDBACK_PLACE(feedback_answered_answer, n, 2)
+FEEDBACK_PLACE(feedback_answered_answer, k, 4)
+FEEDBACK_PLACE(feedback_answered_answer, position, 6)
 FEEDBACK_SIZE(feedback_resource_answer, 4)
 FEEDBACK_PLACE(feedback_resource_answer, refusal, 0)
 FEEDBACK_PLACE(feedback_resource_answer, resource, 2)
@@ -410,8 +594,8 @@ FEEDBACK_PLACE(feedback_reading_answer, b0, 8)
 FEEDBACK_PLACE(feedback_reading_answer, b1, 10)
 FEEDBACK_PLACE(feedback_reading_answer, delivered, 12)
 FEEDBACK_SIZE(feedback_claims_answer, 16)
-FEEDBACK_PLACE(feedback_claims_answer, kind, 0)
-FEEDBACK_PLACE(feedback_claims_answer, refusal, 2)
+FEEDBACK_PLACE(feedback_claims_answer, refusal, 0)
+FEEDBACK_PLACE(feedback_claims_answer, kind, 2)
 FEEDBACK_PLACE(feedback_claims_answer, index, 8)
 FEEDBACK_SIZE(feedback_slot, 4)
 FEEDBACK_PLACE(feedback_slot, kind, 0)
@@ -432,14 +616,54 @@ FEEDBACK_PLACE(feedback_fed, resource, 4)
 FEEDBACK_PLACE(feedback_fed, b0, 6)
 FEEDBACK_PLACE(feedback_fed, b1, 8)
 FEEDBACK_PLACE(feedback_fed, handset, 10)
-FEEDBACK_LAYOUT(sizeof(size_t) == 8)
+FEEDBACK_HOLDS(feedback_size_t_has_8_bytes, sizeof(size_t) == 8)
 
 #undef FEEDBACK_PLACE
 #undef FEEDBACK_SIZE
-#undef FEEDBACK_LAYOUT
+#undef FEEDBACK_HOLDS
 
 #ifdef __cplusplus
 }
 #endif
+
+/*
+ * Settings from their numbers: an expression of type struct feedback_settings. A
+ * number over 65535 becomes 65535, which every call refuses as the setting that it
+ * is. Where a later version has more settings, this fills them in such a way that
+ * the calls answer as they did before: code that uses it need not change. It is a
+ * call of a function, which C does not allow where a static object gets its value.
+ */
+#define FEEDBACK_SETTINGS(config, nrb, n1, mode, blocks) \
+    feedback_settings_of(config, nrb, n1, mode, blocks)
+
+/*
+ * A claim from its numbers: an expression of type uint16_t. Where one of them is over
+ * 255 it is 65535, a claim that no window has and feedback_claims refuses with 16.
+ */
+#define FEEDBACK_CLAIM(position, cce) feedback_claim_of(position, cce)
+
+/* The functions behind these two macros. */
+static inline uint16_t feedback_setting_of(uint64_t number)
+{
+    return number < 65535u ? number & 65535u : 65535u;
+}
+
+static inline struct feedback_settings feedback_settings_of(uint64_t config, uint64_t nrb,
+                                                            uint64_t n1, uint64_t mode,
+                                                            uint64_t blocks)
+{
+    struct feedback_settings settings;
+    settings.config = feedback_setting_of(config);
+    settings.nrb = feedback_setting_of(nrb);
+    settings.n1 = feedback_setting_of(n1);
+    settings.mode = feedback_setting_of(mode);
+    settings.blocks = feedback_setting_of(blocks);
+    return settings;
+}
+
+static inline uint16_t feedback_claim_of(uint64_t position, uint64_t cce)
+{
+    return position < 256u && cce < 256u ? (position * 256u + cce) & 65535u : 65535u;
+}
 
 #endif

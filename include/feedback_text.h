@@ -1,0 +1,110 @@
+/*
+ * feedback_text.h: the refusals and the kinds of feedback.h as sentences for a log
+ *
+ * Each function gives a text for any number, never NULL; a number that has no meaning
+ * gets a text that says so. The texts are English, in ASCII and without a newline,
+ * and last as long as the program. There is nothing to link.
+ *
+ *   feedback_refusal_text       a refusal, of any answer
+ *   feedback_kind_text          the kind of a feed's answer or of a reading
+ *   feedback_claims_kind_text   the kind of an answer about claims
+ *   feedback_slot_kind_text     the kind of a remembered subframe
+ */
+#ifndef FEEDBACK_TEXT_H
+#define FEEDBACK_TEXT_H
+
+#include "feedback.h"
+
+/* What a refusal says, by enum feedback_refusal. */
+static inline const char *feedback_refusal_text(unsigned refusal)
+{
+    switch (refusal) {
+    case FEEDBACK_NOT_REFUSED:
+        return "The call was not refused.";
+    case FEEDBACK_REFUSED_CONFIGURATION:
+        return "Refused 1: the uplink-downlink configuration is over 6.";
+    case FEEDBACK_REFUSED_BANDWIDTH:
+        return "Refused 2: the bandwidth N_RB is not 6 to 110.";
+    case FEEDBACK_REFUSED_N1:
+        return "Refused 3: N1 is over 2047.";
+    case FEEDBACK_REFUSED_MODE:
+        return "Refused 4: the mode is neither 0 (bundling) nor 1 (multiplexing).";
+    case FEEDBACK_REFUSED_MULTIPLEXING:
+        return "Refused 5: configuration 5 has no multiplexing.";
+    case FEEDBACK_REFUSED_BLOCKS:
+        return "Refused 6: the most transport blocks of a grant is neither 1 nor 2.";
+    case FEEDBACK_REFUSED_SUBFRAME:
+        return "Refused 7: the subframe is over 9, or it has no window or lies in none.";
+    case FEEDBACK_REFUSED_STATE:
+        return "Refused 8: the handset has bad settings, a bad next subframe or a bad memory.";
+    case FEEDBACK_REFUSED_UPLINK:
+        return "Refused 9: the grant came in an uplink subframe.";
+    case FEEDBACK_REFUSED_CARRIED:
+        return "Refused 10: the grant carries no block, or more than the setting allows.";
+    case FEEDBACK_REFUSED_CCE:
+        return "Refused 11: the first CCE is not below N_4, or the position is not below M.";
+    case FEEDBACK_REFUSED_DAI:
+        return "Refused 12: the DAI is not 1 to 4.";
+    case FEEDBACK_REFUSED_RESOURCE:
+        return "Refused 13: the PUCCH resource is below N1 or above N1 + M * N_4 - 1.";
+    case FEEDBACK_REFUSED_BITS:
+        return "Refused 14: the bits are such as no reply has on this resource.";
+    case FEEDBACK_REFUSED_SCRATCH:
+        return "Refused 15: the scratch is shorter than M * N_4 bytes.";
+    case FEEDBACK_REFUSED_CLAIM:
+        return "Refused 16: a claim's position is not below M or its CCE not below N_4.";
+    default:
+        return "This number is no refusal.";
+    }
+}
+
+/* What the kind of a feed's answer or of a reading says, by enum feedback_kind. */
+static inline const char *feedback_kind_text(unsigned kind)
+{
+    switch (kind) {
+    case FEEDBACK_KIND_REFUSED:
+        return "The call was refused.";
+    case FEEDBACK_KIND_BUNDLED:
+        return "A bundled reply, with ACK bits.";
+    case FEEDBACK_KIND_MULTIPLEXED:
+        return "A multiplexed reply, by channel selection.";
+    case FEEDBACK_KIND_SILENT:
+        return "Silent: the window has no reply.";
+    case FEEDBACK_KIND_TAKEN:
+        return "A downlink subframe, taken into the handset's memory.";
+    case FEEDBACK_KIND_NO_WINDOW:
+        return "An uplink subframe without a window.";
+    default:
+        return "This number is no kind of an answer.";
+    }
+}
+
+/* What the kind of an answer about claims says, by enum feedback_claims_kind. */
+static inline const char *feedback_claims_kind_text(unsigned kind)
+{
+    switch (kind) {
+    case FEEDBACK_CLAIMS_REFUSED:
+        return "The claims were refused.";
+    case FEEDBACK_CLAIMS_CLEAN:
+        return "The claims are clean: no two grants share a PUCCH resource.";
+    case FEEDBACK_CLAIMS_CLASH:
+        return "The claims clash: two grants share a PUCCH resource.";
+    default:
+        return "This number is no kind of an answer about claims.";
+    }
+}
+
+/* What the kind of a remembered subframe says, by enum feedback_slot_kind. */
+static inline const char *feedback_slot_kind_text(unsigned kind)
+{
+    switch (kind) {
+    case FEEDBACK_SLOT_NOTHING:
+        return "The subframe brought nothing.";
+    case FEEDBACK_SLOT_GRANT:
+        return "The subframe brought a grant.";
+    default:
+        return "This number is no kind of a remembered subframe.";
+    }
+}
+
+#endif

@@ -1,0 +1,828 @@
+/*
+ * The C header against the library: every call, constant, field and parameter name of
+ * include/feedback.h, with values worked out by hand from document 01. They are chosen so that
+ * exchanging two parameters, fields or numbers of the header changes an answer. Valid as C99 to C17
+ * and as C++98 to C++17. The argument is the header's file: the names of the parameters, their
+ * descriptions and the table of windows are read from its text.
+ */
+#include "feedback.h"
+#include "feedback_text.h"
+#include <stdio.h>
+#include <stdlib.h>
+#include <string.h>
+
+#if FEEDBACK_VERSION != 10000
+#error "FEEDBACK_VERSION is for the preprocessor too"
+#endif
+
+static unsigned checks, failures;
+
+static void equal(int line, const char *what, unsigned long got, unsigned long wanted)
+{
+    checks++;
+    if (got != wanted) {
+        failures++;
+        printf("line %d: %s is %lu, not %lu\n", line, what, got, wanted);
+    }
+}
+
+static void same(int line, const char *what, const char *got, const char *wanted)
+{
+    checks++;
+    if (strcmp(got, wanted) != 0) {
+        failures++;
+        printf("line %d: %s is\n  %s\nand not\n  %s\n", line, what, got, wanted);
+    }
+}
+
+#define EQUAL(got, wanted) equal(__LINE__, #got, got, wanted)
+#define SAME(got, wanted) same(__LINE__, #got, got, wanted)
+#define HOLDS(condition) equal(__LINE__, #condition, (condition) ? 1 : 0, 1)
+#define BYTES(got, wanted, size) HOLDS(memcmp(got, wanted, size) == 0)
+
+/* ---- the header's text ---- */
+
+static char text[65536];
+
+static void read_header(const char *name)
+{
+    FILE *file = fopen(name, "r");
+    size_t length = file == NULL ? 0 : fread(text, 1, sizeof text - 1, file);
+    if (length == 0 || length == sizeof text - 1 || fclose(file) != 0) {
+        printf("%s cannot be read, or is too long\n", name);
+        exit(2);
+    }
+}
+
+static int is_word(char letter)
+{
+    return letter != '\0' && strchr("abcdefghijklmnopqrstuvwxyz_0123456789", letter) != NULL;
+}
+
+/* The place where the header declares a call: the name, with a blank before it and ( after it. */
+static const char *declaration(const char *name)
+{
+    size_t length = strlen(name);
+    const char *at = text;
+    while ((at = strstr(at, name)) != NULL && (at[-1] != ' ' || at[length] != '('))
+        at++;
+    if (at == NULL) {
+        printf("the header does not declare %s\n", name);
+        exit(1);
+    }
+    return at;
+}
+
+/* Puts the word between two places at the end of a list of names; gives back the new end. */
+static char *put_name(char *names, char *end, const char *word, const char *stop)
+{
+    end += sprintf(end, "%s", end == names ? "(" : ", ");
+    while (word < stop)
+        *end++ = *word++;
+    return end;
+}
+
+/* The names of a declaration's parameters, as (a, b, c): the word before each comma and the end. */
+static void read_parameters(const char *at, char *names)
+{
+    char *end = names;
+    for (at = strchr(at, '('); *at != ';'; at++)
+        if (at[1] == ',' || at[1] == ')') {
+            const char *word = at + 1;
+            while (is_word(word[-1]))
+                word--;
+            end = put_name(names, end, word, at + 1);
+        }
+    strcpy(end, ")");
+}
+
+/* The names that the comment above a declaration describes: its first lines with three blanks. */
+static void read_descriptions(const char *at, char *names)
+{
+    char *end = names;
+    while (strncmp(at, "\n/*\n", 4) != 0)
+        at--;
+    at = strstr(at, "\n *   ");
+    for (; strncmp(at, "\n *   ", 6) == 0; at = strchr(at, '\n'))
+        for (at += 6; is_word(*at); at += strncmp(at, ", ", 2) == 0 ? 2 : 0) {
+            const char *word = at;
+            while (is_word(*at))
+                at++;
+            end = put_name(names, end, word, at);
+        }
+    strcpy(end, ")");
+}
+
+/* The arguments of a call are variables of the parameters' names; so they stand in the header. */
+static void named(int line, const char *call, const char *arguments)
+{
+    char names[256];
+    read_parameters(declaration(call), names);
+    same(line, call, names, arguments);
+    read_descriptions(declaration(call), names);
+    same(line, call, names, arguments);
+}
+
+#define CALL(call, arguments) (named(__LINE__, #call, #arguments), call arguments)
+
+/* ---- constants ---- */
+
+static void numbers(void)
+{
+    char version[32];
+    EQUAL(FEEDBACK_NOT_REFUSED, 0);
+    EQUAL(FEEDBACK_REFUSED_CONFIGURATION, 1);
+    EQUAL(FEEDBACK_REFUSED_BANDWIDTH, 2);
+    EQUAL(FEEDBACK_REFUSED_N1, 3);
+    EQUAL(FEEDBACK_REFUSED_MODE, 4);
+    EQUAL(FEEDBACK_REFUSED_MULTIPLEXING, 5);
+    EQUAL(FEEDBACK_REFUSED_BLOCKS, 6);
+    EQUAL(FEEDBACK_REFUSED_SUBFRAME, 7);
+    EQUAL(FEEDBACK_REFUSED_STATE, 8);
+    EQUAL(FEEDBACK_REFUSED_UPLINK, 9);
+    EQUAL(FEEDBACK_REFUSED_CARRIED, 10);
+    EQUAL(FEEDBACK_REFUSED_CCE, 11);
+    EQUAL(FEEDBACK_REFUSED_DAI, 12);
+    EQUAL(FEEDBACK_REFUSED_RESOURCE, 13);
+    EQUAL(FEEDBACK_REFUSED_BITS, 14);
+    EQUAL(FEEDBACK_REFUSED_SCRATCH, 15);
+    EQUAL(FEEDBACK_REFUSED_CLAIM, 16);
+    EQUAL(FEEDBACK_KIND_REFUSED, 0);
+    EQUAL(FEEDBACK_KIND_BUNDLED, 1);
+    EQUAL(FEEDBACK_KIND_MULTIPLEXED, 2);
+    EQUAL(FEEDBACK_KIND_SILENT, 3);
+    EQUAL(FEEDBACK_KIND_TAKEN, 4);
+    EQUAL(FEEDBACK_KIND_NO_WINDOW, 5);
+    EQUAL(FEEDBACK_CLAIMS_REFUSED, 0);
+    EQUAL(FEEDBACK_CLAIMS_CLEAN, 1);
+    EQUAL(FEEDBACK_CLAIMS_CLASH, 2);
+    EQUAL(FEEDBACK_MODE_BUNDLING, 0);
+    EQUAL(FEEDBACK_MODE_MULTIPLEXING, 1);
+    EQUAL(FEEDBACK_SLOT_NOTHING, 0);
+    EQUAL(FEEDBACK_SLOT_GRANT, 1);
+    EQUAL(FEEDBACK_FIRST_DECODED, 1);
+    EQUAL(FEEDBACK_SECOND_DECODED, 2);
+    EQUAL(FEEDBACK_TWO_CARRIED, 4);
+    EQUAL(FEEDBACK_WINDOW_MOST, 9);
+    EQUAL(FEEDBACK_MEMORY, 13);
+    EQUAL(FEEDBACK_SCRATCH_MOST, 1206); /* M 9, and N_4 134 where N_RB is 110 */
+    EQUAL(FEEDBACK_VERSION, 10000);
+    sprintf(version, "%d.%d.%d", FEEDBACK_VERSION / 10000, FEEDBACK_VERSION / 100 % 100,
+            FEEDBACK_VERSION % 100);
+    SAME(FEEDBACK_VERSION_TEXT, version);
+    EQUAL(feedback_layout_1(), 1);
+    EQUAL(FEEDBACK_LAYOUT_LINKED, 1);
+}
+
+#define SIZE(type, size) EQUAL(sizeof(struct type), size)
+#define PLACE(type, field, place) EQUAL(offsetof(struct type, field), place)
+
+static void layout(void)
+{
+    SIZE(feedback_settings, 10);
+    PLACE(feedback_settings, config, 0);
+    PLACE(feedback_settings, nrb, 2);
+    PLACE(feedback_settings, n1, 4);
+    PLACE(feedback_settings, mode, 6);
+    PLACE(feedback_settings, blocks, 8);
+    SIZE(feedback_window_answer, 40);
+    PLACE(feedback_window_answer, refusal, 0);
+    PLACE(feedback_window_answer, size, 2);
+    PLACE(feedback_window_answer, k, 4);
+    PLACE(feedback_window_answer, order, 22);
+    SIZE(feedback_answered_answer, 8);
+    PLACE(feedback_answered_answer, refusal, 0);
+    PLACE(feedback_answered_answer, n, 2);
+    PLACE(feedback_answered_answer, k, 4);
+    PLACE(feedback_answered_answer, position, 6);
+    SIZE(feedback_resource_answer, 4);
+    PLACE(feedback_resource_answer, refusal, 0);
+    PLACE(feedback_resource_answer, resource, 2);
+    SIZE(feedback_inverse_answer, 6);
+    PLACE(feedback_inverse_answer, refusal, 0);
+    PLACE(feedback_inverse_answer, position, 2);
+    PLACE(feedback_inverse_answer, cce, 4);
+    SIZE(feedback_reading_answer, 14);
+    PLACE(feedback_reading_answer, refusal, 0);
+    PLACE(feedback_reading_answer, kind, 2);
+    PLACE(feedback_reading_answer, position, 4);
+    PLACE(feedback_reading_answer, cce, 6);
+    PLACE(feedback_reading_answer, b0, 8);
+    PLACE(feedback_reading_answer, b1, 10);
+    PLACE(feedback_reading_answer, delivered, 12);
+    SIZE(feedback_claims_answer, 16);
+    PLACE(feedback_claims_answer, refusal, 0);
+    PLACE(feedback_claims_answer, kind, 2);
+    PLACE(feedback_claims_answer, index, 8);
+    SIZE(feedback_slot, 4);
+    PLACE(feedback_slot, kind, 0);
+    PLACE(feedback_slot, cce, 1);
+    PLACE(feedback_slot, dai, 2);
+    PLACE(feedback_slot, results, 3);
+    SIZE(feedback_handset, 64);
+    PLACE(feedback_handset, settings, 0);
+    PLACE(feedback_handset, next, 10);
+    PLACE(feedback_handset, past, 12);
+    SIZE(feedback_made, 66);
+    PLACE(feedback_made, refusal, 0);
+    PLACE(feedback_made, handset, 2);
+    SIZE(feedback_fed, 74);
+    PLACE(feedback_fed, refusal, 0);
+    PLACE(feedback_fed, kind, 2);
+    PLACE(feedback_fed, resource, 4);
+    PLACE(feedback_fed, b0, 6);
+    PLACE(feedback_fed, b1, 8);
+    PLACE(feedback_fed, handset, 10);
+}
+
+/* ---- settings ---- */
+
+static struct feedback_settings settings_of(uint16_t config, uint16_t mode, uint16_t blocks)
+{
+    return FEEDBACK_SETTINGS(config, 50, 10, mode, blocks);
+}
+
+static void settings_macro(void)
+{
+    struct feedback_settings given = {2, 50, 10, 0, 1};
+    struct feedback_settings made = FEEDBACK_SETTINGS(2, 50, 10, 0, 1);
+    EQUAL(given.config, 2);
+    EQUAL(given.nrb, 50);
+    EQUAL(given.n1, 10);
+    EQUAL(given.mode, 0);
+    EQUAL(given.blocks, 1);
+    BYTES(&given, &made, sizeof made);
+    made = FEEDBACK_SETTINGS(65536, 65535, 131077, 4294967297u, 65534);
+    EQUAL(made.config, 65535);
+    EQUAL(made.nrb, 65535);
+    EQUAL(made.n1, 65535);
+    EQUAL(made.mode, 65535);
+    EQUAL(made.blocks, 65534);
+}
+
+/* Every call refuses these settings with this number, and a feed of such a state 8. */
+static void settings_refused(struct feedback_settings bad, unsigned refusal)
+{
+    static struct feedback_handset zero;
+    uint16_t claim = FEEDBACK_CLAIM(7, 77);
+    uint8_t scratch = 99;
+    struct feedback_window_answer window = feedback_window(bad, 11);
+    struct feedback_answered_answer answered = feedback_answered(bad, 11);
+    struct feedback_resource_answer mapped = feedback_resource(bad, 11, 99, 999);
+    struct feedback_inverse_answer inverted = feedback_inverse(bad, 11, 9999);
+    struct feedback_reading_answer reading = feedback_reading(bad, 11, 9999, 8, 9);
+    struct feedback_claims_answer claimed = feedback_claims(bad, 11, &claim, 1, &scratch, 1);
+    struct feedback_made made = feedback_make(bad);
+    struct feedback_handset handset = zero;
+    struct feedback_fed fed;
+    unsigned i;
+    EQUAL(window.refusal, refusal);
+    EQUAL(window.size, 0);
+    for (i = 0; i < 9; i++) {
+        EQUAL(window.k[i], 0);
+        EQUAL(window.order[i], 0);
+    }
+    EQUAL(answered.refusal, refusal);
+    EQUAL(answered.n, 0);
+    EQUAL(answered.k, 0);
+    EQUAL(answered.position, 0);
+    EQUAL(mapped.refusal, refusal);
+    EQUAL(mapped.resource, 0);
+    EQUAL(inverted.refusal, refusal);
+    EQUAL(inverted.position, 0);
+    EQUAL(inverted.cce, 0);
+    EQUAL(reading.refusal, refusal);
+    EQUAL(reading.kind, FEEDBACK_KIND_REFUSED);
+    EQUAL(reading.position, 0);
+    EQUAL(reading.cce, 0);
+    EQUAL(reading.b0, 0);
+    EQUAL(reading.b1, 0);
+    EQUAL(reading.delivered, 0);
+    EQUAL(claimed.refusal, refusal);
+    EQUAL(claimed.kind, FEEDBACK_CLAIMS_REFUSED);
+    EQUAL(claimed.index, 0);
+    EQUAL(scratch, 99);
+    EQUAL(made.refusal, refusal);
+    BYTES(&made.handset, &zero, sizeof zero);
+    handset.settings = bad;
+    fed = feedback_feed_nothing(handset);
+    EQUAL(fed.refusal, FEEDBACK_REFUSED_STATE);
+    EQUAL(fed.kind, FEEDBACK_KIND_REFUSED);
+    BYTES(&fed.handset, &handset, sizeof handset);
+}
+
+static void settings(void)
+{
+    settings_refused(FEEDBACK_SETTINGS(7, 5, 2048, 2, 3), FEEDBACK_REFUSED_CONFIGURATION);
+    settings_refused(FEEDBACK_SETTINGS(6, 5, 2048, 2, 3), FEEDBACK_REFUSED_BANDWIDTH);
+    settings_refused(FEEDBACK_SETTINGS(6, 111, 2048, 2, 3), FEEDBACK_REFUSED_BANDWIDTH);
+    settings_refused(FEEDBACK_SETTINGS(6, 110, 2048, 2, 3), FEEDBACK_REFUSED_N1);
+    settings_refused(FEEDBACK_SETTINGS(5, 6, 2047, 2, 3), FEEDBACK_REFUSED_MODE);
+    settings_refused(FEEDBACK_SETTINGS(5, 6, 2047, 1, 3), FEEDBACK_REFUSED_MULTIPLEXING);
+    settings_refused(FEEDBACK_SETTINGS(5, 6, 2047, 0, 3), FEEDBACK_REFUSED_BLOCKS);
+    settings_refused(FEEDBACK_SETTINGS(4, 6, 2047, 1, 0), FEEDBACK_REFUSED_BLOCKS);
+    settings_refused(FEEDBACK_SETTINGS(65538, 50, 10, 0, 2), FEEDBACK_REFUSED_CONFIGURATION);
+}
+
+/* ---- windows ---- */
+
+/* Document 01, "Frame and windows": the rows of its table. */
+static const char *const rows[7] = {
+    "0 DSUUUDSUUU 2: 6 4: 4 7: 6 9: 4",        "1 DSUUDDSUUD 2: 7,6 3: 4 7: 7,6 8: 4",
+    "2 DSUDDDSUDD 2: 8,7,4,6 7: 8,7,4,6",      "3 DSUUUDDDDD 2: 7,6,11 3: 6,5 4: 5,4",
+    "4 DSUUDDDDDD 2: 12,8,7,11 3: 6,5,4,7",    "5 DSUDDDDDDD 2: 13,12,9,8,7,5,4,11,6",
+    "6 DSUUUDSUUD 2: 7 3: 7 4: 5 7: 7 8: 7",
+};
+
+/* A row of the table in the header's comment, with one blank for many; gives back where it ends. */
+static const char *printed_row(const char *at, char *row)
+{
+    for (at += strspn(at, "\n *"); *at != '\n'; at++)
+        if (*at != ' ' || row[-1] != ' ')
+            *row++ = *at;
+    *row = '\0';
+    return at;
+}
+
+/* The same row as the calls give it; which downlink subframes are special no call tells. */
+static void called_row(uint16_t config, char *row)
+{
+    uint16_t n;
+    unsigned m;
+    row += sprintf(row, "%u ", 0u + config);
+    for (n = 0; n < 10; n++) {
+        struct feedback_answered_answer answered = feedback_answered(settings_of(config, 0, 2), n);
+        int uplink = answered.refusal == FEEDBACK_REFUSED_SUBFRAME;
+        *row++ = uplink ? 'U' : rows[config][2 + n] == 'S' ? 'S' : 'D';
+    }
+    for (n = 0; n < 10; n++) {
+        struct feedback_window_answer window = feedback_window(settings_of(config, 0, 2), n);
+        EQUAL(window.refusal, window.size == 0 ? 7 : 0);
+        for (m = 0; m < window.size && m < 9; m++)
+            row += sprintf(row, m == 0 ? " %u: %u" : ",%.0u%u", m == 0 ? n : 0u, 0u + window.k[m]);
+    }
+    *row = '\0';
+}
+
+static void table(void)
+{
+    char space[256];
+    char *row = space + 1;
+    const char *at = strstr(text, " *             configuration   0 to 9        n: K\n");
+    uint16_t config;
+    space[0] = ' ';
+    HOLDS(at != NULL);
+    if (at == NULL)
+        return;
+    at = strchr(at, '\n');
+    for (config = 0; config < 7; config++) {
+        at = printed_row(at, row);
+        SAME(row, rows[config]);
+        called_row(config, row);
+        SAME(row, rows[config]);
+    }
+    HOLDS(strncmp(at, "\n *\n", 4) == 0);
+}
+
+static void window_of_2(void)
+{
+    static const uint16_t ks[9] = {8, 7, 4, 6}, times[9] = {0, 1, 3, 2};
+    struct feedback_settings settings = settings_of(2, 1, 1);
+    uint16_t n = 7;
+    struct feedback_window_answer window = CALL(feedback_window, (settings, n));
+    EQUAL(window.refusal, 0);
+    EQUAL(window.size, 4);
+    BYTES(window.k, ks, sizeof ks);
+    BYTES(window.order, times, sizeof times);
+    window = feedback_window(settings, 3);
+    EQUAL(window.refusal, FEEDBACK_REFUSED_SUBFRAME);
+    EQUAL(window.size, 0);
+    window = feedback_window(settings, 12);
+    EQUAL(window.refusal, FEEDBACK_REFUSED_SUBFRAME);
+}
+
+static void window_of_5(void)
+{
+    static const uint16_t ks[9] = {13, 12, 9, 8, 7, 5, 4, 11, 6};
+    static const uint16_t times[9] = {0, 1, 7, 2, 3, 4, 8, 5, 6};
+    struct feedback_window_answer window = feedback_window(settings_of(5, 0, 2), 2);
+    EQUAL(window.refusal, 0);
+    EQUAL(window.size, FEEDBACK_WINDOW_MOST);
+    BYTES(window.k, ks, sizeof ks);
+    BYTES(window.order, times, sizeof times);
+}
+
+static void answered(void)
+{
+    struct feedback_settings settings = settings_of(2, 0, 1);
+    uint16_t subframe = 3;
+    struct feedback_answered_answer answer = CALL(feedback_answered, (settings, subframe));
+    EQUAL(answer.refusal, 0); /* 7 - 4 is 3, and 4 is k_2 of 8,7,4,6 */
+    EQUAL(answer.n, 7);
+    EQUAL(answer.k, 4);
+    EQUAL(answer.position, 2);
+    answer = feedback_answered(settings_of(5, 0, 1), 1);
+    EQUAL(answer.refusal, 0); /* 12 - 11 is 1, and 11 is k_7 */
+    EQUAL(answer.n, 2);
+    EQUAL(answer.k, 11);
+    EQUAL(answer.position, 7);
+    answer = feedback_answered(settings, 7);
+    EQUAL(answer.refusal, FEEDBACK_REFUSED_SUBFRAME);
+    EQUAL(answer.n, 0);
+    EQUAL(answer.k, 0);
+    EQUAL(answer.position, 0);
+    answer = feedback_answered(settings, 13);
+    EQUAL(answer.refusal, FEEDBACK_REFUSED_SUBFRAME);
+}
+
+/* ---- the station; N_RB 50, where N_p is 0, 11, 27, 44, 61, and N1 10 ---- */
+
+static void resource_and_inverse(void)
+{
+    struct feedback_settings settings = settings_of(2, 0, 2);
+    uint16_t n = 7, position = 2, cce = 5, resource = 37;
+    struct feedback_resource_answer mapped = CALL(feedback_resource, (settings, n, position, cce));
+    struct feedback_inverse_answer inverted = CALL(feedback_inverse, (settings, n, resource));
+    EQUAL(mapped.refusal, 0); /* region 0: 1 * 0 + 2 * 11 + 5 + 10 */
+    EQUAL(mapped.resource, 37);
+    EQUAL(inverted.refusal, 0);
+    EQUAL(inverted.position, 2);
+    EQUAL(inverted.cce, 5);
+    mapped = feedback_resource(settings, 2, 3, 1);
+    EQUAL(mapped.resource, 44); /* region 0: 3 * 11 + 1 + 10 */
+    mapped = feedback_resource(settings, 2, 1, 3);
+    EQUAL(mapped.resource, 24); /* region 0: 1 * 11 + 3 + 10 */
+    mapped = feedback_resource(settings, 2, 3, 13);
+    EQUAL(mapped.resource, 104); /* region 1: 0 * 11 + 3 * 27 + 13 + 10 */
+    inverted = feedback_inverse(settings, 7, 104);
+    EQUAL(inverted.position, 3);
+    EQUAL(inverted.cce, 13);
+    mapped = feedback_resource(settings, 3, 2, 5);
+    EQUAL(mapped.refusal, FEEDBACK_REFUSED_SUBFRAME);
+    mapped = feedback_resource(settings, 7, 4, 5);
+    EQUAL(mapped.refusal, FEEDBACK_REFUSED_CCE);
+    mapped = feedback_resource(settings, 7, 3, 61);
+    EQUAL(mapped.refusal, FEEDBACK_REFUSED_CCE);
+    inverted = feedback_inverse(settings, 3, 37);
+    EQUAL(inverted.refusal, FEEDBACK_REFUSED_SUBFRAME);
+    inverted = feedback_inverse(settings, 7, 9);
+    EQUAL(inverted.refusal, FEEDBACK_REFUSED_RESOURCE);
+    inverted = feedback_inverse(settings, 7, 254); /* 10 + 4 * 61 */
+    EQUAL(inverted.refusal, FEEDBACK_REFUSED_RESOURCE);
+}
+
+static void reading_bundled(void)
+{
+    struct feedback_settings settings = settings_of(2, 0, 2);
+    uint16_t n = 7, resource = 104, b0 = 1, b1 = 0;
+    struct feedback_reading_answer reading =
+        CALL(feedback_reading, (settings, n, resource, b0, b1));
+    EQUAL(reading.refusal, 0);
+    EQUAL(reading.kind, FEEDBACK_KIND_BUNDLED);
+    EQUAL(reading.position, 3);
+    EQUAL(reading.cce, 13);
+    EQUAL(reading.b0, 1);
+    EQUAL(reading.b1, 0);
+    EQUAL(reading.delivered, 0);
+    reading = feedback_reading(settings, n, resource, 0, 1);
+    EQUAL(reading.b0, 0);
+    EQUAL(reading.b1, 1);
+    EQUAL(reading.delivered, 0);
+    reading = feedback_reading(settings, 3, resource, 0, 1);
+    EQUAL(reading.refusal, FEEDBACK_REFUSED_SUBFRAME);
+    reading = feedback_reading(settings, n, 9, 2, 1);
+    EQUAL(reading.refusal, FEEDBACK_REFUSED_RESOURCE);
+    reading = feedback_reading(settings, n, resource, 2, 1);
+    EQUAL(reading.refusal, FEEDBACK_REFUSED_BITS);
+    settings.blocks = 1; /* one bit: the second is 0 */
+    reading = feedback_reading(settings, n, resource, 1, 0);
+    EQUAL(reading.refusal, 0);
+    EQUAL(reading.b0, 1);
+    reading = feedback_reading(settings, n, resource, 0, 1);
+    EQUAL(reading.refusal, FEEDBACK_REFUSED_BITS);
+}
+
+/* Table 10.1-4 on the resource of position 3: --AA and its like are 01, -A-A is 10, ---N is 11. */
+static void reading_multiplexed(void)
+{
+    struct feedback_settings settings = settings_of(2, 1, 1);
+    struct feedback_reading_answer reading = feedback_reading(settings, 7, 104, 0, 1);
+    EQUAL(reading.refusal, 0);
+    EQUAL(reading.kind, FEEDBACK_KIND_MULTIPLEXED);
+    EQUAL(reading.position, 3);
+    EQUAL(reading.cce, 13);
+    EQUAL(reading.b0, 0);
+    EQUAL(reading.b1, 0);
+    EQUAL(reading.delivered, 4 + 8);
+    reading = feedback_reading(settings, 7, 104, 1, 0);
+    EQUAL(reading.delivered, 2 + 8);
+    reading = feedback_reading(settings, 7, 104, 1, 1);
+    EQUAL(reading.refusal, 0);
+    EQUAL(reading.delivered, 0);
+    reading = feedback_reading(settings, 7, 10, 0, 0); /* position 0 has no row with 00 */
+    EQUAL(reading.refusal, FEEDBACK_REFUSED_BITS);
+    EQUAL(reading.kind, FEEDBACK_KIND_REFUSED);
+}
+
+/* Byte t is what it should be: 1 at the resources less N1, 0 below M * N_4, and 99 beyond. */
+static void marked(const uint8_t *scratch, unsigned first, unsigned second)
+{
+    unsigned t, wrong = 0;
+    for (t = 0; t < 130; t++)
+        wrong += scratch[t] != (t == first || t == second ? 1u : t < 122 ? 0u : 99u);
+    EQUAL(wrong, 0);
+}
+
+/* Configuration 1, n = 2: M is 2, M * N_4 is 122; (1,60) has resource 131, (0,11) has 32. */
+static void claims_of_1(void)
+{
+    struct feedback_settings settings = settings_of(1, 0, 2);
+    uint16_t claims[3] = {256 + 60, 11, 256 + 60};
+    uint8_t scratch[130], before[130];
+    uint16_t n = 2;
+    size_t count = 2, room = 130;
+    struct feedback_claims_answer answer;
+    EQUAL(FEEDBACK_CLAIM(1, 60), claims[0]);
+    EQUAL(FEEDBACK_CLAIM(0, 11), claims[1]);
+    EQUAL(FEEDBACK_CLAIM(60, 1), 15361);
+    EQUAL(FEEDBACK_CLAIM(255, 254), 65534);
+    EQUAL(FEEDBACK_CLAIM(0, 256), 65535);
+    EQUAL(FEEDBACK_CLAIM(256, 0), 65535);
+    EQUAL(FEEDBACK_CLAIM(4294967296u, 0), 65535);
+    memset(scratch, 99, sizeof scratch);
+    memcpy(before, scratch, sizeof before);
+    answer = CALL(feedback_claims, (settings, n, claims, count, scratch, room));
+    EQUAL(answer.refusal, 0);
+    EQUAL(answer.kind, FEEDBACK_CLAIMS_CLEAN);
+    EQUAL(answer.index, 0);
+    marked(scratch, 121, 22);
+    answer = feedback_claims(settings, n, claims, 3, scratch, room);
+    EQUAL(answer.refusal, 0);
+    EQUAL(answer.kind, FEEDBACK_CLAIMS_CLASH);
+    EQUAL(answer.index, 2);
+    marked(scratch, 121, 22);
+    memcpy(scratch, before, sizeof scratch);
+    answer = feedback_claims(settings, n, claims, 3, scratch, 121);
+    EQUAL(answer.refusal, FEEDBACK_REFUSED_SCRATCH);
+    EQUAL(answer.kind, FEEDBACK_CLAIMS_REFUSED);
+    EQUAL(answer.index, 0);
+    claims[1] = FEEDBACK_CLAIM(1, 61);
+    answer = feedback_claims(settings, n, claims, 3, scratch, 122);
+    EQUAL(answer.refusal, FEEDBACK_REFUSED_CLAIM);
+    EQUAL(answer.kind, FEEDBACK_CLAIMS_REFUSED);
+    EQUAL(answer.index, 1);
+    claims[1] = claims[0];
+    claims[2] = FEEDBACK_CLAIM(300, 0);
+    answer = feedback_claims(settings, n, claims, 3, scratch, 122);
+    EQUAL(answer.refusal, FEEDBACK_REFUSED_CLAIM);
+    EQUAL(answer.index, 2);
+    answer = feedback_claims(settings, 4, claims, 3, scratch, 122);
+    EQUAL(answer.refusal, FEEDBACK_REFUSED_SUBFRAME);
+    answer = feedback_claims(settings, n, claims, 1, NULL, 0);
+    EQUAL(answer.refusal, FEEDBACK_REFUSED_SCRATCH);
+    BYTES(scratch, before, sizeof before);
+    answer = feedback_claims(settings, n, NULL, 0, scratch, room);
+    EQUAL(answer.kind, FEEDBACK_CLAIMS_CLEAN);
+    marked(scratch, 130, 130);
+}
+
+/* The most scratch that a window needs is enough, and one byte less is not. */
+static void claims_of_5(void)
+{
+    struct feedback_settings settings = FEEDBACK_SETTINGS(5, 110, 0, 0, 2);
+    uint8_t scratch[FEEDBACK_SCRATCH_MOST];
+    uint16_t claim = FEEDBACK_CLAIM(FEEDBACK_WINDOW_MOST - 1, 133);
+    struct feedback_claims_answer answer;
+    memset(scratch, 99, sizeof scratch);
+    answer = feedback_claims(settings, 2, &claim, 1, scratch, sizeof scratch - 1);
+    EQUAL(answer.refusal, FEEDBACK_REFUSED_SCRATCH);
+    answer = feedback_claims(settings, 2, &claim, 1, scratch, sizeof scratch);
+    EQUAL(answer.kind, FEEDBACK_CLAIMS_CLEAN);
+    EQUAL(scratch[FEEDBACK_SCRATCH_MOST - 1], 1);
+}
+
+/* ---- the handset ---- */
+
+static struct feedback_handset fresh(struct feedback_settings settings)
+{
+    struct feedback_made made = CALL(feedback_make, (settings));
+    unsigned i;
+    EQUAL(made.refusal, 0);
+    EQUAL(made.handset.next, 0);
+    BYTES(&made.handset.settings, &settings, sizeof settings);
+    for (i = 0; i < FEEDBACK_MEMORY; i++)
+        EQUAL(made.handset.past[i].kind, FEEDBACK_SLOT_NOTHING);
+    return made.handset;
+}
+
+static struct feedback_handset nothing(struct feedback_handset handset, unsigned kind)
+{
+    struct feedback_fed fed = CALL(feedback_feed_nothing, (handset));
+    EQUAL(fed.refusal, 0);
+    EQUAL(fed.kind, kind);
+    EQUAL(fed.resource, 0);
+    EQUAL(fed.b0, 0);
+    EQUAL(fed.b1, 0);
+    EQUAL(fed.handset.next, (handset.next + 1u) % 10u);
+    EQUAL(fed.handset.past[0].kind, FEEDBACK_SLOT_NOTHING);
+    BYTES(fed.handset.past + 1, handset.past, 12 * sizeof *handset.past);
+    return fed.handset;
+}
+
+static struct feedback_handset grant(struct feedback_handset handset, uint16_t blocks,
+                                     uint16_t first, uint16_t second, uint16_t cce, uint16_t dai)
+{
+    struct feedback_fed fed =
+        CALL(feedback_feed_grant, (handset, blocks, first, second, cce, dai));
+    EQUAL(fed.refusal, 0);
+    EQUAL(fed.kind, FEEDBACK_KIND_TAKEN);
+    EQUAL(fed.resource, 0);
+    EQUAL(fed.b0, 0);
+    EQUAL(fed.b1, 0);
+    EQUAL(fed.handset.next, (handset.next + 1u) % 10u);
+    EQUAL(fed.handset.past[0].kind, FEEDBACK_SLOT_GRANT);
+    EQUAL(fed.handset.past[0].cce, cce);
+    EQUAL(fed.handset.past[0].dai, dai);
+    EQUAL((fed.handset.past[0].results & FEEDBACK_FIRST_DECODED) != 0, first != 0);
+    EQUAL((fed.handset.past[0].results & FEEDBACK_SECOND_DECODED) != 0, second != 0);
+    EQUAL((fed.handset.past[0].results & FEEDBACK_TWO_CARRIED) != 0, blocks == 2);
+    BYTES(fed.handset.past + 1, handset.past, 12 * sizeof *handset.past);
+    return fed.handset;
+}
+
+static void replies(struct feedback_handset handset, unsigned kind, unsigned resource, unsigned b0,
+                    unsigned b1)
+{
+    struct feedback_fed fed = feedback_feed_nothing(handset);
+    EQUAL(fed.refusal, 0);
+    EQUAL(fed.kind, kind);
+    EQUAL(fed.resource, resource);
+    EQUAL(fed.b0, b0);
+    EQUAL(fed.b1, b1);
+    EQUAL(fed.handset.next, handset.next + 1u);
+}
+
+/* Configuration 2 up to subframe 7, which answers for 9, 0, 3 and 1, in time order 9, 0, 1, 3. */
+static void bundled(void)
+{
+    struct feedback_handset handset = fresh(settings_of(2, FEEDBACK_MODE_BUNDLING, 2));
+    handset = grant(handset, 2, 1, 7, 3, 1);
+    handset = grant(handset, 2, 1, 0, 4, 2);
+    handset = nothing(handset, FEEDBACK_KIND_SILENT); /* nothing heard in 4, 5, 8 and 6 before 2 */
+    handset = grant(handset, 1, 1, 0, 5, 3);
+    handset = nothing(handset, FEEDBACK_KIND_TAKEN);
+    handset = nothing(handset, FEEDBACK_KIND_TAKEN);
+    handset = nothing(handset, FEEDBACK_KIND_TAKEN);
+    replies(handset, FEEDBACK_KIND_BUNDLED, 37, 1, 0); /* as in resource_and_inverse */
+    handset.past[5].results = FEEDBACK_SECOND_DECODED | FEEDBACK_TWO_CARRIED;
+    replies(handset, FEEDBACK_KIND_BUNDLED, 37, 0, 1);
+    handset.past[5].kind = FEEDBACK_SLOT_NOTHING; /* the DAI shows the miss */
+    replies(handset, FEEDBACK_KIND_SILENT, 0, 0, 0);
+}
+
+/* The same subframes: position 1 alone is -A--, 01 on 24; with position 3 it is -A-A, 10 on 47. */
+static void multiplexed(void)
+{
+    struct feedback_handset handset = fresh(settings_of(2, FEEDBACK_MODE_MULTIPLEXING, 1));
+    unsigned i;
+    handset = grant(handset, 1, 1, 0, 3, 1);
+    handset = grant(handset, 1, 1, 0, 4, 2);
+    handset = nothing(handset, FEEDBACK_KIND_SILENT);
+    for (i = 3; i < 7; i++)
+        handset = nothing(handset, FEEDBACK_KIND_TAKEN);
+    replies(handset, FEEDBACK_KIND_MULTIPLEXED, 47, 1, 0); /* 3 * 11 + 4 + 10 */
+    handset.past[5].kind = FEEDBACK_SLOT_NOTHING;
+    replies(handset, FEEDBACK_KIND_MULTIPLEXED, 24, 0, 1); /* 1 * 11 + 3 + 10 */
+}
+
+static void no_window(void)
+{
+    struct feedback_handset handset = fresh(settings_of(0, FEEDBACK_MODE_BUNDLING, 1));
+    handset = nothing(handset, FEEDBACK_KIND_TAKEN);
+    handset = nothing(handset, FEEDBACK_KIND_TAKEN);
+    handset = nothing(handset, FEEDBACK_KIND_SILENT);
+    handset = nothing(handset, FEEDBACK_KIND_NO_WINDOW);
+    handset = nothing(handset, FEEDBACK_KIND_SILENT);
+    EQUAL(handset.next, 5);
+}
+
+/* 13 feeds of nothing empty the memory: what a fresh handset is that expects the same subframe. */
+static void slept(void)
+{
+    struct feedback_handset handset = fresh(settings_of(5, FEEDBACK_MODE_BUNDLING, 2));
+    struct feedback_handset woken = handset;
+    unsigned i;
+    handset = grant(handset, 2, 1, 1, 7, 2);
+    for (i = 1; i < 14; i++)
+        handset = feedback_feed_nothing(handset).handset;
+    woken.next = 4;
+    BYTES(&handset, &woken, sizeof woken);
+}
+
+static void refused(struct feedback_handset handset, struct feedback_fed fed, unsigned refusal)
+{
+    EQUAL(fed.refusal, refusal);
+    EQUAL(fed.kind, FEEDBACK_KIND_REFUSED);
+    EQUAL(fed.resource, 0);
+    EQUAL(fed.b0, 0);
+    EQUAL(fed.b1, 0);
+    BYTES(&fed.handset, &handset, sizeof handset);
+}
+
+static void feeds_refused(void)
+{
+    struct feedback_handset handset = fresh(settings_of(2, 0, 1));
+    handset.past[2].cce = 200; /* without a meaning there, and kept */
+    refused(handset, feedback_feed_grant(handset, 0, 1, 1, 61, 5), FEEDBACK_REFUSED_CARRIED);
+    refused(handset, feedback_feed_grant(handset, 2, 1, 1, 61, 5), FEEDBACK_REFUSED_CARRIED);
+    refused(handset, feedback_feed_grant(handset, 1, 1, 1, 61, 5), FEEDBACK_REFUSED_CCE);
+    refused(handset, feedback_feed_grant(handset, 1, 1, 1, 60, 5), FEEDBACK_REFUSED_DAI);
+    refused(handset, feedback_feed_grant(handset, 1, 1, 1, 60, 0), FEEDBACK_REFUSED_DAI);
+    handset.next = 2;
+    refused(handset, feedback_feed_grant(handset, 0, 1, 1, 61, 5), FEEDBACK_REFUSED_UPLINK);
+    handset.past[0].kind = FEEDBACK_SLOT_GRANT; /* in subframe 1, with DAI 0 */
+    refused(handset, feedback_feed_grant(handset, 0, 1, 1, 61, 5), FEEDBACK_REFUSED_STATE);
+    refused(handset, feedback_feed_nothing(handset), FEEDBACK_REFUSED_STATE);
+    handset.past[0].dai = 4;
+    nothing(handset, FEEDBACK_KIND_SILENT);
+    handset.next = 3; /* now the grant came in subframe 2, uplink */
+    refused(handset, feedback_feed_nothing(handset), FEEDBACK_REFUSED_STATE);
+    handset.past[0].kind = FEEDBACK_SLOT_NOTHING;
+    handset.past[1].kind = 2;
+    refused(handset, feedback_feed_nothing(handset), FEEDBACK_REFUSED_STATE);
+    handset.past[1].kind = FEEDBACK_SLOT_NOTHING;
+    handset.next = 10;
+    refused(handset, feedback_feed_nothing(handset), FEEDBACK_REFUSED_STATE);
+}
+
+/* ---- the texts ---- */
+
+/* Each number below the limit has a text of its own with its word in it; the rest share one. */
+static void texts(const char *(*of)(unsigned), const char *const words[], unsigned limit)
+{
+    unsigned i, j;
+    for (i = 0; i < limit; i++) {
+        HOLDS(strstr(of(i), words[i]) != NULL);
+        HOLDS(strchr(of(i), '\n') == NULL);
+        for (j = 0; j < i; j++)
+            HOLDS(strcmp(of(i), of(j)) != 0);
+        HOLDS(strcmp(of(i), of(limit)) != 0);
+    }
+    HOLDS(strstr(of(limit), "This number is no ") == of(limit));
+    SAME(of(limit + 1), of(limit));
+    SAME(of(65535), of(limit));
+    SAME(of(4294967295u), of(limit));
+}
+
+static void all_texts(void)
+{
+    static const char *const refusals[] = {
+        "not refused",          "1: the uplink-downlink configuration is over 6",
+        "2: the bandwidth",     "3: N1 is over 2047",
+        "4: the mode",          "5: configuration 5 has no multiplexing",
+        "6: the most",          "7: the subframe",
+        "8: the handset",       "9: the grant came in an uplink subframe",
+        "10: the grant carries", "11: the first CCE",
+        "12: the DAI",          "13: the PUCCH resource",
+        "14: the bits",         "15: the scratch",
+        "16: a claim"};
+    static const char *const kinds[] = {"refused", "bundled reply", "multiplexed reply",
+                                        "Silent",  "downlink",      "uplink"};
+    static const char *const claims_kinds[] = {"refused", "clean", "clash"};
+    static const char *const slot_kinds[] = {"nothing", "grant"};
+    texts(feedback_refusal_text, refusals, 17);
+    texts(feedback_kind_text, kinds, 6);
+    texts(feedback_claims_kind_text, claims_kinds, 3);
+    texts(feedback_slot_kind_text, slot_kinds, 2);
+}
+
+int main(int argc, char **argv)
+{
+    if (argc != 2) {
+        printf("usage: header FEEDBACK.H\n");
+        return 2;
+    }
+    read_header(argv[1]);
+    numbers();
+    layout();
+    settings_macro();
+    settings();
+    table();
+    window_of_2();
+    window_of_5();
+    answered();
+    resource_and_inverse();
+    reading_bundled();
+    reading_multiplexed();
+    claims_of_1();
+    claims_of_5();
+    bundled();
+    multiplexed();
+    no_window();
+    slept();
+    feeds_refused();
+    all_texts();
+    if (failures == 0)
+        printf("%u checks\n", checks);
+    return failures != 0;
+}
