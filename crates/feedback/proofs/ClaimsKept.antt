@@ -10,20 +10,21 @@ use Rattle.frame.specs.declared.Settings.{Settings}
 use Rattle.claims.specs.declared.Checked.{Checked}
 use Rattle.claims.specs.Claims.{firstBad, firstClash, scratchRefusal, checkedOn, refusedOr, checkedOf}
 use Rattle.feedback.specs.Answers.{claimsAnswer}
-use Rattle.feedback.specs.Back.{checkedIn, KindTells}
+use Rattle.feedback.specs.Back.{checkedIn, KindFor}
+use Rattle.feedback.specs.Kinds.{claimsClash}
 use Rattle.feedback.proofs.Chosen.{either}
 
--- An answer about claims comes back from its numbers, and its kind says whether it is refused.
+-- An answer about claims comes back from its numbers, and its kind is one that there is, 0 where it is refused.
 abbrev pub CheckedKept : Checked → Type 0
-CheckedKept x = (checkedIn (claimsAnswer x) ≡ x) × KindTells (claimsAnswer x .kind) (claimsAnswer x .refusal)
+CheckedKept x = (checkedIn (claimsAnswer x) ≡ x) × KindFor claimsClash (claimsAnswer x .kind) (claimsAnswer x .refusal)
 
 refused-or-kept : (k : ℕ) (x : Checked) → CheckedKept x → CheckedKept (refusedOr k x)
 refused-or-kept zero x kept = kept
-refused-or-kept (suc k) x kept = (refl, sym (ap not (eqb·suc-zero k)))
+refused-or-kept (suc k) x kept = (refl, (sym (ap not (eqb·suc-zero k)), refl))
 
-pub claims-kept : (s : Settings) (n : ℕ) (list : List ℕ) (room : ℕ) → CheckedKept (checkedOf s n list room)
+pub claims-kept : (s : Settings) (n : ℕ) (list : List ℕ) (lent : ℕ) → CheckedKept (checkedOf s n list lent)
 unfolding checkedOf checkedOn
-claims-kept s n list room =
-    refused-or-kept (scratchRefusal s n room) _
-    (either CheckedKept (ltb (firstBad s n list) (length list)) _ _ (refl, refl)
-    (either CheckedKept (ltb (firstClash s n list) (length list)) _ _ (refl, refl) (refl, refl)))
+claims-kept s n list lent =
+    refused-or-kept (scratchRefusal s n lent) _
+    (either CheckedKept (ltb (firstBad s n list) (length list)) _ _ (refl, (refl, refl))
+    (either CheckedKept (ltb (firstClash s n list) (length list)) _ _ (refl, (refl, refl)) (refl, (refl, refl))))

@@ -29,13 +29,13 @@ use Rattle.handset.specs.declared.Fed.{Fed}
 use Rattle.handset.specs.declared.Handset.{Handset}
 use Rattle.handset.specs.Feed.{answerOf, nextAnswer, pushed, feedRefusal, fedAs, feedOf}
 use Rattle.feedback.specs.Answers.{fedAnswer}
-use Rattle.feedback.specs.Back.{fedIn, KindTells}
-use Rattle.feedback.specs.Kinds.{kindBundled, kindMultiplexed}
+use Rattle.feedback.specs.Back.{fedIn, KindFor}
+use Rattle.feedback.specs.Kinds.{kindBundled, kindMultiplexed, kindNoWindow}
 use Rattle.feedback.proofs.Chosen.{either}
 
--- What a feed answers comes back from its numbers with the handset, and its kind says whether it is refused.
+-- What a feed answers comes back from its numbers with the handset, and its kind is one that there is, 0 where it is refused.
 abbrev pub FedKept : Fed → Type 0
-FedKept f = (fedIn (fedAnswer f) ≡ f) × KindTells (fedAnswer f .kind) (fedAnswer f .refusal)
+FedKept f = (fedIn (fedAnswer f) ≡ f) × KindFor kindNoWindow (fedAnswer f .kind) (fedAnswer f .refusal)
 
 abbrev AnswerKept : Answer → Type 0
 AnswerKept x = (h : Handset) → FedKept (record { answer = x; handset = h })
@@ -45,33 +45,33 @@ reply-kept : (kind : ℕ) → ((r : Resource) (b0 b1 : ℕ) → AnswerKept (answ
     → (x : Mapped) (b0 b1 : ℕ) → AnswerKept (replyOn kind x b0 b1)
 unfolding replyOn
 reply-kept kind own (mapped.At r) b0 b1 = own r b0 b1
-reply-kept kind own (mapped.Refused k) b0 b1 = λ h. (refl, refl)
+reply-kept kind own (mapped.Refused k) b0 b1 = λ h. (refl, (refl, refl))
 
 symbol-kept : (s : Settings) (n : ℕ) (view : ℕ → View) (ks : List ℕ) (y : Symbol) → AnswerKept (symbolAnswer s n view ks y)
 unfolding symbolAnswer
 symbol-kept s n view ks (symbol.Sent i b0 b1) =
-    reply-kept kindMultiplexed (λ r b0 b1 h. (refl, refl)) (resourceOf s n i (cceOf (view (getD ks i 0)))) b0 b1
-symbol-kept s n view ks symbol.Silent = λ h. (refl, refl)
+    reply-kept kindMultiplexed (λ r b0 b1 h. (refl, (refl, refl))) (resourceOf s n i (cceOf (view (getD ks i 0)))) b0 b1
+symbol-kept s n view ks symbol.Silent = λ h. (refl, (refl, refl))
 
 bundled-kept : (s : Settings) (n : ℕ) (seen : Seen) → AnswerKept (bundledAnswer s n seen)
 unfolding bundledAnswer
 bundled-kept s n seen =
-    either AnswerKept (eqb (seen .u) 0) _ _ (λ h. (refl, refl))
-    (either AnswerKept (missShown s seen) _ _ (λ h. (refl, refl))
-    (reply-kept kindBundled (λ r b0 b1 h. (refl, refl)) (resourceOf s n (seen .position) (seen .cce .0)) (bit (seen .first)) (secondBit s seen)))
+    either AnswerKept (eqb (seen .u) 0) _ _ (λ h. (refl, (refl, refl)))
+    (either AnswerKept (missShown s seen) _ _ (λ h. (refl, (refl, refl)))
+    (reply-kept kindBundled (λ r b0 b1 h. (refl, (refl, refl))) (resourceOf s n (seen .position) (seen .cce .0)) (bit (seen .first)) (secondBit s seen)))
 
 answer-kept : (s : Settings) (n : ℕ) (view : ℕ → View) → AnswerKept (answerOf s n view)
 unfolding answerOf windowAnswer multiplexedAnswer
 answer-kept s n view =
     let ks : List ℕ = windowOf (s .config) n in
-    either AnswerKept (downlink (s .config) n) _ _ (λ h. (refl, refl))
-    (either AnswerKept (eqb (length ks) 0) _ _ (λ h. (refl, refl))
+    either AnswerKept (downlink (s .config) n) _ _ (λ h. (refl, (refl, refl)))
+    (either AnswerKept (eqb (length ks) 0) _ _ (λ h. (refl, (refl, refl)))
     (either AnswerKept (bundles s (length ks)) _ _ (bundled-kept s n (seenOf view ks)) (symbol-kept s n view ks (symbolOf (windowState view ks)))))
 
 fed-as-kept : (k : ℕ) (h : Handset) (x : Heard) → FedKept (fedAs k h x)
 unfolding nextAnswer
 fed-as-kept zero h x = answer-kept (h .settings) (h .next) (viewAgo (h .past)) (pushed h x)
-fed-as-kept (suc k) h x = (refl, sym (ap not (eqb·suc-zero k)))
+fed-as-kept (suc k) h x = (refl, (sym (ap not (eqb·suc-zero k)), refl))
 
 pub feed-kept : (h : Handset) (x : Heard) → FedKept (feedOf h x)
 unfolding feedOf

@@ -1,7 +1,7 @@
 pub mod Chosen
 pub mod ClaimsKept
+pub mod ComeBack
 pub mod FeedKept
 pub mod InverseKept
-pub mod NothingLost
 pub mod ReadingKept
 pub mod ResourceKept

@@ -2,10 +2,10 @@
 -- feedback_window, feedback_answered and feedback_make are numbers of the engine as they are: there is nothing to lose.
 -- Assumes nothing.
 use Prim.Native.Nat.{ℕ, zero, suc}
-use mathlib.Core.Bool.{cond, not}
+use mathlib.Core.Bool.{true, cond, not}
 use mathlib.Core.List.{List}
 use mathlib.Core.Path.{_≡_}
-use lib.Dec.{eqb}
+use lib.Dec.{eqb, leb}
 use Rattle.frame.specs.declared.Settings.{Settings}
 use Rattle.resource.specs.declared.Mapped.{Mapped}
 use Rattle.resource.specs.declared.Inverted.{Inverted}
@@ -28,7 +28,7 @@ use Rattle.feedback.specs.declared.ReadingAnswer.{ReadingAnswer}
 use Rattle.feedback.specs.declared.ResourceAnswer.{ResourceAnswer}
 use Rattle.feedback.specs.declared.InverseAnswer.{InverseAnswer}
 use Rattle.feedback.specs.Answers.{resourceAnswer, inverseAnswer, readingAnswer, claimsAnswer, fedAnswer}
-use Rattle.feedback.specs.Kinds.{kindBundled, kindSilent, kindTaken, kindNoWindow, claimsClash}
+use Rattle.feedback.specs.Kinds.{kindBundled, kindSilent, kindTaken, kindNoWindow, claimsClash, kindMultiplexed}
 
 -- In every answer a refusal other than 0 is the answer; where it is 0 the kind, if there is one, says what the values are.
 abbrev pub mappedIn : ResourceAnswer → Mapped
@@ -71,34 +71,35 @@ abbrev pub fedIn : FedAnswer → Fed
 fedIn a = record { answer = answerIn a; handset = a .handset }
 
 -- Every answer of every call comes back from its numbers.
-pub record NothingLost : Type 0 where
+pub record AnswersComeBack : Type 0 where
   pub resource : (s : Settings) (n m c : ℕ) → mappedIn (resourceAnswer (resourceOf s n m c)) ≡ resourceOf s n m c
   pub inverse : (s : Settings) (n r : ℕ) → invertedIn (inverseAnswer (inverseOf s n r)) ≡ inverseOf s n r
   pub reading : (s : Settings) (n r b0 b1 : ℕ) → readingIn (readingAnswer (readOf s n r b0 b1)) ≡ readOf s n r b0 b1
-  pub claims : (s : Settings) (n : ℕ) (list : List ℕ) (room : ℕ)
-      → checkedIn (claimsAnswer (checkedOf s n list room)) ≡ checkedOf s n list room
+  pub claims : (s : Settings) (n : ℕ) (list : List ℕ) (lent : ℕ)
+      → checkedIn (claimsAnswer (checkedOf s n list lent)) ≡ checkedOf s n list lent
   pub feed : (h : Handset) (x : Heard) → fedIn (fedAnswer (feedOf h x)) ≡ feedOf h x
 
 -- So no two answers of a call look alike from C: where their numbers are equal, the answers are.
 abbrev pub Apart : {A N : Type 0} → (A → N) → A → A → Type 0
 Apart numbers x y = numbers x ≡ numbers y → x ≡ y
 
-pub record ToldApart : Type 0 where
+pub record SameNumbers : Type 0 where
   pub resource : (s t : Settings) (n m c n' m' c' : ℕ) → Apart resourceAnswer (resourceOf s n m c) (resourceOf t n' m' c')
   pub inverse : (s t : Settings) (n r n' r' : ℕ) → Apart inverseAnswer (inverseOf s n r) (inverseOf t n' r')
   pub reading : (s t : Settings) (n r b0 b1 n' r' c0 c1 : ℕ) → Apart readingAnswer (readOf s n r b0 b1) (readOf t n' r' c0 c1)
-  pub claims : (s t : Settings) (n n' : ℕ) (list list' : List ℕ) (room room' : ℕ)
-      → Apart claimsAnswer (checkedOf s n list room) (checkedOf t n' list' room')
+  pub claims : (s t : Settings) (n n' : ℕ) (list list' : List ℕ) (lent lent' : ℕ)
+      → Apart claimsAnswer (checkedOf s n list lent) (checkedOf t n' list' lent')
   pub feed : (h i : Handset) (x y : Heard) → Apart fedAnswer (feedOf h x) (feedOf i y)
 
--- Where an answer has a kind, it is 0 exactly where the refusal is not 0: a caller may look at either, and a struct of zeros is no
--- answer of a call.
-abbrev pub KindTells : ℕ → ℕ → Type 0
-KindTells kind refusal = eqb kind 0 ≡ not (eqb refusal 0)
+-- Where an answer has a kind, it is 0 exactly where the refusal is not 0, and it is one of those that Kinds.antt names, the last of
+-- which is `most`: a caller may look at either, and a struct of zeros is no answer of a call. So a feed's answer that is not
+-- refused, silent, taken or without a window is a bundled or a multiplexed reply.
+abbrev pub KindFor : ℕ → ℕ → ℕ → Type 0
+KindFor most kind refusal = (eqb kind 0 ≡ not (eqb refusal 0)) × (leb kind most ≡ true)
 
-pub record RefusedByKind : Type 0 where
+pub record KindsOfAnswers : Type 0 where
   pub reading : (s : Settings) (n r b0 b1 : ℕ)
-      → KindTells (readingAnswer (readOf s n r b0 b1) .kind) (readingAnswer (readOf s n r b0 b1) .refusal)
-  pub claims : (s : Settings) (n : ℕ) (list : List ℕ) (room : ℕ)
-      → KindTells (claimsAnswer (checkedOf s n list room) .kind) (claimsAnswer (checkedOf s n list room) .refusal)
-  pub feed : (h : Handset) (x : Heard) → KindTells (fedAnswer (feedOf h x) .kind) (fedAnswer (feedOf h x) .refusal)
+      → KindFor kindMultiplexed (readingAnswer (readOf s n r b0 b1) .kind) (readingAnswer (readOf s n r b0 b1) .refusal)
+  pub claims : (s : Settings) (n : ℕ) (list : List ℕ) (lent : ℕ)
+      → KindFor claimsClash (claimsAnswer (checkedOf s n list lent) .kind) (claimsAnswer (checkedOf s n list lent) .refusal)
+  pub feed : (h : Handset) (x : Heard) → KindFor kindNoWindow (fedAnswer (feedOf h x) .kind) (fedAnswer (feedOf h x) .refusal)

@@ -33,7 +33,7 @@ answeredPosition c d = positionOf (distanceOf c d) (windowOf c (uplinkOf c d))
 unfoldable pub noDownlinkRefusal : ℕ → ℕ → ℕ
 noDownlinkRefusal c d = cond (downlink c d) 0 7
 
--- The call for one downlink subframe refuses 1 to 6, then 7.
+-- The call for one downlink subframe refuses the settings, then 7.
 unfoldable pub answeredRefusal : Settings → ℕ → ℕ
 answeredRefusal s d = orElse (settingsRefusal s) (noDownlinkRefusal (s .config) d)
 

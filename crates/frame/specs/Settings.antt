@@ -40,7 +40,7 @@ settingsRefusal s = orElse (cellRefusal s) (orElse (modeRefusal s) (orElse (bloc
 unfoldable pub noWindowRefusal : ℕ → ℕ
 noWindowRefusal size = cond (eqb size 0) 7 0
 
--- A call for one uplink subframe n refuses 1 to 6, then 7.
+-- A call for one uplink subframe n refuses the settings, then 7.
 unfoldable pub windowRefusal : Settings → ℕ → ℕ
 windowRefusal s n = orElse (settingsRefusal s) (noWindowRefusal (length (windowOf (s .config) n)))
 

@@ -2,41 +2,41 @@
 -- Assumes nothing.
 use mathlib.Core.Path.{_≡_, sym, ap, _∙_}
 use Rattle.feedback.specs.Answers.{resourceAnswer, inverseAnswer, readingAnswer, claimsAnswer, fedAnswer}
-use Rattle.feedback.specs.Back.{mappedIn, invertedIn, readingIn, checkedIn, fedIn, NothingLost, Apart, ToldApart, RefusedByKind}
+use Rattle.feedback.specs.Back.{mappedIn, invertedIn, readingIn, checkedIn, fedIn, AnswersComeBack, Apart, SameNumbers, KindsOfAnswers}
 use Rattle.feedback.proofs.ResourceKept.{resource-back}
 use Rattle.feedback.proofs.InverseKept.{inverse-back}
 use Rattle.feedback.proofs.ReadingKept.{reading-kept}
 use Rattle.feedback.proofs.ClaimsKept.{claims-kept}
 use Rattle.feedback.proofs.FeedKept.{feed-kept}
 
-pub nothing-lost : NothingLost
-nothing-lost =
+pub answers-come-back : AnswersComeBack
+answers-come-back =
     record {
       resource = resource-back;
       inverse = inverse-back;
       reading = λ s n r b0 b1. reading-kept s n r b0 b1 .0;
-      claims = λ s n list room. claims-kept s n list room .0;
+      claims = λ s n list lent. claims-kept s n list lent .0;
       feed = λ h x. feed-kept h x .0;
     }
 
 alike : {A N : Type 0} (numbers : A → N) (back : N → A) {x y : A} → back (numbers x) ≡ x → back (numbers y) ≡ y → Apart numbers x y
 alike numbers back bx by e = sym bx ∙ ap back e ∙ by
 
-pub told-apart : ToldApart
-told-apart =
-    let l : NothingLost = nothing-lost in
+pub same-numbers : SameNumbers
+same-numbers =
+    let l : AnswersComeBack = answers-come-back in
     record {
       resource = λ s t n m c n' m' c'. alike resourceAnswer mappedIn (l .resource s n m c) (l .resource t n' m' c');
       inverse = λ s t n r n' r'. alike inverseAnswer invertedIn (l .inverse s n r) (l .inverse t n' r');
       reading = λ s t n r b0 b1 n' r' c0 c1. alike readingAnswer readingIn (l .reading s n r b0 b1) (l .reading t n' r' c0 c1);
-      claims = λ s t n n' list list' room room'. alike claimsAnswer checkedIn (l .claims s n list room) (l .claims t n' list' room');
+      claims = λ s t n n' list list' lent lent'. alike claimsAnswer checkedIn (l .claims s n list lent) (l .claims t n' list' lent');
       feed = λ h i x y. alike fedAnswer fedIn (l .feed h x) (l .feed i y);
     }
 
-pub refused-by-kind : RefusedByKind
-refused-by-kind =
+pub kinds-of-answers : KindsOfAnswers
+kinds-of-answers =
     record {
       reading = λ s n r b0 b1. reading-kept s n r b0 b1 .1;
-      claims = λ s n list room. claims-kept s n list room .1;
+      claims = λ s n list lent. claims-kept s n list lent .1;
       feed = λ h x. feed-kept h x .1;
     }
