@@ -1,22 +1,19 @@
 -- The answer for a downlink subframe: its refusal, and that in an accepted cell it is there and is the only one.
 -- Assumes nothing.
-use Prim.Native.Nat.{ℕ, zero, suc, _+_, _<_, _≤_, _%_}
+use Prim.Native.Nat.{ℕ, zero, suc, _+_, _≤_, _%_}
 use mathlib.Core.Bool.{Bool, true, false, cond, false≢true}
 use mathlib.Core.Path.{_≡_, refl, sym, ap, _∙_}
 use native.Mathlib.Decide.{decLt}
 use native.Mathlib.Omega.{arith}
-use lib.ListN.{length, getD}
 use Rattle.frame.specs.declared.Answered.{Answered}
 use Rattle.frame.specs.declared.Settings.{Settings}
 use Rattle.frame.specs.Coded.{codedPosition}
 use Rattle.frame.specs.Distance.{distanceOf, uplinkOf, answeredPosition, noDownlinkRefusal, answeredRefusal, answeredAs, answeredOf, Answers, AnswersAlone, EachAnswered}
 use Rattle.frame.specs.Layout.{downlink}
 use Rattle.frame.specs.Once.{InWindow, InExactlyOne}
-use Rattle.frame.specs.Settings.{orElse, settingsRefusal}
-use Rattle.frame.specs.Table.{windowOf}
+use Rattle.frame.specs.Settings.{settingsRefusal}
 use Rattle.frame.proofs.Accepted.{neither}
 use Rattle.frame.proofs.Causes.{refused-next}
-use Rattle.frame.proofs.Distances.{distance-most}
 use Rattle.frame.proofs.Layouts.{outside-frame}
 use Rattle.frame.proofs.Windows.{inside-downlink, distance-inside, position-window, exactly-one}
 
@@ -56,7 +53,12 @@ pub told-as : (s : Settings) (d n k m : ℕ) → answeredRefusal s d ≡ 0 → n
 unfolding codedPosition uplinkOf answeredOf
 told-as s d n k m none en ek em = rw (none, en, ek, em, answered-downlink s d none)
 
--- Within one frame: the distance and the position of a downlink subframe are an answer for it.
+-- An answer for d is a position of d in the window of d + k of the run.
+in-run : (c d n k m : ℕ) → Answers c d n k m → InWindow c (d + k) m d
+in-run c d n k m a =
+    record { position = rw (a .uplink) (a .position); distance = rw (a .uplink) (ap (λ (x : ℕ). d + x) (a .distance)) }
+
+-- The distance and the position of a downlink subframe are an answer for it; and the run has it in exactly one window.
 module _ (c d : ℕ) (e : downlink c d ≡ true) where
   within : d % 10 ≡ d
   within = omega (arith, downlink-frame c d e)
@@ -67,24 +69,19 @@ module _ (c d : ℕ) (e : downlink c d ≡ true) where
       let found = position-window c ((d + distanceOf c d) % 10) (distanceOf c d) (rw within at (distance-inside c d (rw within e))) in
       record { uplink = refl; position = found .0; distance = found .1 }
 
--- An answer for d is a position of d in the window of d + k of the run.
-in-run : (c d n k m : ℕ) → Answers c d n k m → InWindow c (d + k) m d
-in-run c d n k m a =
-    record { position = rw (a .uplink) (a .position); distance = rw (a .uplink) (ap (λ (x : ℕ). d + x) (a .distance)) }
-
-module _ (c d : ℕ) (e : downlink c d ≡ true) where
   alone : AnswersAlone c d (uplinkOf c d) (distanceOf c d) (answeredPosition c d)
   alone =
-      let one : InExactlyOne c d = exactly-one c d (rw (within c d e) e) in
-      let here = one .only _ _ (in-run _ _ _ _ _ (inside c d e)) in
+      let one : InExactlyOne c d = exactly-one c d (rw within e) in
+      let here = one .only _ _ (in-run _ _ _ _ _ inside) in
       record {
-        answers = inside c d e;
+        answers = inside;
         only = λ n k m a.
             let there = one .only _ _ (in-run c d n k m a) in
             let same : k ≡ distanceOf c d = omega arith in
-            (sym (a .uplink) ∙ ap (λ (x : ℕ). (d + x) % 10) same ∙ inside c d e .uplink, same, there .1 ∙ sym (here .1));
+            (sym (a .uplink) ∙ ap (λ (x : ℕ). (d + x) % 10) same ∙ inside .uplink, same, there .1 ∙ sym (here .1));
       }
 
+-- The answer of the call is there and is the only one; where the call refuses 7, there is none.
 pub each-answered : (s : Settings) (d : ℕ) → settingsRefusal s ≡ 0 → EachAnswered s d
 unfolding answeredOf
 each-answered s d ok =

@@ -42,6 +42,7 @@ abbrev pub answeredAs : ℕ → ℕ → ℕ → ℕ → Answered
 answeredAs zero n k m = record { refusal = 0; n = n; k = k; position = m }
 answeredAs (suc r) n k m = record { refusal = suc r; n = 0; k = 0; position = 0 }
 
+-- The answer for downlink subframe d: n, k and the position of d in the window of n.
 unfoldable pub answeredOf : Settings → ℕ → Answered
 answeredOf s d =
     answeredAs (answeredRefusal s d) (uplinkOf (s .config) d) (distanceOf (s .config) d) (answeredPosition (s .config) d)
