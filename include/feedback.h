@@ -30,7 +30,7 @@
  *             10.1-1; an uplink subframe that is not in it has no window. Each
  *             downlink subframe is in exactly one window. feedback_window gives
  *             the window of n, feedback_answered the window that a downlink
- *             subframe is in. To be read:
+ *             subframe is in; for reading, here is the table:
  *
  *             configuration   0 to 9        n: K
  *             0               DSUUUDSUUU    2: 6    4: 4    7: 6    9: 4
@@ -62,8 +62,8 @@
  *             miss: V is not ((U - 1) mod 4) + 1, where U grants were heard.
  *             Else a block's bit is ACK (1) if every grant heard decoded that
  *             block, and the resource is that of the last grant heard, last in
- *             time. One bit (format 1a) in a cell with one block, two (1b) with
- *             two. There a grant that carries one block answers for both bits.
+ *             time. One bit (format 1a) where the setting blocks is 1, two (1b)
+ *             where it is 2. There a grant with one block answers for both bits.
  * multiplexed in mode 1 where M is 2 to 4. Each position is A (heard, every
  *             block carried was decoded), N (heard, not so) or D (not heard).
  *             Tables 10.1-2 to 10.1-4 give a position i and two bits for the
@@ -81,25 +81,25 @@
  * wide becomes one that the call refuses.
  *
  * Answers come back by value. The calls keep nothing from one call to the next,
- * allocate nothing, and may be made from several threads at once. Each has an
- * answer that must be looked at, and GCC, Clang and C++17 warn where it is dropped.
+ * allocate nothing, and may be made from several threads at once. GCC, Clang and
+ * every compiler of C23 or C++17 warn where an answer is dropped.
  *
  *
  * STACK
  *
  * The most bytes of stack that a call takes, measured and rounded up, with what is
- * pushed to make it (the return address, and a handset that goes in by value) and
+ * pushed to make it (the return address, and a handset, which goes in by value) and
  * without the answer, which lies where its caller puts it:
  *
- *             feedback_window         @W
- *             feedback_answered       @A
- *             feedback_resource       @R
- *             feedback_inverse        @I
- *             feedback_reading        @D
- *             feedback_claims         @C
- *             feedback_make           @M
- *             feedback_feed_nothing   @N
- *             feedback_feed_grant     @G
+ *             feedback_window         128
+ *             feedback_answered       64
+ *             feedback_resource       64
+ *             feedback_inverse        64
+ *             feedback_reading        256
+ *             feedback_claims         128
+ *             feedback_make           64
+ *             feedback_feed_nothing   4096
+ *             feedback_feed_grant     1024
  *
  * Of the C library the calls use memset and nothing else.
  */
@@ -107,7 +107,7 @@
 #define FEEDBACK_H
 
 #if !defined(__x86_64__) || defined(__ILP32__) || defined(_WIN32) || defined(__CYGWIN__)
-#error "feedback.h: libfeedback.a is for x86-64 with the System V calling convention and 64-bit pointers; this compiler's target is another one"
+#error "feedback.h: libfeedback.a is built for x86-64, System V convention, not for this target"
 #endif
 
 #include <stddef.h>
@@ -121,7 +121,7 @@
 #define FEEDBACK_MEMORY 13         /* the subframes that a handset remembers: the greatest k */
 #define FEEDBACK_SCRATCH_MOST 1206 /* the most scratch that feedback_claims needs: 9 * 134 */
 
-/* A call whose answer must not be dropped: a feed's answer has the next handset. */
+/* Before a call whose answer must not be dropped: with a feed's the grant would be lost. */
 #if defined(__cplusplus) && __cplusplus >= 201703L
 #define FEEDBACK_MUST_USE [[nodiscard]]
 #elif defined(__STDC_VERSION__) && __STDC_VERSION__ >= 202311L
@@ -213,7 +213,7 @@ enum feedback_slot_results {
  * feedback_resource, feedback_inverse and feedback_claims ask no more of mode and
  * blocks than that, and answer alike for all handsets of a cell.
  *
- * FEEDBACK_SETTINGS, below, fills them and what a later version adds.
+ * FEEDBACK_SETTINGS, below, fills these fields and those that a later version adds.
  */
 struct feedback_settings {
     uint16_t config; /* uplink-downlink configuration, 0 to 6 */
@@ -379,7 +379,7 @@ struct feedback_inverse_answer feedback_inverse(struct feedback_settings setting
 /*
  * What a reply on PUCCH says.
  *
- *   settings   the settings of the cell
+ *   settings   the settings of the handset that replied
  *   n          the uplink subframe of the reply, 0 to 9, one with a window
  *   resource   the PUCCH resource on which the reply came
  *   b0, b1     its bits, each 0 or 1; in a one-bit reply (bundled, settings.blocks
@@ -401,25 +401,27 @@ struct feedback_inverse_answer feedback_inverse(struct feedback_settings setting
  * decoded) in every state of the window that sends this symbol. Where states
  * share a symbol, a position that is A in only some of them is left out.
  *
- * The reading says what the resource and the bits mean, and does not know what was
- * sent. If no grant with that first CCE was sent at the position named, then no
- * handset sent this reply: it is a false alarm of the receiver, and the station
- * confirms nothing by it, at no position. So what a scheduler may conclude, from
- * the window, what it sent there and the reading alone, is this. A block of a grant
- * sent is confirmed if the grant named was sent, with that first CCE, and
+ * A reading says what the resource and the bits mean; it does not know what was
+ * sent. If the station sent this handset no grant with that first CCE at the
+ * position named, the reply is not this handset's, but a false alarm of the
+ * receiver (or another handset's reply): the station confirms nothing by it, at any
+ * position. So a scheduler may conclude this, from the window, what it sent there
+ * and the reading alone. A block that it sent is confirmed if the grant named was
+ * sent, at that position with that first CCE, and
  *
- *   bundled       the grant is the one named, or was sent before it, if at most
- *                 four of the window were sent up to and with the one named; and
- *                 b0 is 1 for a first block, b1 for a second, either for an only
- *                 one
- *   multiplexed   the position of the grant is in delivered; then each block that
- *                 it carried
+ *   bundled       the block's grant is the one named, or was sent before it where
+ *                 at most four of the window were sent up to and with the one
+ *                 named; and b0 is 1 for a first block, b1 for a second one, either
+ *                 of them for an only one
+ *   multiplexed   the position of the block's grant is in delivered
+ *
+ * Where nothing was sent there is nothing to confirm, whatever delivered has there.
  *
  * It is proved that each block confirmed by this rule was heard and decoded by the
- * handset, whatever grants were lost: crates/confirmation/specs/Confirmed.antt is
- * the rule, crates/agreement/proofs/Confirmation.antt the proof. It takes DAIs by
- * the rule above, a handset that is fed every subframe with what was sent there or
- * with nothing, and its reply, read as it was sent and with its own settings.
+ * handset, whatever grants were lost: crates/confirmation/specs/Confirmed.antt has
+ * the rule, crates/agreement/proofs/Confirmation.antt the proof. It needs grants with
+ * DAIs by the rule above, a handset that is fed, for every subframe, what was sent
+ * there or nothing, and its reply as it was sent, read with its own settings.
  *
  * Refuses 1 to 7, 13 and 14.
  */
@@ -465,10 +467,9 @@ struct feedback_claims_answer feedback_claims(struct feedback_settings settings,
 /*
  * A fresh handset. It expects subframe 0; the 13 subframes before it count as
  * unheard. To start elsewhere in the frame, set next: that is the state to which
- * as many feeds of nothing lead. When the settings of the cell change, make a
- * fresh handset.
+ * as many feeds of nothing lead. When a setting changes, make a fresh handset.
  *
- *   settings   the settings of the cell
+ *   settings   the settings of the handset
  *
  * Refuses 1 to 6; nothing is made then, and the handset beside the refusal is 64
  * zero bytes.
@@ -481,8 +482,9 @@ struct feedback_made feedback_make(struct feedback_settings settings);
  * subframe is uplink. Call one of the two feeds for every subframe, uplink ones
  * too, and use the handset of its answer for the next: after subframe 9 comes 0.
  * For subframes that the radio slept through feed nothing, once for each of them:
- * a handset knows the subframe by counting its feeds. (13 feeds empty its memory;
- * after a longer sleep a fresh handset with next set is the same.)
+ * the handset knows where in the frame it is by counting its feeds. (13 of them
+ * empty its memory: after so long a sleep a fresh handset with next set is the
+ * same.)
  *
  *   handset    the state that the feed before answered, or feedback_make
  *
@@ -628,7 +630,8 @@ FEEDBACK_HOLDS(feedback_size_t_has_8_bytes, sizeof(size_t) == 8)
  * Settings from their numbers: an expression of type struct feedback_settings. A
  * number over 65535 becomes 65535, which every call refuses as the setting that it
  * is. Where a later version has more settings, this fills them in such a way that
- * the calls answer as they did before: code that uses it need not change.
+ * the calls answer as they did before: code that uses it need not change. It is a
+ * call of a function, which C does not allow where a static object gets its value.
  */
 #define FEEDBACK_SETTINGS(config, nrb, n1, mode, blocks) \
     feedback_settings_of(config, nrb, n1, mode, blocks)

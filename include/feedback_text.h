@@ -36,7 +36,7 @@ static inline const char *feedback_refusal_text(unsigned refusal)
     case FEEDBACK_REFUSED_SUBFRAME:
         return "Refused 7: the subframe is over 9, or it has no window or lies in none.";
     case FEEDBACK_REFUSED_STATE:
-        return "Refused 8: the handset given has bad settings, a bad next subframe or a bad memory.";
+        return "Refused 8: the handset has bad settings, a bad next subframe or a bad memory.";
     case FEEDBACK_REFUSED_UPLINK:
         return "Refused 9: the grant came in an uplink subframe.";
     case FEEDBACK_REFUSED_CARRIED:

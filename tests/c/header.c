@@ -73,10 +73,13 @@ static const char *declaration(const char *name)
     return at;
 }
 
-/* Puts a name at the end of a list of names, and gives back the new end. */
-static char *put_name(char *names, char *end, const char *word, size_t length)
+/* Puts the word between two places at the end of a list of names; gives back the new end. */
+static char *put_name(char *names, char *end, const char *word, const char *stop)
 {
-    return end + sprintf(end, "%s%.*s", end == names ? "(" : ", ", (int)length, word);
+    end += sprintf(end, "%s", end == names ? "(" : ", ");
+    while (word < stop)
+        *end++ = *word++;
+    return end;
 }
 
 /* The names of a declaration's parameters, as (a, b, c): the word before each comma and the end. */
@@ -88,12 +91,12 @@ static void read_parameters(const char *at, char *names)
             const char *word = at + 1;
             while (is_word(word[-1]))
                 word--;
-            end = put_name(names, end, word, (size_t)(at + 1 - word));
+            end = put_name(names, end, word, at + 1);
         }
     strcpy(end, ")");
 }
 
-/* The names that the comment above a declaration describes, in its first lines with three blanks. */
+/* The names that the comment above a declaration describes: its first lines with three blanks. */
 static void read_descriptions(const char *at, char *names)
 {
     char *end = names;
@@ -105,12 +108,12 @@ static void read_descriptions(const char *at, char *names)
             const char *word = at;
             while (is_word(*at))
                 at++;
-            end = put_name(names, end, word, (size_t)(at - word));
+            end = put_name(names, end, word, at);
         }
     strcpy(end, ")");
 }
 
-/* The arguments of a call are written with the parameters' names, and so they stand in the header. */
+/* The arguments of a call are variables of the parameters' names; so they stand in the header. */
 static void named(int line, const char *call, const char *arguments)
 {
     char names[256];
@@ -472,7 +475,8 @@ static void reading_bundled(void)
 {
     struct feedback_settings settings = settings_of(2, 0, 2);
     uint16_t n = 7, resource = 104, b0 = 1, b1 = 0;
-    struct feedback_reading_answer reading = CALL(feedback_reading, (settings, n, resource, b0, b1));
+    struct feedback_reading_answer reading =
+        CALL(feedback_reading, (settings, n, resource, b0, b1));
     EQUAL(reading.refusal, 0);
     EQUAL(reading.kind, FEEDBACK_KIND_BUNDLED);
     EQUAL(reading.position, 3);
@@ -676,7 +680,7 @@ static void bundled(void)
     replies(handset, FEEDBACK_KIND_SILENT, 0, 0, 0);
 }
 
-/* The same subframes: position 1 alone is -A--, which is 01 on 24; with position 3 -A-A, 10 on 47. */
+/* The same subframes: position 1 alone is -A--, 01 on 24; with position 3 it is -A-A, 10 on 47. */
 static void multiplexed(void)
 {
     struct feedback_handset handset = fresh(settings_of(2, FEEDBACK_MODE_MULTIPLEXING, 1));
@@ -700,6 +704,19 @@ static void no_window(void)
     handset = nothing(handset, FEEDBACK_KIND_NO_WINDOW);
     handset = nothing(handset, FEEDBACK_KIND_SILENT);
     EQUAL(handset.next, 5);
+}
+
+/* 13 feeds of nothing empty the memory: what a fresh handset is that expects the same subframe. */
+static void slept(void)
+{
+    struct feedback_handset handset = fresh(settings_of(5, FEEDBACK_MODE_BUNDLING, 2));
+    struct feedback_handset woken = handset;
+    unsigned i;
+    handset = grant(handset, 2, 1, 1, 7, 2);
+    for (i = 1; i < 14; i++)
+        handset = feedback_feed_nothing(handset).handset;
+    woken.next = 4;
+    BYTES(&handset, &woken, sizeof woken);
 }
 
 static void refused(struct feedback_handset handset, struct feedback_fed fed, unsigned refusal)
@@ -740,7 +757,7 @@ static void feeds_refused(void)
 
 /* ---- the texts ---- */
 
-/* Each of the numbers below the limit has a text of its own with its word in it; the rest share one. */
+/* Each number below the limit has a text of its own with its word in it; the rest share one. */
 static void texts(const char *(*of)(unsigned), const char *const words[], unsigned limit)
 {
     unsigned i, j;
@@ -802,6 +819,7 @@ int main(int argc, char **argv)
     bundled();
     multiplexed();
     no_window();
+    slept();
     feeds_refused();
     all_texts();
     if (failures == 0)

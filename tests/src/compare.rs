@@ -4,11 +4,12 @@
 use crate::guarded::{Flush, Guarded, BOTH};
 use crate::model::Model;
 use crate::plain::{
-    plain_claims, plain_feed_grant, plain_feed_nothing, plain_inverse, plain_make, plain_reading,
-    plain_resource,
+    plain_answered, plain_claims, plain_feed_grant, plain_feed_nothing, plain_inverse, plain_make,
+    plain_reading, plain_resource, plain_window,
 };
 use crate::{
-    claims, feed, inverse, make, reading, resource, ClaimsAnswer, Fed, Grant, Handset, Settings,
+    answered, claims, feed, inverse, make, reading, resource, window, ClaimsAnswer, Fed, Grant,
+    Handset, Settings,
 };
 use std::fmt;
 
@@ -45,6 +46,30 @@ pub struct Comparison<'a> {
 impl<'a> Comparison<'a> {
     pub fn with(model: &'a Model) -> Self {
         Self { model, counts: [0; LAST_REFUSAL + 1], kinds: [0; LAST_KIND + 1] }
+    }
+
+    pub fn window(&mut self, settings: Settings, n: u16) {
+        let due = self.model.window_answer(settings, n);
+        let given = window(settings, n);
+        let plain = plain_window(settings, n);
+        assert!(
+            given == due && plain == due,
+            "feedback_window({settings:?}, n {n}): the engine gives {given:?}, the model {due:?}, \
+             the plain implementation {plain:?}"
+        );
+        self.counts[usize::from(due.refusal)] += 1;
+    }
+
+    pub fn answered(&mut self, settings: Settings, subframe: u16) {
+        let due = self.model.answered(settings, subframe);
+        let given = answered(settings, subframe);
+        let plain = plain_answered(settings, subframe);
+        assert!(
+            given == due && plain == due,
+            "feedback_answered({settings:?}, subframe {subframe}): the engine gives {given:?}, \
+             the model {due:?}, the plain implementation {plain:?}"
+        );
+        self.counts[usize::from(due.refusal)] += 1;
     }
 
     pub fn resource(&mut self, settings: Settings, n: u16, position: u16, cce: u16) {

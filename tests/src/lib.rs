@@ -17,17 +17,24 @@ pub mod random;
 pub mod types;
 
 pub use types::{
-    ClaimsAnswer, Fed, Grant, Handset, InverseAnswer, Made, ReadingAnswer, ResourceAnswer,
-    Settings, Slot,
+    AnsweredAnswer, ClaimsAnswer, Fed, Grant, Handset, InverseAnswer, Made, ReadingAnswer,
+    ResourceAnswer, Settings, Slot, WindowAnswer,
 };
 
 /// The engine's calls under their C names.
 pub mod c {
     use super::{
-        ClaimsAnswer, Fed, Handset, InverseAnswer, Made, ReadingAnswer, ResourceAnswer, Settings,
+        AnsweredAnswer, ClaimsAnswer, Fed, Handset, InverseAnswer, Made, ReadingAnswer,
+        ResourceAnswer, Settings, WindowAnswer,
     };
 
     extern "C" {
+        pub fn feedback_layout_1() -> u16;
+
+        pub fn feedback_window(settings: Settings, n: u16) -> WindowAnswer;
+
+        pub fn feedback_answered(settings: Settings, subframe: u16) -> AnsweredAnswer;
+
         pub fn feedback_resource(
             settings: Settings,
             n: u16,
@@ -67,6 +74,24 @@ pub mod c {
             dai: u16,
         ) -> Fed;
     }
+}
+
+/// The number of the structs' layout.
+pub fn layout_1() -> u16 {
+    // SAFETY: the call gives a number, and is lent no memory.
+    unsafe { c::feedback_layout_1() }
+}
+
+/// The engine's window of uplink subframe `n`.
+pub fn window(settings: Settings, n: u16) -> WindowAnswer {
+    // SAFETY: the call takes numbers and gives numbers, and is lent no memory.
+    unsafe { c::feedback_window(settings, n) }
+}
+
+/// The engine's uplink subframe that answers for a downlink one.
+pub fn answered(settings: Settings, subframe: u16) -> AnsweredAnswer {
+    // SAFETY: the call takes numbers and gives numbers, and is lent no memory.
+    unsafe { c::feedback_answered(settings, subframe) }
 }
 
 /// The engine's resource of a position and first CCE in the window of `n`.

@@ -12,8 +12,9 @@ mod station;
 
 pub use replies::{Row, Symbol};
 
-use crate::{InverseAnswer, ResourceAnswer, Settings};
+use crate::{AnsweredAnswer, InverseAnswer, ResourceAnswer, Settings, WindowAnswer};
 use replies::States;
+use std::cmp::Reverse;
 
 /// The frame, subframes 0 to 9, and the windows of each configuration, as
 /// printed: the uplink subframe n, then K in order.
@@ -78,6 +79,35 @@ impl Model {
     /// All windows, by configuration, then n rising.
     pub fn windows(&self) -> &[Window] {
         &self.windows
+    }
+
+    pub fn window_answer(&self, settings: Settings, n: u16) -> WindowAnswer {
+        if let Some(refusal) = settings_refusal(settings) {
+            return WindowAnswer::refused(refusal);
+        }
+        match self.window(settings.config, n) {
+            None => WindowAnswer::refused(7),
+            Some(Window { k, .. }) => {
+                let mut order: Vec<u16> = (0..k.len() as u16).collect();
+                order.sort_by_key(|position| Reverse(k[usize::from(*position)]));
+                WindowAnswer::of(k, &order)
+            }
+        }
+    }
+
+    /// All windows of the configuration are searched for a k that leads from the
+    /// subframe to their n.
+    pub fn answered(&self, settings: Settings, subframe: u16) -> AnsweredAnswer {
+        if let Some(refusal) = settings_refusal(settings) {
+            return AnsweredAnswer::refused(refusal);
+        }
+        for window in self.windows.iter().filter(|window| window.config == settings.config) {
+            let leads = |k: &u16| subframe < 10 && (subframe + k) % 10 == window.n;
+            if let Some(position) = window.k.iter().position(leads) {
+                return AnsweredAnswer::of(window.n, window.k[position], position as u16);
+            }
+        }
+        AnsweredAnswer::refused(7)
     }
 
     pub fn resource(&self, settings: Settings, n: u16, position: u16, cce: u16) -> ResourceAnswer {

@@ -5,9 +5,11 @@
 
 mod handset;
 mod station;
+mod window;
 
 pub use handset::{plain_feed_grant, plain_feed_nothing, plain_make};
 pub use station::{plain_claims, plain_reading};
+pub use window::{plain_answered, plain_window};
 
 use crate::{InverseAnswer, ResourceAnswer, Settings};
 

@@ -18,6 +18,29 @@ impl Settings {
     }
 }
 
+/// The window of an uplink subframe: a refusal, or 0 and M, K in the print's
+/// order and its positions in time order, earliest first. What is not of the
+/// window is 0.
+#[repr(C)]
+#[derive(Clone, Copy, Debug, PartialEq, Eq)]
+pub struct WindowAnswer {
+    pub refusal: u16,
+    pub size: u16,
+    pub k: [u16; 9],
+    pub order: [u16; 9],
+}
+
+/// The answer for a downlink subframe: a refusal, or 0 and the uplink subframe
+/// that answers for it, `k` subframes later, and its position in the window there.
+#[repr(C)]
+#[derive(Clone, Copy, Debug, PartialEq, Eq)]
+pub struct AnsweredAnswer {
+    pub refusal: u16,
+    pub n: u16,
+    pub k: u16,
+    pub position: u16,
+}
+
 /// The answer of the resource call: a refusal, or 0 and the resource.
 #[repr(C)]
 #[derive(Clone, Copy, Debug, PartialEq, Eq)]
@@ -51,14 +74,14 @@ pub struct ReadingAnswer {
     pub delivered: u16,
 }
 
-/// The answer about the claims of a cell: clean (kind 0), the index of the
-/// first claim equal to an earlier one (1), or a refusal (2), with the index of
-/// the first bad claim where that is the cause.
+/// The answer about the claims of a cell: a refusal (kind 0), with the index of
+/// the first bad claim where that is the cause, clean (1), or the index of the
+/// first claim equal to an earlier one (2).
 #[repr(C)]
 #[derive(Clone, Copy, Debug, PartialEq, Eq)]
 pub struct ClaimsAnswer {
-    pub kind: u16,
     pub refusal: u16,
+    pub kind: u16,
     pub index: u64,
 }
 
@@ -117,6 +140,30 @@ pub struct Grant {
     pub dai: u16,
 }
 
+impl WindowAnswer {
+    pub const fn refused(refusal: u16) -> Self {
+        Self { refusal, size: 0, k: [0; 9], order: [0; 9] }
+    }
+
+    /// A window of these k, in the print's order, with these positions in time order.
+    pub fn of(k: &[u16], order: &[u16]) -> Self {
+        let mut answer = Self { size: k.len() as u16, ..Self::refused(0) };
+        answer.k[..k.len()].copy_from_slice(k);
+        answer.order[..k.len()].copy_from_slice(order);
+        answer
+    }
+}
+
+impl AnsweredAnswer {
+    pub const fn refused(refusal: u16) -> Self {
+        Self { refusal, n: 0, k: 0, position: 0 }
+    }
+
+    pub const fn of(n: u16, k: u16, position: u16) -> Self {
+        Self { refusal: 0, n, k, position }
+    }
+}
+
 impl ResourceAnswer {
     pub fn refused(refusal: u16) -> Self {
         let resource = 0;
@@ -156,14 +203,14 @@ impl ReadingAnswer {
 }
 
 impl ClaimsAnswer {
-    pub const CLEAN: Self = Self { kind: 0, refusal: 0, index: 0 };
+    pub const CLEAN: Self = Self { refusal: 0, kind: 1, index: 0 };
 
     pub fn clash(index: usize) -> Self {
-        Self { kind: 1, refusal: 0, index: index as u64 }
+        Self { refusal: 0, kind: 2, index: index as u64 }
     }
 
     pub fn refused(refusal: u16, index: usize) -> Self {
-        Self { kind: 2, refusal, index: index as u64 }
+        Self { refusal, kind: 0, index: index as u64 }
     }
 }
 

@@ -9,11 +9,15 @@
 use feedback_tests::compare::{plain_claims_on, plain_feed, Comparison, Lent, Shown};
 use feedback_tests::guarded::BOTH;
 use feedback_tests::model::{edge, is_uplink, Model, NRB};
-use feedback_tests::plain::{plain_inverse, plain_make, plain_reading, plain_resource};
+use feedback_tests::plain::{
+    plain_answered, plain_inverse, plain_make, plain_reading, plain_resource, plain_window,
+};
 use feedback_tests::random::Random;
-use feedback_tests::{feed, inverse, make, reading, resource, Handset, Settings};
+use feedback_tests::{answered, feed, inverse, make, reading, resource, window, Handset, Settings};
 use std::env;
 
+const WINDOW_CALLS: u64 = 2_000_000;
+const ANSWERED_CALLS: u64 = 2_000_000;
 const RESOURCE_CALLS: u64 = 2_000_000;
 const INVERSE_CALLS: u64 = 2_000_000;
 const READING_CALLS: u64 = 4_000_000;
@@ -22,7 +26,14 @@ const FEED_CALLS: u64 = 8_000_000;
 const CLAIMS_CALLS: u64 = 2_000_000;
 
 const _: () = assert!(
-    RESOURCE_CALLS + INVERSE_CALLS + READING_CALLS + MAKE_CALLS + FEED_CALLS + CLAIMS_CALLS
+    WINDOW_CALLS
+        + ANSWERED_CALLS
+        + RESOURCE_CALLS
+        + INVERSE_CALLS
+        + READING_CALLS
+        + MAKE_CALLS
+        + FEED_CALLS
+        + CLAIMS_CALLS
         >= 10_000_000
 );
 
@@ -72,6 +83,50 @@ fn cces(settings: Settings) -> u16 {
 /// M, or 1 where there is no window.
 fn size(model: &Model, settings: Settings, n: u16) -> u16 {
     model.window(settings.config, n).map_or(1, |window| window.size())
+}
+
+#[test]
+fn windows() {
+    let model = Model::new();
+    let mut comparison = Comparison::with(&model);
+    let calls = fuzz(7, WINDOW_CALLS, |random, ask_model| {
+        let settings = random.wild_settings(24);
+        let n = random.wild_n(&model, settings.config);
+        let (given, plain) = (window(settings, n), plain_window(settings, n));
+        assert!(
+            given == plain,
+            "feedback_window({settings:?}, n {n}): the engine gives {given:?}, the plain \
+             implementation {plain:?}"
+        );
+        if ask_model {
+            comparison.window(settings, n);
+        }
+        1
+    });
+    assert_eq!(calls, WINDOW_CALLS * times());
+    comparison.finish_with(calls / SAMPLE, &[0, 1, 2, 3, 4, 5, 6, 7], &[]);
+}
+
+#[test]
+fn answers_for_subframes() {
+    let model = Model::new();
+    let mut comparison = Comparison::with(&model);
+    let calls = fuzz(8, ANSWERED_CALLS, |random, ask_model| {
+        let settings = random.wild_settings(24);
+        let subframe = near(10, random);
+        let (given, plain) = (answered(settings, subframe), plain_answered(settings, subframe));
+        assert!(
+            given == plain,
+            "feedback_answered({settings:?}, subframe {subframe}): the engine gives {given:?}, \
+             the plain implementation {plain:?}"
+        );
+        if ask_model {
+            comparison.answered(settings, subframe);
+        }
+        1
+    });
+    assert_eq!(calls, ANSWERED_CALLS * times());
+    comparison.finish_with(calls / SAMPLE, &[0, 1, 2, 3, 4, 5, 6, 7], &[]);
 }
 
 #[test]

@@ -1,10 +1,15 @@
 //! The structs of the C calls, byte by byte, and how they are passed.
 
 use feedback_tests::{
-    feed, ClaimsAnswer, Fed, Grant, Handset, InverseAnswer, Made, ReadingAnswer, ResourceAnswer,
-    Settings, Slot,
+    feed, layout_1, AnsweredAnswer, ClaimsAnswer, Fed, Grant, Handset, InverseAnswer, Made,
+    ReadingAnswer, ResourceAnswer, Settings, Slot, WindowAnswer,
 };
 use std::mem::{align_of, offset_of, size_of};
+
+#[test]
+fn layout_is_the_first() {
+    assert_eq!(layout_1(), 1);
+}
 
 #[test]
 fn settings_are_five_16_bit_numbers() {
@@ -14,6 +19,24 @@ fn settings_are_five_16_bit_numbers() {
     assert_eq!(offset_of!(Settings, n1), 4);
     assert_eq!(offset_of!(Settings, mode), 6);
     assert_eq!(offset_of!(Settings, blocks), 8);
+}
+
+#[test]
+fn a_window_answer_is_twenty_16_bit_numbers() {
+    assert_eq!((size_of::<WindowAnswer>(), align_of::<WindowAnswer>()), (40, 2));
+    assert_eq!(offset_of!(WindowAnswer, refusal), 0);
+    assert_eq!(offset_of!(WindowAnswer, size), 2);
+    assert_eq!(offset_of!(WindowAnswer, k), 4);
+    assert_eq!(offset_of!(WindowAnswer, order), 22);
+}
+
+#[test]
+fn an_answer_for_a_subframe_is_four_16_bit_numbers() {
+    assert_eq!((size_of::<AnsweredAnswer>(), align_of::<AnsweredAnswer>()), (8, 2));
+    assert_eq!(offset_of!(AnsweredAnswer, refusal), 0);
+    assert_eq!(offset_of!(AnsweredAnswer, n), 2);
+    assert_eq!(offset_of!(AnsweredAnswer, k), 4);
+    assert_eq!(offset_of!(AnsweredAnswer, position), 6);
 }
 
 #[test]
@@ -46,8 +69,8 @@ fn a_reading_answer_is_seven_16_bit_numbers() {
 #[test]
 fn a_claims_answer_is_two_16_bit_numbers_and_one_of_64() {
     assert_eq!((size_of::<ClaimsAnswer>(), align_of::<ClaimsAnswer>()), (16, 8));
-    assert_eq!(offset_of!(ClaimsAnswer, kind), 0);
-    assert_eq!(offset_of!(ClaimsAnswer, refusal), 2);
+    assert_eq!(offset_of!(ClaimsAnswer, refusal), 0);
+    assert_eq!(offset_of!(ClaimsAnswer, kind), 2);
     assert_eq!(offset_of!(ClaimsAnswer, index), 8);
 }
 
@@ -109,7 +132,7 @@ fn every_byte_of_a_handset_comes_back() {
 #[cfg(all(target_arch = "x86_64", unix))]
 #[test]
 fn what_lies_beyond_the_settings_is_not_read() {
-    use feedback_tests::{c, claims, inverse, make, reading, resource};
+    use feedback_tests::{answered, c, claims, inverse, make, reading, resource, window};
     use std::mem::transmute;
 
     #[repr(C)]
@@ -118,6 +141,8 @@ fn what_lies_beyond_the_settings_is_not_read() {
         settings: Settings,
         beyond: [u16; 3],
     }
+    type Window<S> = unsafe extern "C" fn(S, u16) -> WindowAnswer;
+    type Answered<S> = unsafe extern "C" fn(S, u16) -> AnsweredAnswer;
     type Resource<S> = unsafe extern "C" fn(S, u16, u16, u16) -> ResourceAnswer;
     type Inverse<S> = unsafe extern "C" fn(S, u16, u16) -> InverseAnswer;
     type Reading<S> = unsafe extern "C" fn(S, u16, u16, u16, u16) -> ReadingAnswer;
@@ -134,6 +159,13 @@ fn what_lies_beyond_the_settings_is_not_read() {
             transmute::<Reading<Settings>, Reading<TwoRegisters>>(c::feedback_reading),
             transmute::<Claims<Settings>, Claims<TwoRegisters>>(c::feedback_claims),
             transmute::<Make<Settings>, Make<TwoRegisters>>(c::feedback_make),
+        )
+    };
+    // SAFETY: likewise.
+    let (wide_window, wide_answered) = unsafe {
+        (
+            transmute::<Window<Settings>, Window<TwoRegisters>>(c::feedback_window),
+            transmute::<Answered<Settings>, Answered<TwoRegisters>>(c::feedback_answered),
         )
     };
     let mut compared = 0;
@@ -154,15 +186,19 @@ fn what_lies_beyond_the_settings_is_not_read() {
                     wide_make(wide),
                 )
             };
+            // SAFETY: these calls are lent no memory.
+            let (here, answer) = unsafe { (wide_window(wide, 2), wide_answered(wide, 6)) };
             let context = format!("blocks {blocks}, {beyond:?}");
+            assert_eq!(here, window(settings, 2), "{context}");
+            assert_eq!(answer, answered(settings, 6), "{context}");
             assert_eq!(there, resource(settings, 2, 0, 11), "{context}");
             assert_eq!(back, inverse(settings, 2, 32), "{context}");
             assert_eq!(read, reading(settings, 2, 32, 1, 0), "{context}");
             assert_eq!(judged, claims(settings, 2, &list, &mut scratch), "{context}");
             assert_eq!(wide_scratch, scratch, "{context}");
             assert_eq!(made, make(settings), "{context}");
-            compared += 5;
+            compared += 7;
         }
     }
-    assert_eq!(compared, 4 * 5 * 5);
+    assert_eq!(compared, 4 * 5 * 7);
 }

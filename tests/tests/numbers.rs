@@ -2,8 +2,9 @@
 //! is written out by hand; the model has no part here.
 
 use feedback_tests::{
-    claims, feed_grant, feed_nothing, inverse, make, reading, resource, ClaimsAnswer, Fed, Grant,
-    Handset, InverseAnswer, Made, ReadingAnswer, ResourceAnswer, Settings, Slot,
+    answered, claims, feed_grant, feed_nothing, inverse, make, reading, resource, window,
+    AnsweredAnswer, ClaimsAnswer, Fed, Grant, Handset, InverseAnswer, Made, ReadingAnswer,
+    ResourceAnswer, Settings, Slot, WindowAnswer,
 };
 use std::fmt::Debug;
 
@@ -32,6 +33,14 @@ impl Count {
     fn due<T: Debug + PartialEq>(&mut self, number: u16, given: T, due: T) {
         assert_eq!(given, due, "refusal {number}");
         self.0[usize::from(number)] += 1;
+    }
+
+    fn window(&mut self, number: u16, settings: Settings, n: u16) {
+        self.due(number, window(settings, n), WindowAnswer::refused(number));
+    }
+
+    fn answered(&mut self, number: u16, settings: Settings, subframe: u16) {
+        self.due(number, answered(settings, subframe), AnsweredAnswer::refused(number));
     }
 
     fn resource(&mut self, number: u16, settings: Settings, n: u16, position: u16, cce: u16) {
@@ -84,6 +93,8 @@ fn every_number_occurs() {
     assert_eq!(fresh, Handset::fresh(CELL));
 
     for (number, settings) in REFUSED {
+        count.window(number, settings, 2);
+        count.answered(number, settings, 1);
         count.resource(number, settings, 2, 0, 0);
         count.inverse(number, settings, 2, 10);
         count.reading(number, settings, 2, (10, 0, 0));
@@ -93,10 +104,15 @@ fn every_number_occurs() {
     }
 
     for n in [0, 4, 10, 258, 65535] {
+        count.window(7, CELL, n);
         count.resource(7, CELL, n, 0, 0);
         count.inverse(7, CELL, n, 10);
         count.reading(7, CELL, n, (10, 0, 0));
         count.claims(7, CELL, n, &[0], 122);
+    }
+
+    for uplink in [2, 3, 7, 8, 10, 257, 65535] {
+        count.answered(7, CELL, uplink);
     }
 
     // In configuration 1 the subframes 2, 3, 7 and 8 are uplink. A handset that
@@ -164,7 +180,7 @@ fn every_number_occurs() {
     count.claims(16, CELL, 2, &[7, 7, 65535], 200);
 
     println!("refusals by number: {:?}", count.0);
-    let of_settings = |causes: u64| 5 * causes;
+    let of_settings = |causes: u64| 7 * causes;
     let states = 3 * (9 + 9 * 6 + 4 + 3) + 1;
     let counts = [
         0,
@@ -174,7 +190,7 @@ fn every_number_occurs() {
         of_settings(1),
         of_settings(1),
         of_settings(3),
-        5 * 4,
+        5 * 5 + 7,
         states,
         2,
         2,

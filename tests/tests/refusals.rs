@@ -4,8 +4,8 @@
 use feedback_tests::compare::{Comparison, Lent};
 use feedback_tests::model::Model;
 use feedback_tests::{
-    claims, inverse, make, reading, resource, ClaimsAnswer, Handset, InverseAnswer, ReadingAnswer,
-    ResourceAnswer, Settings,
+    answered, claims, inverse, make, reading, resource, window, AnsweredAnswer, ClaimsAnswer,
+    Handset, InverseAnswer, ReadingAnswer, ResourceAnswer, Settings, WindowAnswer,
 };
 
 /// The settings' special values: 0, each limit, one past it, 65535, and numbers
@@ -27,6 +27,7 @@ const ROOM: &[u16] = &[0, 6, 7, 121, 122, 1205, 1206, 1207];
 
 /// The arguments of each call, in order, by their special values. Of the claims,
 /// the second of three and the length of the scratch are arguments.
+const SUBFRAME_CALL: [&[u16]; 6] = [CONFIG, NRB, N1, MODE, BLOCKS, N];
 const RESOURCE_CALL: [&[u16]; 8] = [CONFIG, NRB, N1, MODE, BLOCKS, N, POSITION, CCE];
 const INVERSE_CALL: [&[u16]; 7] = [CONFIG, NRB, N1, MODE, BLOCKS, N, RESOURCE];
 const READING_CALL: [&[u16]; 9] = [CONFIG, NRB, N1, MODE, BLOCKS, N, RESOURCE, BIT, BIT];
@@ -34,6 +35,10 @@ const CLAIMS_CALL: [&[u16]; 8] = [CONFIG, NRB, N1, MODE, BLOCKS, N, CLAIM, ROOM]
 const MAKE_CALL: [&[u16]; 5] = [CONFIG, NRB, N1, MODE, BLOCKS];
 
 /// Arguments that are not refused, from which the changes start.
+const WINDOW_STARTS: [[u16; 6]; 4] =
+    [[1, 50, 10, 0, 1, 2], [5, 110, 2047, 0, 2, 2], [0, 6, 0, 1, 1, 9], [3, 25, 100, 1, 2, 3]];
+const ANSWERED_STARTS: [[u16; 6]; 4] =
+    [[1, 50, 10, 0, 1, 9], [5, 110, 2047, 0, 2, 9], [0, 6, 0, 1, 1, 1], [3, 25, 100, 1, 2, 8]];
 const RESOURCE_STARTS: [[u16; 8]; 4] = [
     [1, 50, 10, 0, 1, 2, 1, 60],
     [5, 110, 2047, 0, 2, 2, 8, 133],
@@ -60,6 +65,16 @@ const CLAIMS_STARTS: [[u16; 8]; 4] = [
 ];
 const MAKE_STARTS: [[u16; 5]; 4] =
     [[1, 50, 10, 0, 1], [5, 110, 2047, 0, 2], [0, 6, 0, 1, 1], [3, 25, 100, 1, 2]];
+
+fn compare_window(comparison: &mut Comparison, arguments: [u16; 6]) {
+    let [config, nrb, n1, mode, blocks, n] = arguments;
+    comparison.window(Settings::plain(config, nrb, n1, mode, blocks), n);
+}
+
+fn compare_answered(comparison: &mut Comparison, arguments: [u16; 6]) {
+    let [config, nrb, n1, mode, blocks, subframe] = arguments;
+    comparison.answered(Settings::plain(config, nrb, n1, mode, blocks), subframe);
+}
 
 fn compare_resource(comparison: &mut Comparison, arguments: [u16; 8]) {
     let [config, nrb, n1, mode, blocks, n, position, cce] = arguments;
@@ -152,6 +167,35 @@ fn assert_settings_refused(comparison: &Comparison, others: u64) {
     assert_eq!(comparison.refused(4), 4 * 3 * 3 * 4 * 6 * others);
     assert_eq!(comparison.refused(5), 3 * 3 * 6 * others);
     assert_eq!(comparison.refused(6), 7 * 3 * 3 * 4 * others);
+}
+
+#[test]
+fn window_and_answered_with_arguments_changed() {
+    let model = Model::new();
+    type Compare = fn(&mut Comparison, [u16; 6]);
+    let calls: [(Compare, _); 2] =
+        [(compare_window, WINDOW_STARTS), (compare_answered, ANSWERED_STARTS)];
+    for (compare, starts) in calls {
+        let mut comparison = Comparison::with(&model);
+        for start in starts {
+            alone(start, |arguments| compare(&mut comparison, arguments));
+            in_pairs(start, SUBFRAME_CALL, |arguments| compare(&mut comparison, arguments));
+        }
+        let compared = 4 * (6 * 65536 + number_of_pairs(&SUBFRAME_CALL));
+        comparison.finish_with(compared, &[0, 1, 2, 3, 4, 5, 6, 7], &[]);
+    }
+}
+
+#[test]
+fn window_and_answered_with_all_arguments_special() {
+    let model = Model::new();
+    let mut comparison = Comparison::with(&model);
+    all_together(SUBFRAME_CALL, |arguments| {
+        compare_window(&mut comparison, arguments);
+        compare_answered(&mut comparison, arguments);
+    });
+    comparison.finish_with(2 * number_of_all(&SUBFRAME_CALL), &[0, 7], &[]);
+    assert_settings_refused(&comparison, 2 * 7);
 }
 
 #[test]
@@ -254,7 +298,7 @@ fn claims_with_two_arguments_changed() {
         });
     }
     let compared = 4 * number_of_pairs(&CLAIMS_CALL) * 2;
-    comparison.finish_with(compared, &[0, 1, 2, 3, 4, 5, 6, 7, 15, 16], &[1, 2]);
+    comparison.finish_with(compared, &[0, 1, 2, 3, 4, 5, 6, 7, 15, 16], &[0, 2]);
 }
 
 #[test]
@@ -267,7 +311,7 @@ fn claims_with_all_arguments_special() {
     let call = [config, nrb, n1, mode, blocks, &[2, 3, 10], &[6, 256, 65535], ROOM];
     all_together(call, |arguments| compare_claims(&mut comparison, &mut lent, arguments));
     let compared = 3 * 2 * 2 * 3 * 2 * 3 * 3 * 8 * 2;
-    comparison.finish_with(compared, &[0, 1, 2, 3, 4, 5, 6, 7, 15, 16], &[1, 2]);
+    comparison.finish_with(compared, &[0, 1, 2, 3, 4, 5, 6, 7, 15, 16], &[0, 2]);
 }
 
 #[test]
@@ -317,6 +361,16 @@ fn lowest_number_first() {
     };
     for (number, settings, n) in steps {
         let last = |last| if number == 0 { last } else { number };
+        let (here, answer) = match number {
+            0 => {
+                let window = [13, 12, 9, 8, 7, 5, 4, 11, 6];
+                let order = [0, 1, 7, 2, 3, 4, 8, 5, 6];
+                (WindowAnswer::of(&window, &order), AnsweredAnswer::refused(7))
+            }
+            _ => (WindowAnswer::refused(number), AnsweredAnswer::refused(number)),
+        };
+        assert_eq!(window(settings, n), here, "{settings:?}, n {n}");
+        assert_eq!(answered(settings, n), answer, "{settings:?}, subframe {n}");
         let (pair, other) = (ResourceAnswer::refused(last(11)), InverseAnswer::refused(last(13)));
         assert_eq!(resource(settings, n, 9, 7), pair, "{settings:?}, n {n}, position 9, cce 7");
         assert_eq!(inverse(settings, n, 2046), other, "{settings:?}, n {n}, resource 2046");

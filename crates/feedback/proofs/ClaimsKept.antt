@@ -11,12 +11,11 @@ use Rattle.claims.specs.declared.Checked.{Checked}
 use Rattle.claims.specs.Claims.{firstBad, firstClash, scratchRefusal, checkedOn, refusedOr, checkedOf}
 use Rattle.feedback.specs.Answers.{claimsAnswer}
 use Rattle.feedback.specs.Back.{checkedIn, KindTells}
-use Rattle.feedback.specs.Kinds.{claimsRefused}
 use Rattle.feedback.proofs.Chosen.{either}
 
 -- An answer about claims comes back from its numbers, and its kind says whether it is refused.
 abbrev pub CheckedKept : Checked → Type 0
-CheckedKept x = (checkedIn (claimsAnswer x) ≡ x) × KindTells claimsRefused (claimsAnswer x .kind) (claimsAnswer x .refusal)
+CheckedKept x = (checkedIn (claimsAnswer x) ≡ x) × KindTells (claimsAnswer x .kind) (claimsAnswer x .refusal)
 
 refused-or-kept : (k : ℕ) (x : Checked) → CheckedKept x → CheckedKept (refusedOr k x)
 refused-or-kept zero x kept = kept

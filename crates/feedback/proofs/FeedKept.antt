@@ -30,12 +30,12 @@ use Rattle.handset.specs.declared.Handset.{Handset}
 use Rattle.handset.specs.Feed.{answerOf, nextAnswer, pushed, feedRefusal, fedAs, feedOf}
 use Rattle.feedback.specs.Answers.{fedAnswer}
 use Rattle.feedback.specs.Back.{fedIn, KindTells}
-use Rattle.feedback.specs.Kinds.{kindRefused, kindBundled, kindMultiplexed}
+use Rattle.feedback.specs.Kinds.{kindBundled, kindMultiplexed}
 use Rattle.feedback.proofs.Chosen.{either}
 
 -- What a feed answers comes back from its numbers with the handset, and its kind says whether it is refused.
 abbrev pub FedKept : Fed → Type 0
-FedKept f = (fedIn (fedAnswer f) ≡ f) × KindTells kindRefused (fedAnswer f .kind) (fedAnswer f .refusal)
+FedKept f = (fedIn (fedAnswer f) ≡ f) × KindTells (fedAnswer f .kind) (fedAnswer f .refusal)
 
 abbrev AnswerKept : Answer → Type 0
 AnswerKept x = (h : Handset) → FedKept (record { answer = x; handset = h })

@@ -18,13 +18,12 @@ use Rattle.station.specs.declared.Reading.{Reading}
 use Rattle.station.specs.Readings.{badBits, bundledReading, multiplexedReading, readAt, readInverted, readOf}
 use Rattle.feedback.specs.Answers.{inverseAnswer, readingAnswer}
 use Rattle.feedback.specs.Back.{invertedIn, readingIn, KindTells}
-use Rattle.feedback.specs.Kinds.{kindRefused}
 use Rattle.feedback.proofs.Chosen.{either}
 use Rattle.feedback.proofs.InverseKept.{inverse-back}
 
 -- A reading comes back from its numbers, and its kind says whether it is refused.
 abbrev pub ReadingKept : Reading → Type 0
-ReadingKept x = (readingIn (readingAnswer x) ≡ x) × KindTells kindRefused (readingAnswer x .kind) (readingAnswer x .refusal)
+ReadingKept x = (readingIn (readingAnswer x) ≡ x) × KindTells (readingAnswer x .kind) (readingAnswer x .refusal)
 
 module _ (s : Settings) (b0 b1 : ℕ) where
   multiplexed-kept : (m : ℕ) (c : Cce) (d : Delivery) → ReadingKept (multiplexedReading m c d)

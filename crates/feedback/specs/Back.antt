@@ -28,7 +28,7 @@ use Rattle.feedback.specs.declared.ReadingAnswer.{ReadingAnswer}
 use Rattle.feedback.specs.declared.ResourceAnswer.{ResourceAnswer}
 use Rattle.feedback.specs.declared.InverseAnswer.{InverseAnswer}
 use Rattle.feedback.specs.Answers.{resourceAnswer, inverseAnswer, readingAnswer, claimsAnswer, fedAnswer}
-use Rattle.feedback.specs.Kinds.{kindRefused, kindBundled, kindSilent, kindTaken, kindNoWindow, claimsClash, claimsRefused}
+use Rattle.feedback.specs.Kinds.{kindBundled, kindSilent, kindTaken, kindNoWindow, claimsClash}
 
 -- In every answer a refusal other than 0 is the answer; where it is 0 the kind, if there is one, says what the values are.
 abbrev pub mappedIn : ResourceAnswer → Mapped
@@ -91,13 +91,14 @@ pub record ToldApart : Type 0 where
       → Apart claimsAnswer (checkedOf s n list room) (checkedOf t n' list' room')
   pub feed : (h i : Handset) (x y : Heard) → Apart fedAnswer (feedOf h x) (feedOf i y)
 
--- Where an answer has a kind, it is the refused one exactly where the refusal is not 0: a caller may look at either.
-abbrev pub KindTells : ℕ → ℕ → ℕ → Type 0
-KindTells refused kind refusal = eqb kind refused ≡ not (eqb refusal 0)
+-- Where an answer has a kind, it is 0 exactly where the refusal is not 0: a caller may look at either, and a struct of zeros is no
+-- answer of a call.
+abbrev pub KindTells : ℕ → ℕ → Type 0
+KindTells kind refusal = eqb kind 0 ≡ not (eqb refusal 0)
 
 pub record RefusedByKind : Type 0 where
   pub reading : (s : Settings) (n r b0 b1 : ℕ)
-      → KindTells kindRefused (readingAnswer (readOf s n r b0 b1) .kind) (readingAnswer (readOf s n r b0 b1) .refusal)
+      → KindTells (readingAnswer (readOf s n r b0 b1) .kind) (readingAnswer (readOf s n r b0 b1) .refusal)
   pub claims : (s : Settings) (n : ℕ) (list : List ℕ) (room : ℕ)
-      → KindTells claimsRefused (claimsAnswer (checkedOf s n list room) .kind) (claimsAnswer (checkedOf s n list room) .refusal)
-  pub feed : (h : Handset) (x : Heard) → KindTells kindRefused (fedAnswer (feedOf h x) .kind) (fedAnswer (feedOf h x) .refusal)
+      → KindTells (claimsAnswer (checkedOf s n list room) .kind) (claimsAnswer (checkedOf s n list room) .refusal)
+  pub feed : (h : Handset) (x : Heard) → KindTells (fedAnswer (feedOf h x) .kind) (fedAnswer (feedOf h x) .refusal)

@@ -91,6 +91,7 @@ each-answered s d ok =
     record {
       accepted = λ e. rw (← at-downlink s d 0 (sym ok) refl e);
       alone = λ e. rw (← at-downlink s d 0 (sym ok) refl e) (alone (s .config) d e);
+      refused = λ e. rw (← at-other s d 0 (sym ok) refl e);
       none = λ within e n k m a.
           let same : d % 10 ≡ d = omega arith in
           false≢true (sym e ∙ (rw same at (inside-downlink (s .config) (d + k) m d (in-run (s .config) d n k m a))));

@@ -57,9 +57,11 @@ pub record AnswersAlone (c d n k m : ℕ) : Type 0 where
   pub answers : Answers c d n k m
   pub only : (n' k' m' : ℕ) → Answers c d n' k' m' → (n' ≡ n) × (k' ≡ k) × (m' ≡ m)
 
--- In an accepted cell every downlink subframe is answered, by the numbers of the call and no others; no other subframe is.
+-- In an accepted cell a downlink subframe is answered, by the numbers of the call and no others. Any other subframe is refused 7, and
+-- none of the frame's ten that is not downlink is answered by any numbers.
 pub record EachAnswered (s : Settings) (d : ℕ) : Type 0 where
   pub accepted : downlink (s .config) d ≡ true → answeredOf s d .refusal ≡ 0
   pub alone : downlink (s .config) d ≡ true
       → AnswersAlone (s .config) d (answeredOf s d .n) (answeredOf s d .k) (answeredOf s d .position)
+  pub refused : downlink (s .config) d ≡ false → answeredOf s d .refusal ≡ 7
   pub none : d ≤ 9 → downlink (s .config) d ≡ false → (n k m : ℕ) → Answers (s .config) d n k m → ⊥

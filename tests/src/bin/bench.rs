@@ -7,16 +7,16 @@
 //! machine, and no figure fails.
 
 use feedback_tests::c::{
-    feedback_claims, feedback_feed_grant, feedback_feed_nothing, feedback_inverse, feedback_make,
-    feedback_reading, feedback_resource,
+    feedback_answered, feedback_claims, feedback_feed_grant, feedback_feed_nothing,
+    feedback_inverse, feedback_make, feedback_reading, feedback_resource, feedback_window,
 };
 use feedback_tests::model::{bundles, edge, is_uplink, Model, Window};
 use feedback_tests::plain::{
-    plain_claims, plain_feed_grant, plain_feed_nothing, plain_inverse, plain_make, plain_reading,
-    plain_resource,
+    plain_answered, plain_claims, plain_feed_grant, plain_feed_nothing, plain_inverse, plain_make,
+    plain_reading, plain_resource, plain_window,
 };
 use feedback_tests::random::Random;
-use feedback_tests::{ClaimsAnswer, Fed, Grant, Handset, Settings};
+use feedback_tests::{AnsweredAnswer, ClaimsAnswer, Fed, Grant, Handset, Settings, WindowAnswer};
 use std::hint::black_box;
 use std::time::Instant;
 
@@ -29,11 +29,13 @@ const BATCHES: usize = 1001;
 /// The runs of feeds.
 const RUNS: usize = 200;
 
-/// One allowed input of the calls on numbers: the resource is that of the pair,
-/// and the bits are a reply that is read.
+/// One allowed input of the calls on numbers: the subframe is the one at the
+/// position, the resource is that of the pair, and the bits are a reply that is
+/// read.
 struct Input {
     settings: Settings,
     n: u16,
+    subframe: u16,
     position: u16,
     cce: u16,
     resource: u16,
@@ -91,6 +93,8 @@ the whole state that it is lent, and a list of claims clears its scratch.
 
 fn numbers(model: &Model, random: &mut Random) {
     let inputs: Vec<Input> = (0..INPUTS).map(|_| input(model, random, |_| true)).collect();
+    row("window", &inputs, inputs.len(), engine_window, plain_rust_window);
+    row("answered", &inputs, inputs.len(), engine_answered, plain_rust_answered);
     row("resource", &inputs, inputs.len(), engine_resource, plain_rust_resource);
     row("inverse", &inputs, inputs.len(), engine_inverse, plain_rust_inverse);
     for (name, bundled) in [("reading, bundled", true), ("reading, multiplexed", false)] {
@@ -114,7 +118,8 @@ fn input(model: &Model, random: &mut Random, fits: impl Fn(&Input) -> bool) -> I
             (random.below16(window.size()), random.below16(edge(settings.nrb, 4)));
         let resource = model.resource(settings, window.n, position, cce).resource;
         let bits = (random.below16(2), random.below16(2));
-        let input = Input { settings, n: window.n, position, cce, resource, bits };
+        let subframe = (window.n + 20 - window.k[usize::from(position)]) % 10;
+        let input = Input { settings, n: window.n, subframe, position, cce, resource, bits };
         let read = model.reading(settings, window.n, resource, bits.0, bits.1);
         if read.refusal == 0 && fits(&input) {
             return input;
@@ -272,6 +277,34 @@ fn time<T>(inputs: &[T], call: &mut impl FnMut(&T) -> u64) -> f64 {
 fn median(mut times: Vec<f64>) -> f64 {
     times.sort_by(f64::total_cmp);
     times[times.len() / 2]
+}
+
+fn engine_window(input: &Input) -> u64 {
+    // SAFETY: the call takes numbers and gives numbers, and is lent no memory.
+    last_in_time(unsafe { feedback_window(input.settings, input.n) })
+}
+
+fn plain_rust_window(input: &Input) -> u64 {
+    last_in_time(plain_window(input.settings, input.n))
+}
+
+fn last_in_time(window: WindowAnswer) -> u64 {
+    let window = black_box(&window);
+    let last = window.order[usize::from(window.size.wrapping_sub(1) % 9)];
+    u64::from(last) << 16 | u64::from(window.k[0])
+}
+
+fn engine_answered(input: &Input) -> u64 {
+    // SAFETY: the call takes numbers and gives numbers, and is lent no memory.
+    place(unsafe { feedback_answered(input.settings, input.subframe) })
+}
+
+fn plain_rust_answered(input: &Input) -> u64 {
+    place(plain_answered(input.settings, input.subframe))
+}
+
+fn place(answer: AnsweredAnswer) -> u64 {
+    u64::from(answer.n) << 32 | u64::from(answer.k) << 16 | u64::from(answer.position)
 }
 
 fn engine_resource(input: &Input) -> u64 {

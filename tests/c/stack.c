@@ -1,0 +1,185 @@
+/*
+ * The most stack that each call takes, held to the figures in the comment of include/feedback.h. A
+ * call is made with many inputs on a stack of its own that was painted before; what is not painted
+ * any more was used. The same with a function that does nothing in its place tells what of it the
+ * caller used. The argument is the header's file. Link with -z now: no call is to meet the linker.
+ */
+#define _XOPEN_SOURCE 700
+#include "feedback.h"
+#include <stdio.h>
+#include <stdlib.h>
+#include <string.h>
+#include <ucontext.h>
+
+enum { SETTINGS = 7 * 2 * 2 * 3, FEEDS = 40, HANDSETS = SETTINGS * 4 * FEEDS };
+
+static struct feedback_settings settings[SETTINGS];
+static struct feedback_handset handsets[HANDSETS];
+
+/* ---- for each call, one of its form that does nothing, and a loop that makes it ---- */
+
+static int real;               /* whether a loop makes the call, or the one that does nothing */
+static volatile unsigned sink; /* takes something of every answer, so that no call is left out */
+
+#define LOOP(name, answer, parameters, loop)                                                   \
+    static struct answer none_##name parameters                                                \
+    {                                                                                          \
+        struct answer none = {0};                                                              \
+        return none;                                                                           \
+    }                                                                                          \
+    static void loop_##name(void)                                                              \
+    {                                                                                          \
+        struct answer(*volatile call) parameters = real ? feedback_##name : none_##name;       \
+        loop                                                                                   \
+    }
+#define EACH(i, limit) for (unsigned i = 0; i < limit; i++)
+
+LOOP(window, feedback_window_answer, (struct feedback_settings s, uint16_t n),
+     EACH(i, SETTINGS) EACH(j, 11) sink += call(settings[i], (uint16_t)j).size;)
+
+LOOP(answered, feedback_answered_answer, (struct feedback_settings s, uint16_t subframe),
+     EACH(i, SETTINGS) EACH(j, 11) sink += call(settings[i], (uint16_t)j).n;)
+
+LOOP(resource, feedback_resource_answer,
+     (struct feedback_settings s, uint16_t n, uint16_t position, uint16_t cce),
+     EACH(i, SETTINGS) EACH(j, 11) EACH(m, 10) EACH(c, 140)
+         sink += call(settings[i], (uint16_t)j, (uint16_t)m, (uint16_t)c).resource;)
+
+LOOP(inverse, feedback_inverse_answer, (struct feedback_settings s, uint16_t n, uint16_t resource),
+     EACH(i, SETTINGS) EACH(j, 11) EACH(r, 1300)
+         sink += call(settings[i], (uint16_t)j, (uint16_t)r).cce;)
+
+LOOP(reading, feedback_reading_answer,
+     (struct feedback_settings s, uint16_t n, uint16_t resource, uint16_t b0, uint16_t b1),
+     EACH(i, SETTINGS) EACH(j, 11) EACH(r, 1300) EACH(b, 4)
+         sink += call(settings[i], (uint16_t)j, (uint16_t)r, b & 1, (uint16_t)(b >> 1)).cce;)
+
+static uint16_t list[600];
+static uint8_t scratch[FEEDBACK_SCRATCH_MOST];
+LOOP(claims, feedback_claims_answer,
+     (struct feedback_settings s, uint16_t n, const uint16_t *claims, size_t count,
+      uint8_t *bytes, size_t room),
+     EACH(i, SETTINGS) EACH(j, 11) EACH(l, 600)
+         sink += call(settings[i], (uint16_t)j, list, l, scratch, sizeof scratch).kind;)
+
+LOOP(make, feedback_made, (struct feedback_settings s),
+     EACH(i, SETTINGS) sink += call(settings[i]).refusal;)
+
+LOOP(feed_nothing, feedback_fed, (struct feedback_handset handset),
+     EACH(i, HANDSETS) sink += call(handsets[i]).resource;)
+
+LOOP(feed_grant, feedback_fed,
+     (struct feedback_handset handset, uint16_t blocks, uint16_t first, uint16_t second,
+      uint16_t cce, uint16_t dai),
+     EACH(i, HANDSETS) EACH(b, 4) sink += call(handsets[i], (uint16_t)b, 1, 0, 3, 1).kind;)
+
+/* ---- inputs ---- */
+
+static unsigned draw(unsigned limit)
+{
+    static uint32_t random = 1;
+    random = random * 1664525u + 1013904223u;
+    return (random >> 16) % limit;
+}
+
+/* All configurations, modes and blocks (mode 1 of configuration 5 is refused), three bandwidths. */
+static void fill_settings(void)
+{
+    static const uint16_t bandwidths[] = {6, 50, 110};
+    EACH(i, SETTINGS)
+        settings[i] = FEEDBACK_SETTINGS(i % 7, bandwidths[i / 28], 10, i / 7 % 2, 1 + i / 14 % 2);
+}
+
+/* The states of runs that lose none, a third, two thirds and all of the grants; some spoilt. */
+static void fill_handsets(void)
+{
+    EACH(i, HANDSETS)
+    {
+        struct feedback_handset *handset = &handsets[i];
+        struct feedback_settings cell = settings[i / FEEDS % SETTINGS];
+        if (i % FEEDS == 0)
+            *handset = feedback_make(cell).handset;
+        struct feedback_answered_answer in = feedback_answered(cell, handset->next);
+        int lost = draw(3) < i / FEEDS / SETTINGS || in.refusal != 0;
+        uint16_t dai = 1; /* of a window in which every downlink subframe has a grant */
+        struct feedback_window_answer window = feedback_window(cell, in.n);
+        for (unsigned j = 0; j < window.size && window.order[j] != in.position; j++)
+            dai = (uint16_t)(dai % 4 + 1);
+        struct feedback_fed fed = lost ? feedback_feed_nothing(*handset)
+                                       : feedback_feed_grant(*handset, 1, draw(4) > 0, 0,
+                                                             (uint16_t)draw(7), dai);
+        if (i % FEEDS < FEEDS - 1)
+            handsets[i + 1] = fed.handset;
+        if (draw(20) == 0)
+            handset->past[draw(13)].kind ^= (uint8_t)draw(4);
+    }
+}
+
+/* A list of claims; how far they are good depends on the window. */
+static void fill_list(void)
+{
+    EACH(i, 600) list[i] = FEEDBACK_CLAIM(i / 7 % 9, i % 7 + 7 * (i / 63));
+}
+
+/* ---- the measure ---- */
+
+enum { STACK = 65536, PAINT = 0xa5 };
+static unsigned char stack[STACK] __attribute__((aligned(64)));
+
+static unsigned used(void (*loop)(void), int made)
+{
+    static ucontext_t here, there;
+    unsigned painted = 0;
+    real = made;
+    memset(stack, PAINT, STACK);
+    getcontext(&there);
+    there.uc_stack.ss_sp = stack;
+    there.uc_stack.ss_size = STACK;
+    there.uc_link = &here;
+    makecontext(&there, loop, 0);
+    swapcontext(&here, &there);
+    while (painted < STACK && stack[painted] == PAINT)
+        painted++;
+    return STACK - painted;
+}
+
+static char text[65536];
+
+/* The figure that the header's comment has for a call; 0 if there is none. */
+static unsigned stated(const char *name)
+{
+    char line[80];
+    sprintf(line, "\n *             feedback_%s ", name);
+    const char *at = strstr(text, line);
+    return at == NULL ? 0 : (unsigned)strtoul(at + strlen(line), NULL, 10);
+}
+
+/* The bytes that a call takes: what is pushed to make it, and what it uses below. */
+static int held(const char *name, void (*loop)(void), unsigned pushed)
+{
+    unsigned caller = used(loop, 0), most = used(loop, 1) - caller + pushed;
+    printf("%-13s %4u bytes of stack, stated %u\n", name, most, stated(name));
+    return caller < 512 && most <= stated(name);
+}
+#define HELD(name, arguments) held(#name, loop_##name, 8 + arguments)
+
+int main(int argc, char **argv)
+{
+    FILE *file = argc == 2 ? fopen(argv[1], "r") : NULL;
+    if (file == NULL || fread(text, 1, sizeof text - 1, file) == 0)
+        return 2;
+    fclose(file);
+    fill_settings();
+    fill_handsets();
+    fill_list();
+    int all = HELD(window, 0);
+    all &= HELD(answered, 0);
+    all &= HELD(resource, 0);
+    all &= HELD(inverse, 0);
+    all &= HELD(reading, 0);
+    all &= HELD(claims, 8);
+    all &= HELD(make, 0);
+    all &= HELD(feed_nothing, 64);
+    all &= HELD(feed_grant, 64);
+    return !all;
+}
