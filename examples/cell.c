@@ -1,183 +1,270 @@
 /*
- * A worked cell. A scheduler sends grants, the radio loses some, a handset replies on PUCCH, and
- * the station reads from the reply which transport blocks leave the retransmission buffer. One
- * line for each window, then a summary; fails if a block leaves that the handset did not decode.
+ * A worked cell in three parts: a station that sends grants and reads the replies, a radio that
+ * loses grants on the way to the handset, and a check that sees both. A line for each window; it
+ * fails if a block leaves the station's retransmission buffer undecoded.
  *   cc -std=c11 -I include -o cell examples/cell.c target/staticlib/libfeedback.a
  *   ./cell 5 0 40 50 7   configuration 5, mode 0 (bundling), 40 frames, 50 % lost, seed 7
  */
-#include "feedback.h"
+#include "feedback_text.h"
+#include <stdbool.h>
 #include <stdio.h>
 #include <stdlib.h>
-#include <string.h>
 
-/* The runs. Arguments, in this order, replace the numbers of the first; then it is the only one. */
+/* The runs: each configuration in each mode it has. Arguments replace the numbers of the first. */
 enum { CONFIG, MODE, FRAMES, LOSS, SEED, ARGUMENTS };
-static uint16_t runs[3][ARGUMENTS] = {{2, 0, 6, 20, 1}, {2, 1, 6, 20, 1}, {5, 0, 6, 40, 22}};
-static const char usage[] = "usage: cell [CONFIGURATION [MODE [FRAMES [LOSS-PERCENT [SEED]]]]]";
-
-/* TS 36.213 Table 10.1-1: K of each configuration and uplink subframe, in the printed order. */
-static const uint8_t table[7][10][9] = {
-    {[2] = {6}, [4] = {4}, [7] = {6}, [9] = {4}},
-    {[2] = {7, 6}, [3] = {4}, [7] = {7, 6}, [8] = {4}},
-    {[2] = {8, 7, 4, 6}, [7] = {8, 7, 4, 6}},
-    {[2] = {7, 6, 11}, [3] = {6, 5}, [4] = {5, 4}},
-    {[2] = {12, 8, 7, 11}, [3] = {6, 5, 4, 7}},
-    {[2] = {13, 12, 9, 8, 7, 5, 4, 11, 6}},
-    {[2] = {7}, [3] = {7}, [4] = {5}, [7] = {7}, [8] = {7}},
-};
-
-struct grant {
-    unsigned order, position;    /* 1 for the first sent in its window, 2, ..; place in K, from 0 */
-    uint16_t blocks, cce, heard; /* transport blocks carried, first CCE, whether it was heard */
-    char marks[3];               /* of its blocks: ? lost with the grant, x undecoded, + decoded */
-};
-
-/* The window answered in subframe s of the run is window[s mod 16]; its at[k] was sent in s - k. */
-struct cell {
-    struct feedback_handset handset;
-    struct window { unsigned grants, position_bits; struct grant at[14]; } window[16];
-    uint32_t random;
-    unsigned windows, replies, left, wrong;
+static uint16_t runs[][ARGUMENTS] = {
+    {0, 0, 2, 30, 689},  {0, 1, 2, 30, 689},  {1, 0, 2, 30, 802},     {1, 1, 2, 30, 802},
+    {2, 0, 4, 30, 257},  {2, 1, 4, 30, 257},  {3, 0, 3, 30, 105},     {3, 1, 3, 30, 105},
+    {4, 0, 4, 30, 1068}, {4, 1, 4, 30, 1068}, {5, 0, 10, 50, 33323},
+    {6, 0, 2, 30, 1276}, {6, 1, 2, 30, 1276},
 };
 
 /* A number below the limit; the same seed gives the same numbers. */
-static uint16_t draw(struct cell *cell, unsigned limit)
+static uint16_t draw(uint32_t *random, unsigned limit)
 {
-    cell->random = cell->random * 1664525u + 1013904223u;
-    return (uint16_t)((cell->random >> 16) % limit);
+    *random = *random * 1664525u + 1013904223u;
+    return (uint16_t)((*random >> 16) % limit);
 }
 
-/* Subframe s: the scheduler sends a grant or none, the radio may lose it, the handset hears it. */
-static struct feedback_fed feed(struct cell *cell, unsigned s, unsigned loss)
+/* Ends the program on a refusal: once the settings are accepted, that is a fault of this file. */
+static void accepted(uint16_t refusal)
 {
-    for (unsigned k = 4; k <= 13; k++)
-        for (unsigned m = 0; m < 9; m++) {
-            if (table[cell->handset.settings.config][(s + k) % 10][m] != k || draw(cell, 100) < 25)
-                continue; /* s is not in this window, or it stays idle */
-            struct window *window = &cell->window[(s + k) % 16];
-            struct grant *grant = &window->at[k];
-            *grant = (struct grant){.order = ++window->grants, .position = m};
-            window->position_bits |= 1u << m;
-            grant->blocks = (uint16_t)(1 + draw(cell, 2));
-            grant->cce = draw(cell, 61); /* below N_4 of 50 resource blocks */
-            grant->heard = draw(cell, 100) >= loss;
-            for (unsigned i = 0; i < grant->blocks; i++)
-                grant->marks[i] = !grant->heard ? '?' : draw(cell, 100) < 15 ? 'x' : '+';
-            uint16_t dai = (uint16_t)((grant->order - 1) % 4 + 1); /* lost grants count too */
-            if (grant->heard)
-                return feedback_feed_grant(cell->handset, grant->blocks, grant->marks[0] == '+',
-                                           grant->marks[1] == '+', grant->cce, dai);
-        }
-    return feedback_feed_nothing(cell->handset);
+    if (refusal == FEEDBACK_NOT_REFUSED)
+        return;
+    fprintf(stderr, "cell: %s\n", feedback_refusal_text(refusal));
+    exit(2);
+}
+
+/* ==== The station. It knows what it sent and what it reads, and nothing of what was heard. ==== */
+
+struct grant {
+    uint16_t blocks, cce, dai; /* transport blocks carried, 0 for no grant; first CCE; DAI */
+};
+
+struct window {
+    struct feedback_window_answer table;     /* M, K and the time order of K */
+    struct grant sent[FEEDBACK_WINDOW_MOST]; /* by position */
+    unsigned held; /* bit m: at position m a grant of the second handset was held back */
+};
+
+struct station {
+    struct feedback_settings settings;
+    uint32_t random;
+    struct window window[16]; /* the one answered in subframe s of the run is window[s % 16] */
+};
+
+/* Holds grants back until no two share a PUCCH resource. Bit m of the answer: one at position m. */
+static unsigned hold_back(const struct station *station, uint16_t n, uint16_t *claims, size_t count)
+{
+    uint8_t scratch[FEEDBACK_SCRATCH_MOST];
+    for (unsigned held = 0;;) {
+        struct feedback_claims_answer answer =
+            feedback_claims(station->settings, n, claims, count, scratch, sizeof scratch);
+        accepted(answer.refusal);
+        if (answer.kind == FEEDBACK_CLAIMS_CLEAN)
+            return held;
+        held |= 1u << claims[answer.index] / 256; /* the position of the claim */
+        claims[answer.index] = claims[--count];
+    }
 }
 
 /*
- * The station: whether block i of a grant leaves the buffer, by what was sent and read alone.
- * A multiplexed reply names the positions that are delivered. A bundled ACK says less: it speaks
- * of the grants that the handset HEARD, and names the last of them. If that is the fourth grant
- * of the window or an earlier one, no grant before it was lost: the DAI would have shown it, and
- * the handset would have kept silent. So the ACK holds for all grants up to the named one. If it
- * is the fifth or a later one, four grants before it (or eight) may have been lost: the DAI
- * counts 1 2 3 4 1 2 .. and looks as if none had been. Then only the named grant was surely
- * heard, and only its blocks may leave. Grants sent after the named one were lost. A grant with
- * one block counts for both bits, so either ACK confirms it.
+ * The grants of the window answered in n, checked before any of them is sent. There is a second
+ * handset, of which only the grants count here. They come last in the list of claims, so it is
+ * they that are held back. A PDCCH has four CCEs; with 50 resource blocks there are 61.
  */
-static int leaves(struct feedback_reading_answer reading, const struct grant *named,
-                  const struct grant *grant, unsigned i)
+static struct window plan(struct station *station, uint16_t n)
 {
-    if (reading.kind == FEEDBACK_MULTIPLEXED)
-        return reading.delivered >> grant->position & 1;
-    if (grant != named && (grant->order > named->order || named->order > 4))
-        return 0;
-    if (grant->blocks == 1)
-        return reading.b0 || reading.b1;
-    return i == 0 ? reading.b0 : reading.b1;
+    struct window window = {.table = feedback_window(station->settings, n)};
+    accepted(window.table.refusal);
+    uint16_t claims[2 * FEEDBACK_WINDOW_MOST];
+    size_t count = 0;
+    for (unsigned i = 0; i < window.table.size; i++) {
+        unsigned m = window.table.order[i];
+        if (draw(&station->random, 100) < 25)
+            continue; /* no grant there */
+        window.sent[m].blocks = (uint16_t)(1 + draw(&station->random, 2));
+        window.sent[m].cce = (uint16_t)(4 * draw(&station->random, 16));
+        window.sent[m].dai = (uint16_t)(count % 4 + 1); /* count grants came before */
+        claims[count++] = FEEDBACK_CLAIM(m, window.sent[m].cce);
+    }
+    for (unsigned m = 0; m < window.table.size; m++)
+        if (draw(&station->random, 100) < 50)
+            claims[count++] = FEEDBACK_CLAIM(m, 4u * draw(&station->random, 16));
+    window.held = hold_back(station, n, claims, count);
+    return window;
 }
 
-/* Uplink subframe s: prints the line of its window, and counts what was read wrongly. */
-static void answer(struct cell *cell, unsigned s, struct feedback_fed fed)
+/* What the station sends in subframe s. A window is planned whole in its first subframe. */
+static struct grant send_in(struct station *station, unsigned s)
+{
+    struct feedback_answered_answer by = feedback_answered(station->settings, (uint16_t)(s % 10));
+    if (by.refusal == FEEDBACK_REFUSED_SUBFRAME)
+        return (struct grant){0}; /* an uplink subframe */
+    accepted(by.refusal);
+    struct window *window = &station->window[(s + by.k) % 16];
+    if (feedback_window(station->settings, by.n).order[0] == by.position)
+        *window = plan(station, by.n);
+    return window->sent[by.position];
+}
+
+/* The station's reading of a reply in subframe s. */
+static struct feedback_reading_answer read_in(const struct station *station, unsigned s,
+                                              uint16_t resource, uint16_t b0, uint16_t b1)
+{
+    return feedback_reading(station->settings, (uint16_t)(s % 10), resource, b0, b1);
+}
+
+/* How many grants were sent in the window up to and with position m; time order is k falling. */
+static unsigned sent_up_to(const struct window *window, unsigned m)
+{
+    unsigned grants = 0;
+    for (unsigned i = 0; i < window->table.size; i++)
+        grants += window->table.k[i] >= window->table.k[m] && window->sent[i].blocks > 0;
+    return grants;
+}
+
+/*
+ * Whether block 0 or 1 at position m leaves the retransmission buffer: `confirmed` of
+ * crates/confirmation/specs/Confirmed.antt. It is proved that each such block was decoded.
+ * Nothing leaves where what the reading names was not sent. A bundled ACK speaks of the grants
+ * HEARD and names the last of them. If at most four were sent up to and with it, none of these
+ * was lost: the DAI would have shown it and the handset kept silent. If more were sent, four or
+ * eight may be lost unnoticed, where the DAI comes round to the same value; then the ACK is sure
+ * for the named one alone. A sole block counts for both bits, so either will do.
+ */
+static bool leaves(const struct window *window, struct feedback_reading_answer reading, unsigned m,
+                   unsigned block)
+{
+    const uint16_t named = reading.position, *k = window->table.k;
+    const struct grant *sent = window->sent;
+    if (reading.refusal != 0 || sent[named].blocks == 0 || sent[named].cce != reading.cce)
+        return false; /* nothing like that was sent */
+    if (block >= sent[m].blocks)
+        return false; /* no such block */
+    if (reading.kind == FEEDBACK_KIND_MULTIPLEXED)
+        return reading.delivered >> m & 1;
+    if (m != named && (k[m] < k[named] || sent_up_to(window, named) > 4))
+        return false; /* sent later, or not surely heard */
+    if (sent[m].blocks == 1)
+        return reading.b0 || reading.b1;
+    return block == 0 ? reading.b0 : reading.b1;
+}
+
+/* ==== The radio and the handset. What was lost and what was decoded is known here alone. ==== */
+
+struct radio {
+    struct feedback_handset handset;
+    uint32_t random;
+    unsigned loss;     /* per cent of the grants */
+    char marks[16][3]; /* of the blocks sent in s, at s % 16: ? lost, x undecoded, + decoded */
+};
+
+/* The handset in subframe s: it takes what it hears, or says what it sends. */
+static struct feedback_fed receive_in(struct radio *radio, unsigned s, struct grant grant)
+{
+    char *marks = radio->marks[s % 16];
+    bool lost = draw(&radio->random, 100) < radio->loss;
+    for (unsigned i = 0; i < 2; i++) {
+        bool failed = draw(&radio->random, 100) < 15;
+        marks[i] = i >= grant.blocks ? '\0' : lost ? '?' : failed ? 'x' : '+';
+    }
+    struct feedback_fed fed;
+    if (lost || grant.blocks == 0)
+        fed = feedback_feed_nothing(radio->handset);
+    else
+        fed = feedback_feed_grant(radio->handset, grant.blocks, marks[0] == '+', marks[1] == '+',
+                                  grant.cce, grant.dai);
+    accepted(fed.refusal);
+    radio->handset = fed.handset;
+    return fed;
+}
+
+/* ==== The check. It alone sees both: a window's line, and whether what left was decoded. ==== */
+
+struct tally {
+    unsigned sent, left, undecoded; /* blocks */
+};
+
+static void check(struct tally *tally, const struct station *station, const struct radio *radio,
+                  unsigned s, struct feedback_fed fed, int width)
 {
     static const char *const acks[] = {"NACK NACK", "NACK ACK", "ACK NACK", "ACK ACK"};
-    const uint8_t *row = table[cell->handset.settings.config][s % 10];
-    const struct window window = cell->window[s % 16];
-    cell->window[s % 16] = (struct window){0};
-    cell->windows++;
-    int blanks = row[8] > 0 ? 55 : 25; /* to fill the column of nine subframes, or four */
+    const struct window *window = &station->window[s % 16];
+    const struct feedback_window_answer *table = &window->table;
     printf("%5u.%u |", s / 10, s % 10);
-    for (unsigned k = 13; k >= 4; k--)
-        if (memchr(row, (int)k, 9) != NULL)
-            blanks -= printf(" %u:%-3s", (s + 20 - k) % 10,
-                             window.at[k].order > 0 ? window.at[k].marks : "-");
-    if (fed.kind == FEEDBACK_SILENT) {
-        printf("%*s| silent\n", blanks, "");
+    for (unsigned i = 0; i < table->size; i++) {
+        unsigned m = table->order[i], at = s - table->k[m];
+        width -= printf(" %u%c%-3s", at % 10, window->held >> m & 1 ? '!' : ':',
+                        window->sent[m].blocks > 0 ? radio->marks[at % 16] : "-");
+        tally->sent += window->sent[m].blocks;
+    }
+    if (fed.kind == FEEDBACK_KIND_SILENT) {
+        printf("%*s| silent\n", width, "");
         return;
     }
-    struct feedback_reading_answer reading = feedback_reading(
-        cell->handset.settings, (uint16_t)(s % 10), fed.resource, fed.b0, fed.b1);
-    const struct grant *named = &window.at[row[reading.position]];
-    unsigned wrong = reading.refusal != 0 || reading.kind != fed.kind || !named->heard ||
-                     named->cce != reading.cce || (reading.delivered & ~window.position_bits) != 0;
-    printf("%*s| bits %u%u on %-3u | %u CCE %-2u %-9s |", blanks, "", fed.b0, fed.b1, fed.resource,
-           (s + 20 - row[reading.position]) % 10, reading.cce,
-           reading.kind == FEEDBACK_BUNDLED ? acks[2 * reading.b0 + reading.b1]
-           : reading.delivered != 0         ? "delivered"
-                                            : "none");
-    for (unsigned k = 13; k >= 4; k--)
-        for (unsigned i = 0; i < window.at[k].blocks; i++)
-            if (leaves(reading, named, &window.at[k], i)) {
-                printf(" %u%c", (s - k) % 10, "ab"[i]);
-                wrong += window.at[k].marks[i] != '+';
-                cell->left++;
-            }
-    puts(wrong > 0 ? " WRONG" : "");
-    cell->wrong += wrong;
-    cell->replies++;
+    struct feedback_reading_answer reading = read_in(station, s, fed.resource, fed.b0, fed.b1);
+    accepted(reading.refusal);
+    printf("%*s| bits %u%u on %-3u | %u CCE %-2u %-9s |", width, "", fed.b0, fed.b1, fed.resource,
+           (s - table->k[reading.position]) % 10, reading.cce,
+           reading.kind == FEEDBACK_KIND_BUNDLED ? acks[2 * reading.b0 + reading.b1]
+           : reading.delivered != 0              ? "delivered"
+                                                 : "none");
+    for (unsigned i = 0; i < 2u * table->size; i++) {
+        unsigned m = table->order[i / 2], at = s - table->k[m], block = i % 2;
+        bool decoded = radio->marks[at % 16][block] == '+';
+        if (!leaves(window, reading, m, block))
+            continue;
+        printf(" %u%c%s", at % 10, "ab"[block], decoded ? "" : " UNDECODED");
+        tally->left++;
+        tally->undecoded += !decoded;
+    }
+    puts("");
 }
 
 /* One run, with 50 resource blocks, N1 10 and up to two blocks in a grant; the exit status. */
-static int run(const uint16_t plan[ARGUMENTS])
+static int run(const uint16_t number[ARGUMENTS])
 {
-    struct feedback_settings settings = {plan[CONFIG], 50, 10, plan[MODE], 2};
+    struct feedback_settings settings = FEEDBACK_SETTINGS(number[CONFIG], 50, 10, number[MODE], 2);
     struct feedback_made made = feedback_make(settings);
-    if (made.refusal != 0) {
-        fprintf(stderr, "%s; refused %u (enum feedback_refusal)\n", usage, made.refusal);
-        return 2;
-    }
-    struct cell cell = {.handset = made.handset, .random = plan[SEED]};
+    accepted(made.refusal);
+    struct station station = {.settings = settings, .random = number[SEED]};
+    struct radio radio = {.handset = made.handset, .random = ~station.random, .loss = number[LOSS]};
+    struct tally tally = {0};
+    int width = number[CONFIG] == 5 ? 55 : 25; /* of nine subframes, or four */
     printf("\nconfiguration %u, %s, %u frames, %u %% of the grants lost, seed %u\n"
-           "blocks a and b of a subframe: + decoded, x heard but not decoded, ? lost; - no grant\n"
-           "reply: bits on a PUCCH resource; reading: the grant named, by subframe and first CCE\n"
            "frame.n |%-*s| reply          | reading            | blocks that leave the buffer\n",
-           plan[CONFIG], plan[MODE] == 0 ? "bundling" : "multiplexing", plan[FRAMES], plan[LOSS],
-           plan[SEED], plan[CONFIG] == 5 ? 55 : 25, " subframes in time order");
-    for (unsigned s = 0; s < plan[FRAMES] * 10u; s++) {
-        struct feedback_fed fed = feed(&cell, s, plan[LOSS]);
-        cell.handset = fed.handset;
-        if (table[plan[CONFIG]][s % 10][0] != 0)
-            answer(&cell, s, fed);
-        else
-            cell.wrong += fed.kind != FEEDBACK_TAKEN && fed.kind != FEEDBACK_NO_WINDOW;
+           number[CONFIG], number[MODE] == 0 ? "bundling" : "multiplexing", number[FRAMES],
+           number[LOSS], number[SEED], width, " subframes in time order");
+    for (unsigned s = 0; s < number[FRAMES] * 10u; s++) {
+        struct feedback_fed fed = receive_in(&radio, s, send_in(&station, s));
+        bool answers = fed.kind != FEEDBACK_KIND_TAKEN && fed.kind != FEEDBACK_KIND_NO_WINDOW;
+        if (answers && station.window[s % 16].table.size > 0) /* else begun before the run */
+            check(&tally, &station, &radio, s, fed, width);
     }
-    printf("%u windows, %u replies, %u silences; %u blocks left the buffer; %u wrong verdicts\n",
-           cell.windows, cell.replies, cell.windows - cell.replies, cell.left, cell.wrong);
-    return cell.wrong != 0;
+    printf("of %u blocks %u left the buffer, %u of them undecoded\n", tally.sent, tally.left,
+           tally.undecoded);
+    return tally.undecoded != 0;
 }
 
 int main(int argc, char **argv)
 {
     for (int i = 1; i < argc; i++) {
         char *end;
-        long value = strtol(argv[i], &end, 10);
-        long most = i - 1 == LOSS ? 100 : 65535;
+        long value = strtol(argv[i], &end, 10), most = i - 1 == LOSS ? 100 : 65535;
         if (i > ARGUMENTS || end == argv[i] || *end != '\0' || value < 0 || value > most) {
-            fprintf(stderr, "%s; refused argument %d: one too many, or not a number 0 to %ld\n",
-                    usage, i, most);
+            fprintf(stderr, "usage: cell [CONFIGURATION [MODE [FRAMES [LOSS-PERCENT [SEED]]]]]; "
+                            "refused argument %d: one too many, or not a number 0 to %ld\n",
+                    i, most);
             return 2;
         }
         runs[0][i - 1] = (uint16_t)value;
     }
+    puts("Blocks a and b of a subframe: + decoded, x heard but not decoded, ? lost; - no grant.\n"
+         "! a grant of the second handset was held back: it would have shared the resource.\n"
+         "Reply: bits on a PUCCH resource. Reading: the grant named, by subframe and first CCE.");
     int status = 0;
-    for (int i = 0; i < (argc > 1 ? 1 : 3); i++)
+    for (size_t i = 0; i < (argc > 1 ? 1 : sizeof runs / sizeof *runs); i++)
         status |= run(runs[i]);
     return status;
 }
