@@ -1,6 +1,6 @@
 -- What a scheduler may conclude from a reading, in every run of demand 3: what include/feedback.h says at feedback_reading.
 -- Assumes nothing.
-use Prim.Native.Nat.{ℕ, _%_, _<_}
+use Prim.Native.Nat.{ℕ, _<_}
 use mathlib.Core.Bool.{Bool, true, false, cond, _&&_}
 use mathlib.Core.List.{List}
 use mathlib.Core.Path.{_≡_}
@@ -9,18 +9,18 @@ use lib.ListN.{length, getD}
 use Rattle.frame.specs.declared.Settings.{Settings}
 use Rattle.frame.specs.Settings.{settingsRefusal}
 use Rattle.resource.specs.declared.Cce.{Cce}
+use Rattle.station.specs.declared.Place.the-variants as place
 use Rattle.station.specs.declared.Reading.{Reading}
 use Rattle.station.specs.declared.Reading.the-variants as reading
 use Rattle.confirmation.specs.declared.Send.{Send}
-use Rattle.confirmation.specs.Confirmed.{holdsFor, confirmed}
-use Rattle.confirmation.specs.Sent.{isGrant}
+use Rattle.confirmation.specs.Confirmed.{speaksFor, confirmed}
 use Rattle.heard.specs.declared.Heard.{Heard}
-use Rattle.heard.specs.declared.Heard.the-variants.{Nothing, Granted}
+use Rattle.heard.specs.declared.Heard.the-variants.{Nothing, Granted, Scheduled, Released}
 use Rattle.reply.specs.declared.Answer.the-variants as answer
 use Rattle.reply.specs.declared.Reply.{Reply}
-use Rattle.agreement.specs.Demand3.{Engine, fedAt, IsSubframe}
+use Rattle.agreement.specs.Demand3.{Engine, fedAt, readingIn, IsSubframe}
 use Rattle.agreement.specs.Run.{Item, heardInRun, sentAgo, heardAgo, windowAt, Schedule, BringsSent}
-use Rattle.agreement.specs.Window.{isHeard}
+use Rattle.agreement.specs.Window.{isHeard, isPdcch}
 
 -- A run of demand 3 whose uplink subframe s was fed and answered with the reply r.
 pub record Replied (e : Engine) (set : Settings) (sent : ℕ → Send) (items : List Item) (s : ℕ) (r : Reply) : Type 0 where
@@ -32,33 +32,39 @@ pub record Replied (e : Engine) (set : Settings) (sent : ℕ → Send) (items : 
   pub subframe : IsSubframe set items item s brought
   pub answered : fedAt e set items item brought .answer ≡ answer.Sent r
 
--- The station's reading of it, with the same settings and n = s mod 10.
-abbrev pub readingAt : Engine → Settings → ℕ → Reply → Reading
-readingAt e set s r = e .read set (s % 10) (r .resource .0) (r .b0) (r .b1)
+-- The station's reading of it.
+abbrev pub readingAt : Engine → Settings → (ℕ → Send) → ℕ → Reply → Reading
+readingAt e set sent s r = readingIn e set sent s (r .resource .0) (r .b0) (r .b1)
 
 -- What was heard at position m of the window of s.
 abbrev pub heardThere : Settings → List Item → ℕ → ℕ → Heard
 heardThere set items s m = heardAgo (heardInRun set items) s (getD (windowAt set s) m 0)
 
--- What was heard carries the block and decoded it; block 0 is the first or only one, block 1 the second.
+-- What was heard carries the block and decoded it; block 0 is the first or only one, block 1 the second. A release carries none.
 abbrev pub decodedBlock : Heard → ℕ → Bool
 decodedBlock Nothing block = false
 decodedBlock (Granted g) block = ltb block (g .blocks) && cond (eqb block 0) (g .first) (g .second)
+decodedBlock (Scheduled b) block = ltb block (b .blocks) && cond (eqb block 0) (b .first) (b .second)
+decodedBlock (Released p) block = false
 
 pub record Conclusions (e : Engine) : Type 0 where
   -- Each block that the reading confirms, from what was sent alone (confirmation/specs/Confirmed.antt), was heard and decoded.
   pub confirmedDecoded : (set : Settings) (sent : ℕ → Send) (items : List Item) (s : ℕ) (r : Reply) → Replied e set sent items s r
-      → (m block : ℕ) → confirmed (windowAt set s) (sentAgo sent s) (readingAt e set s r) m block ≡ true
+      → (m block : ℕ) → confirmed (windowAt set s) (sentAgo sent s) (readingAt e set sent s r) m block ≡ true
       → decodedBlock (heardThere set items s m) block ≡ true
-  -- "if at most four grants of the window were sent up to and with the one named here, all of these were heard", ACK or NACK; the
+  -- "if at most four PDCCHs of the window were sent up to and with the one named here, all of these were heard", ACK or NACK; the
   -- one named was heard in any case
   pub heardUpTo : (set : Settings) (sent : ℕ → Send) (items : List Item) (s : ℕ) (r : Reply) → Replied e set sent items s r
-      → (named : ℕ) (c : Cce) (b0 b1 : ℕ) → readingAt e set s r ≡ reading.Bundled named c b0 b1
-      → (m : ℕ) → m < length (windowAt set s) → isGrant (sentAgo sent s (getD (windowAt set s) m 0)) ≡ true
-      → holdsFor (windowAt set s) (sentAgo sent s) (getD (windowAt set s) named 0) (getD (windowAt set s) m 0) ≡ true
+      → (named : ℕ) (c : Cce) (b0 b1 : ℕ) → readingAt e set sent s r ≡ reading.Bundled (place.Pdcch named c) b0 b1
+      → (m : ℕ) → m < length (windowAt set s)
+      → speaksFor (windowAt set s) (sentAgo sent s) (getD (windowAt set s) named 0) (getD (windowAt set s) m 0) ≡ true
       → isHeard (heardThere set items s m) ≡ true
-  -- "Grants sent after it were lost."
+  -- "PDCCHs sent after it were lost."
   pub lostAfter : (set : Settings) (sent : ℕ → Send) (items : List Item) (s : ℕ) (r : Reply) → Replied e set sent items s r
-      → (named : ℕ) (c : Cce) (b0 b1 : ℕ) → readingAt e set s r ≡ reading.Bundled named c b0 b1
+      → (named : ℕ) (c : Cce) (b0 b1 : ℕ) → readingAt e set sent s r ≡ reading.Bundled (place.Pdcch named c) b0 b1
       → (m : ℕ) → m < length (windowAt set s) → getD (windowAt set s) m 0 < getD (windowAt set s) named 0
-      → isHeard (heardThere set items s m) ≡ false
+      → isPdcch (heardThere set items s m) ≡ false
+  -- Read as the scheduled block: every PDCCH of the window was lost.
+  pub noneHeard : (set : Settings) (sent : ℕ → Send) (items : List Item) (s : ℕ) (r : Reply) → Replied e set sent items s r
+      → (named b0 b1 : ℕ) → readingAt e set sent s r ≡ reading.Bundled (place.Block named) b0 b1
+      → (m : ℕ) → m < length (windowAt set s) → isPdcch (heardThere set items s m) ≡ false

@@ -1,10 +1,10 @@
 -- Demand 3, whole, as a statement about an engine: its make, feed, resource, inverse and reading as functions. Document 00, demand
--- 3, and document 01, "The runs of demand 3": each field quotes the sentence that it states. proofs/Demand3.antt proves it of the
+-- 3, document 01, "The runs of demand 3", and document 02, U1: each field quotes the sentence that it states. proofs/Demand3.antt proves it of the
 -- definitions that the promises of the code are equations with: makeOf (handset::make), feedOf (handset::feed), resourceOf and
 -- inverseOf (resource::resource_of and inverse_of), readOf (station::read).
 -- Assumes nothing.
 use Prim.Native.Nat.{ℕ, _%_, _<_}
-use mathlib.Core.Bool.{true, false}
+use mathlib.Core.Bool.{Bool, true, false}
 use mathlib.Core.List.{List, []}
 use mathlib.Core.Logic.{_⊎_, _↔_}
 use mathlib.Core.Path.{_≡_}
@@ -12,8 +12,9 @@ use lib.ListN.{length, take}
 use Rattle.frame.specs.declared.Settings.{Settings}
 use Rattle.frame.specs.Layout.{downlink}
 use Rattle.frame.specs.Once.{InExactlyOne}
-use Rattle.frame.specs.Settings.{settingsRefusal, windowRefusal}
+use Rattle.frame.specs.Settings.{hasScheduled, settingsRefusal, windowRefusal}
 use Rattle.confirmation.specs.declared.Send.{Send}
+use Rattle.confirmation.specs.Sent.{toldOf}
 use Rattle.resource.specs.declared.Inverted.{Inverted}
 use Rattle.resource.specs.declared.Mapped.{Mapped}
 use Rattle.resource.specs.declared.Mapped.the-variants as mapped
@@ -22,13 +23,15 @@ use Rattle.resource.specs.Formula.{edge, resourceNumber}
 use Rattle.resource.specs.OneToOne.{OneToOne}
 use Rattle.reply.specs.declared.Answer.the-variants as answer
 use Rattle.heard.specs.declared.Heard.{Heard}
-use Rattle.heard.specs.Heard.{heardRefusal}
+use Rattle.heard.specs.Heard.{isBlock, causeOf}
 use Rattle.handset.specs.declared.Fed.{Fed}
 use Rattle.handset.specs.declared.Handset.{Handset}
 use Rattle.handset.specs.declared.Made.{Made}
 use Rattle.handset.specs.Feed.{feedOf}
 use Rattle.handset.specs.Make.{makeOf}
 use Rattle.station.specs.declared.Reading.{Reading}
+use Rattle.station.specs.declared.Told.{Told}
+use Rattle.station.specs.declared.Told.the-variants as told
 use Rattle.station.specs.Readings.{GivesBack, readOf}
 use Rattle.agreement.specs.Run.{Item, feed, itemAt, handsetAfter, heardInRun, subframeAt, windowAt, sentAgo, heardAgo, Schedule, BringsSent}
 use Rattle.agreement.specs.Window.{inTime, Bundled, Multiplexed}
@@ -38,7 +41,7 @@ pub record Engine : Type 0 where
   pub feed : Handset → Heard → Fed
   pub resource : Settings → ℕ → ℕ → ℕ → Mapped
   pub inverse : Settings → ℕ → ℕ → Inverted
-  pub read : Settings → ℕ → ℕ → ℕ → ℕ → Reading
+  pub read : Settings → ℕ → Told → ℕ → ℕ → ℕ → Reading
 
 -- The engine of this repository: the definitions that the promises of its code are equations with.
 abbrev pub feedbackEngine : Engine
@@ -56,15 +59,28 @@ pub record IsFeed (items : List Item) (i : ℕ) (x : Heard) : Type 0 where
   pub inside : i < length items
   pub brings : itemAt items i ≡ feed x
 
--- The refusal of x, brought by item i, at the run's next subframe; 0 where no cause is met.
+-- The refusal of x, brought by item i, at the run's next subframe; 0 where no cause is met. 18 looks at the scheduled blocks that
+-- the run heard before.
 abbrev pub causeAt : Settings → List Item → ℕ → Heard → ℕ
-causeAt set items i x = heardRefusal set (subframeAt set items i % 10) x
+causeAt set items i x =
+    let s : ℕ = subframeAt set items i in
+    causeOf set (s % 10) (λ (a : ℕ). isBlock (heardAgo (heardInRun set items) s a)) x
 
 -- Item i is a feed of x that is not refused, and is the run's subframe s.
 pub record IsSubframe (set : Settings) (items : List Item) (i s : ℕ) (x : Heard) : Type 0 where
   pub isFeed : IsFeed items i x
   pub accepted : causeAt set items i x ≡ 0
   pub counted : subframeAt set items i ≡ s
+
+-- The station's reading in the window of s, with the same settings and n = s mod 10; it "is told" the position of the scheduled block
+-- that was sent there.
+abbrev pub readingIn : Engine → Settings → (ℕ → Send) → ℕ → ℕ → ℕ → ℕ → Reading
+readingIn e set sent s = e .read set (s % 10) (toldOf (windowAt set s) (sentAgo sent s))
+
+-- What the reading may be told in the window of n: nothing, or a position of the window where a scheduled resource is set.
+abbrev pub MayTell : Settings → ℕ → Told → Type 0
+MayTell set n told.NotTold = Unit {0}
+MayTell set n (told.At m) = (m < sizeOf set n) × (hasScheduled set ≡ true)
 
 -- What holds after a list of feeds.
 pub record HoldsAfter (e : Engine) (set : Settings) (sent : ℕ → Send) (items : List Item) : Type 0 where
@@ -83,12 +99,12 @@ pub record HoldsAfter (e : Engine) (set : Settings) (sent : ℕ → Send) (items
   -- "Take any window whose uplink subframe was fed too. If 01 bundles it": mode 0, or mode 1 where M = 1
   pub bundled : (i s : ℕ) (x : Heard) → IsSubframe set items i s x
       → 0 < length (windowAt set s) → (set .mode ≡ 0) ⊎ (length (windowAt set s) ≡ 1)
-      → Bundled set (e .resource set (s % 10)) (e .read set (s % 10)) (windowAt set s)
+      → Bundled set (e .resource set (s % 10)) (readingIn e set sent s) (windowAt set s)
       (inTime (sentAgo sent s) (heardAgo (heardInRun set items) s) (windowAt set s)) (fedAt e set items i x .answer)
   -- "If 01 multiplexes it": mode 1, and M is not 1
   pub multiplexed : (i s : ℕ) (x : Heard) → IsSubframe set items i s x
       → 0 < length (windowAt set s) → set .mode ≡ 1 → (length (windowAt set s) ≡ 1 → ⊥)
-      → Multiplexed (e .resource set (s % 10)) (e .read set (s % 10)) (windowAt set s) (heardAgo (heardInRun set items) s)
+      → Multiplexed set (e .resource set (s % 10)) (readingIn e set sent s) (windowAt set s) (heardAgo (heardInRun set items) s)
       (inTime (sentAgo sent s) (heardAgo (heardInRun set items) s) (windowAt set s)) (fedAt e set items i x .answer)
 
 pub record Demand3 (e : Engine) : Type 0 where
@@ -98,9 +114,9 @@ pub record Demand3 (e : Engine) : Type 0 where
   -- "one to one onto the resources N1 to N1 + M × N_4 − 1,"
   pub oneToOne : (set : Settings) (n : ℕ) → windowRefusal set n ≡ 0
       → OneToOne (sizeOf set n) (edge (set .nrb) 4) (set .n1) (e .resource set n) (e .inverse set n)
-  -- "and the station's reading, given bits it doesn't refuse, gives the pair back."
-  pub givesBack : (set : Settings) (n m c r b0 b1 : ℕ) → e .resource set n m c ≡ mapped.At (record { 0 = r })
-      → GivesBack m c (e .read set n r b0 b1)
+  -- "and the station's reading, given bits it doesn't refuse, gives the pair back", whatever scheduled position it is told
+  pub givesBack : (set : Settings) (n m c r b0 b1 : ℕ) (told : Told) → MayTell set n told → e .resource set n m c ≡ mapped.At (record { 0 = r })
+      → GivesBack m c (e .read set n told r b0 b1)
   -- "Each downlink subframe is in exactly one window."
   pub exactlyOne : (c d : ℕ) → downlink c (d % 10) ≡ true → InExactlyOne c d
   -- "from a fresh handset": accepted settings make one

@@ -1,21 +1,22 @@
--- The runs of demand 3: document 01, "The runs of demand 3". Its sentences stand above the definitions that they give.
+-- The runs of demand 3: document 01, "The runs of demand 3"; document 02, U1. Their sentences stand above the definitions that they
+-- give.
 -- Assumes nothing.
 use Prim.Native.Nat.{ℕ, _-_, _%_, _+_, _<_}
-use mathlib.Core.Bool.{true, false, cond}
+use mathlib.Core.Bool.{Bool, true, false, cond}
 use mathlib.Core.List.{List, [], _∷_, map}
 use mathlib.Core.Logic.{_⊎_}
 use mathlib.Core.Path.{_≡_}
 use lib.Dec.{eqb, leb}
 use lib.ListN.{length, getD, take}
 use Rattle.frame.specs.declared.Settings.{Settings}
-use Rattle.frame.specs.Order.{timesOf}
+use Rattle.frame.specs.Order.{member, timesOf}
 use Rattle.frame.specs.Table.{windowOf}
 use Rattle.confirmation.specs.declared.Send.{Send}
 use Rattle.confirmation.specs.declared.Send.the-variants as send
-use Rattle.confirmation.specs.Sent.{isGrant, daiOf}
+use Rattle.confirmation.specs.Sent.{isPdcch, isBlock, daiOf}
 use Rattle.heard.specs.declared.Heard.{Heard}
-use Rattle.heard.specs.declared.Heard.the-variants.{Nothing, Granted}
-use Rattle.heard.specs.Heard.{heardRefusal}
+use Rattle.heard.specs.declared.Heard.the-variants.{Nothing, Granted, Scheduled, Released}
+use Rattle.heard.specs.Heard.{isBlock as isHeardBlock, heardRefusal, causeOf}
 use Rattle.handset.specs.declared.Fed.{Fed}
 use Rattle.handset.specs.declared.Handset.{Handset}
 
@@ -34,11 +35,15 @@ handsetAfter step h (feed x ∷ items) = handsetAfter step (step h x .handset) i
 
 -- "A feed is refused exactly when a cause for a feed, .., is met at the run's next subframe, ..; .. what it brought is neither sent
 -- nor heard. The other feeds, counted s = 0, 1, 2, .., are the run's subframes, s mod 10 in the frame."
+-- The refusal of x at the subframe after `past`, the newest first: 9 to 12, then 18, which looks at the blocks heard before.
+abbrev pub causeAfter : Settings → List Heard → Heard → ℕ
+causeAfter set past x = causeOf set (length past % 10) (λ (a : ℕ). isHeardBlock (getD past (a - 1) Nothing)) x
+
 -- What the run's subframes hear from here on, where those before heard `past`, the newest first.
 abbrev pub heardFrom : Settings → List Heard → List Item → List Heard
 heardFrom set past [] = []
 heardFrom set past (feed x ∷ items) =
-    cond (eqb (heardRefusal set (length past % 10) x) 0) (x ∷ heardFrom set (x ∷ past) items) (heardFrom set past items)
+    cond (eqb (causeAfter set past x) 0) (x ∷ heardFrom set (x ∷ past) items) (heardFrom set past items)
 
 -- What the run's subframes heard, subframe 0 first.
 abbrev pub heardInRun : Settings → List Item → List Heard
@@ -52,11 +57,15 @@ subframeAt set items i = length (heardInRun set (take i items))
 abbrev pub sentOf : Heard → Send
 sentOf Nothing = send.Nothing
 sentOf (Granted g) = send.Granted (record { blocks = g .blocks; cce = g .cce; dai = g .dai })
+sentOf (Scheduled b) = send.Scheduled (record { blocks = b .blocks })
+sentOf (Released p) = send.Released (record { cce = p .cce; dai = p .dai })
 
--- A sent grant as 9 to 12 look at it; they don't look at its decoding.
+-- What was sent as 9 to 12 and 18 look at it; they don't look at its decoding.
 abbrev pub asHeard : Send → Heard
 asHeard send.Nothing = Nothing
 asHeard (send.Granted g) = Granted (record { blocks = g .blocks; first = false; second = false; cce = g .cce; dai = g .dai })
+asHeard (send.Scheduled b) = Scheduled (record { blocks = b .blocks; first = false; second = false })
+asHeard (send.Released p) = Released (record { cce = p .cce; dai = p .dai })
 
 -- What was sent, and what was heard, k before subframe s; "before the start .. nothing".
 abbrev pub sentAgo : (ℕ → Send) → ℕ → ℕ → Send
@@ -70,17 +79,22 @@ abbrev pub windowAt : Settings → ℕ → List ℕ
 windowAt set s = windowOf (set .config) (s % 10)
 
 -- "its grants carry DAIs by the station's rule, lost ones counted": the j-th grant of a window in time order carries
--- ((j − 1) mod 4) + 1; here j grants came before.
+-- ((j − 1) mod 4) + 1; here j came before. "the DAI rule .. then read[s] over PDCCHs only": releases count, scheduled blocks don't.
 abbrev pub RuleFrom : ℕ → List Send → Type 0
 RuleFrom j [] = Unit {0}
-RuleFrom j (x ∷ sends) = (isGrant x ≡ true → daiOf x ≡ j % 4 + 1) × RuleFrom (cond (isGrant x) 1 0 + j) sends
+RuleFrom j (x ∷ sends) = (isPdcch x ≡ true → daiOf x ≡ j % 4 + 1) × RuleFrom (cond (isPdcch x) 1 0 + j) sends
 
 -- What the station sends over an endless run: s is any subframe, past the end of the list too.
--- "In a downlink one the station sent a valid grant or nothing; before the start and in uplink subframes, nothing."
+-- "In a downlink one the station sent a valid grant or nothing; before the start and in uplink subframes, nothing." U1: "lists may
+-- hold scheduled blocks", and releases.
 pub record Schedule (set : Settings) (sent : ℕ → Send) : Type 0 where
-  -- "A grant, heard or lost, is valid if neither 9 to 12 .. would refuse it"; 9 leaves uplink subframes nothing.
+  -- "A grant, heard or lost, is valid if neither 9 to 12 below nor a refusal of a feed added later would refuse it"; 9 leaves uplink
+  -- subframes nothing, and 18 a block its resource.
   pub valid : (s : ℕ) → heardRefusal set (s % 10) (asHeard (sent s)) ≡ 0
   pub rule : (s : ℕ) → RuleFrom 0 (map (sentAgo sent s) (timesOf (windowAt set s)))
+  -- U1: scheduled blocks, "at most one sent in a window", heard or lost
+  pub one : (s i j : ℕ) → member i (windowAt set s) ≡ true → member j (windowAt set s) ≡ true
+      → isBlock (sentAgo sent s i) ≡ true → isBlock (sentAgo sent s j) ≡ true → i ≡ j
 
 -- "A sent grant is heard if its feed brings it, with blocks carried, first CCE and DAI as sent, and lost if its feed brings
 -- nothing. A feed not refused brings only what was sent."

@@ -9,8 +9,21 @@ pub struct SentGrant {
     pub dai: u16,
 }
 
+// A scheduled block as the station sent it, with no PDCCH: the blocks it carries.
+pub struct SentBlock {
+    pub blocks: u16,
+}
+
+// A PDCCH that releases the schedule, as the station sent it: its first CCE and its DAI.
+pub struct SentRelease {
+    pub cce: Cce,
+    pub dai: u16,
+}
+
 // What the station sent in a subframe.
 pub enum Send {
     Nothing,
     Granted(SentGrant),
+    Scheduled(SentBlock),
+    Released(SentRelease),
 }

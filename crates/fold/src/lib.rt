@@ -1,4 +1,4 @@
-// What a bundled reply needs of a window, found subframe by subframe (document 01, "The bundled reply").
+// What a bundled reply needs of a window, found subframe by subframe (document 01, "The bundled reply"; document 02, U1).
 mod window;
 
 use heard::View;
@@ -9,7 +9,8 @@ ghost use mathlib.Core.Path.{_≡_};
 ghost use Prim.Native.Nat.{_≤_};
 ghost use Rattle.fold.specs.Fold.{stepOf};
 
-// What the fold over a window finds: U, V, the position and first CCE of the last heard grant, and each block's AND.
+// What the fold over a window finds: U, V, the position and first CCE of the last heard PDCCH, each block's AND, and whether a
+// scheduled block was heard.
 pub struct Seen {
     pub u: u16,
     pub v: u16,
@@ -17,6 +18,7 @@ pub struct Seen {
     pub cce: Cce,
     pub first: bool,
     pub second: bool,
+    pub scheduled: bool,
 }
 
 // One subframe more, at position m.

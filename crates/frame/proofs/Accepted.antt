@@ -1,15 +1,15 @@
 -- What accepted settings are, field by field, and that those facts are all that acceptance asks.
 -- Assumes nothing.
 use Prim.Native.Nat.{ℕ, zero, suc, _<_, _≤_}
-use mathlib.Core.Bool.{Bool, true, false, cond, _&&_, _||_}
-use mathlib.Core.Path.{_≡_, refl}
+use mathlib.Core.Bool.{Bool, true, false, cond, not, _&&_, _||_, false≢true}
+use mathlib.Core.Path.{_≡_, refl, sym}
 use native.Mathlib.Decide.{ℕ-discrete}
 use native.Mathlib.Omega.{arith}
 use lib.Dec.{ltb, eqb}
 use lib.ListN.{length}
-use borrow.Author.Tests.{ltb-false, eq-eqb, ne-eqb, le-ltb, eqb-false}
+use borrow.Author.Tests.{ltb-true, ltb-false, eq-eqb, ne-eqb, lt-ltb, le-ltb, eqb-false}
 use Rattle.frame.specs.declared.Settings.{Settings}
-use Rattle.frame.specs.Settings.{orElse, outside, cellRefusal, modeRefusal, blocksRefusal, laterRefusal, settingsRefusal, noWindowRefusal, windowRefusal}
+use Rattle.frame.specs.Settings.{orElse, outside, cellRefusal, modeRefusal, blocksRefusal, hasScheduled, scheduledRefusal, laterRefusal, settingsRefusal, noWindowRefusal, windowRefusal}
 use Rattle.frame.specs.Table.{windowOf}
 
 pub record Accepted (s : Settings) : Type 0 where
@@ -21,6 +21,7 @@ pub record Accepted (s : Settings) : Type 0 where
   pub noFive : s .mode ≡ 1 → s .config ≡ 5 → ⊥
   pub blocksLeast : 1 ≤ s .blocks
   pub blocksMost : s .blocks ≤ 2
+  pub scheduledLow : hasScheduled s ≡ true → s .scheduled < s .n1
 
 -- No refusal of two is neither.
 pub neither : (k next : ℕ) → orElse k next ≡ 0 → (k ≡ 0) × (next ≡ 0)
@@ -50,8 +51,16 @@ not-five m c e em ec =
     let y : _≡_ {A = ℕ} 0 1 = cc in
     omega arith
 
+low-where-set : (set : Bool) (r n1 : ℕ) → (set && not (ltb r n1)) ≡ false → set ≡ true → r < n1
+low-where-set false r n1 e h = absurd (false≢true h)
+low-where-set true r n1 e h = go (ltb r n1) refl e
+  where
+    go : (b : Bool) → ltb r n1 ≡ b → not b ≡ false → r < n1
+    go true b e = ltb-true r n1 b
+    go false b e = absurd (false≢true (sym e))
+
 pub accepted : (s : Settings) → settingsRefusal s ≡ 0 → Accepted s
-unfolding settingsRefusal cellRefusal modeRefusal blocksRefusal
+unfolding settingsRefusal cellRefusal modeRefusal blocksRefusal laterRefusal scheduledRefusal
 accepted s e =
     let a = neither (cellRefusal s) (orElse (modeRefusal s) (orElse (blocksRefusal s) (laterRefusal s))) e in
     let b = neither (modeRefusal s) (orElse (blocksRefusal s) (laterRefusal s)) (a .1) in
@@ -62,6 +71,7 @@ accepted s e =
     let mode = unmet (ltb 1 (s .mode)) 3 (cond (eqb (s .mode) 1 && eqb (s .config) 5) 5 0) (b .0) in
     let five = unmet (eqb (s .mode) 1 && eqb (s .config) 5) 4 0 (mode .1) in
     let blocks = unmet (outside 1 2 (s .blocks)) 5 0 (d .0) in
+    let scheduled = unmet (hasScheduled s && not (ltb (s .scheduled) (s .n1))) 16 0 (d .1) in
     record {
       config = ltb-false 6 (s .config) (config .0);
       nrbLeast = between 6 110 (s .nrb) (nrb .0) .0;
@@ -71,13 +81,18 @@ accepted s e =
       noFive = not-five (s .mode) (s .config) (five .0);
       blocksLeast = between 1 2 (s .blocks) (blocks .0) .0;
       blocksMost = between 1 2 (s .blocks) (blocks .0) .1;
+      scheduledLow = low-where-set (hasScheduled s) (s .scheduled) (s .n1) (scheduled .0);
     }
 
 five-unmet : (m c : ℕ) → (m ≡ 1 → c ≡ 5 → ⊥) → (eqb m 1 && eqb c 5) ≡ false
 five-unmet m c h = elim (ℕ-discrete m 1) [ yes e ↦ rw (eq-eqb m 1 e, ne-eqb c 5 (h e)) | no e ↦ rw (ne-eqb m 1 e) ]
 
+set-is-low : (set : Bool) (r n1 : ℕ) → (set ≡ true → r < n1) → (set && not (ltb r n1)) ≡ false
+set-is-low false r n1 h = refl
+set-is-low true r n1 h = rw (lt-ltb r n1 (h refl))
+
 pub accepting : (s : Settings) → Accepted s → settingsRefusal s ≡ 0
-unfolding settingsRefusal cellRefusal modeRefusal blocksRefusal laterRefusal
+unfolding settingsRefusal cellRefusal modeRefusal blocksRefusal laterRefusal scheduledRefusal
 accepting s a =
     rw (
       le-ltb 6 (s .config) (a .config),
@@ -86,6 +101,7 @@ accepting s a =
       le-ltb 1 (s .mode) (a .mode),
       five-unmet (s .mode) (s .config) (a .noFive),
       not-outside 1 2 (s .blocks) (a .blocksLeast) (a .blocksMost),
+      set-is-low (hasScheduled s) (s .scheduled) (s .n1) (a .scheduledLow),
     )
 
 -- Where 1 to 7 are not met, the settings are accepted and n has a window.

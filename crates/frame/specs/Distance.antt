@@ -1,13 +1,16 @@
 -- Which uplink subframe answers for a downlink subframe d: document 01, "Frame and windows", read the other way round. Subframe d is
 -- k before n, and K of n has that k.
 -- Assumes nothing.
-use Prim.Native.Nat.{ℕ, zero, suc, _+_, _<_, _≤_, _%_}
-use mathlib.Core.Bool.{true, false, cond}
+use Prim.Native.Nat.{ℕ, zero, suc, _+_, _-_, _*_, _<_, _≤_, _%_}
+use mathlib.Core.Bool.{Bool, true, false, cond}
+use mathlib.Core.Logic.{_↔_}
 use mathlib.Core.Path.{_≡_}
+use lib.Dec.{eqb}
 use lib.ListN.{length, getD}
 use Rattle.frame.specs.declared.Answered.{Answered}
 use Rattle.frame.specs.declared.Settings.{Settings}
 use Rattle.frame.specs.Layout.{downlink}
+use Rattle.frame.specs.Once.{InWindow}
 use Rattle.frame.specs.Order.{member, positionOf}
 use Rattle.frame.specs.Settings.{orElse, settingsRefusal}
 use Rattle.frame.specs.Table.{windowOf}
@@ -24,6 +27,20 @@ distanceOf c d = distanceUpTo 13 c d
 -- That uplink subframe, by its number in the frame.
 unfoldable pub uplinkOf : ℕ → ℕ → ℕ
 uplinkOf c d = (d + distanceOf c d) % 10
+
+-- The subframe a before n, by its number in the frame: 9 is -1 modulo 10.
+abbrev pub before : ℕ → ℕ → ℕ
+before n a = (n + 9 * a) % 10
+
+-- The subframe a before n is answered in the same uplink subframe as n: that is a further from it. For a downlink n this is to lie
+-- in n's window (SharesExactly).
+unfoldable pub shares : ℕ → ℕ → ℕ → Bool
+shares c n a = eqb (distanceOf c n + a) (distanceOf c (before n a))
+
+-- For the subframes d and d - a of an endless run, d downlink: they share a window exactly if both are in the window of one uplink
+-- subframe.
+abbrev pub SharesExactly : ℕ → ℕ → ℕ → Type 0
+SharesExactly c d a = (shares c (d % 10) a ≡ true) ↔ ((s i j : ℕ) × InWindow c s i d × InWindow c s j (d - a))
 
 -- The position of d in its window, that is of k in K as printed.
 unfoldable pub answeredPosition : ℕ → ℕ → ℕ

@@ -1,7 +1,7 @@
--- Settings and their refusals: document 01, "Settings" and "Causes and their numbers", 1 to 7.
+-- Settings and their refusals: document 01, "Settings" and "Causes and their numbers", 1 to 7; document 02, U1, 17.
 -- Assumes nothing.
 use Prim.Native.Nat.{ℕ, suc}
-use mathlib.Core.Bool.{Bool, cond, _&&_, _||_}
+use mathlib.Core.Bool.{Bool, cond, not, _&&_, _||_}
 use lib.Dec.{ltb, eqb}
 use lib.ListN.{length}
 use Rattle.frame.specs.declared.Settings.{Settings}
@@ -28,9 +28,21 @@ modeRefusal s = cond (ltb 1 (s .mode)) 4 (cond (eqb (s .mode) 1 && eqb (s .confi
 unfoldable pub blocksRefusal : Settings → ℕ
 blocksRefusal s = cond (outside 1 2 (s .blocks)) 6 0
 
--- What later papers add to the settings ("A later paper may add settings"): nothing yet.
+-- The scheduled resource of a handset for which none is set (U1: "a configured resource").
+abbrev pub noResource : ℕ
+noResource = 65535
+
+-- A scheduled resource is set.
+unfoldable pub hasScheduled : Settings → Bool
+hasScheduled s = not (eqb (s .scheduled) noResource)
+
+-- 17: a scheduled resource not below N1.
+unfoldable pub scheduledRefusal : Settings → ℕ
+scheduledRefusal s = cond (hasScheduled s && not (ltb (s .scheduled) (s .n1))) 17 0
+
+-- What later papers add to the settings ("A later paper may add settings"), after 6: 17.
 unfoldable pub laterRefusal : Settings → ℕ
-laterRefusal s = 0
+laterRefusal s = scheduledRefusal s
 
 -- Refusals 1 to 6, lowest number first, then those of later papers; 0 if the settings are accepted.
 unfoldable pub settingsRefusal : Settings → ℕ

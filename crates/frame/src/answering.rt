@@ -6,9 +6,9 @@ use crate::table::distance_of;
 use crate::table::is_downlink;
 use crate::table::position_of;
 ghost use mathlib.Core.Path.{_≡_};
-ghost use Rattle.frame.specs.Distance.{answeredRefusal, answeredOf};
+ghost use Rattle.frame.specs.Distance.{answeredRefusal, answeredOf, shares};
 
-// The first of refusals 1 to 6 that the settings meet, then 7 for a subframe d that is not downlink; 0 if d has an answer.
+// The first of refusals 1 to 6 and 17 that the settings meet, then 7 for a subframe d that is not downlink; 0 if d has an answer.
 fn answered_refusal(s: Settings, d: u16) -> u16
     ensures { λ r. ⌜ r ≡ answeredRefusal s d ⌝ }
 {
@@ -42,4 +42,15 @@ pub fn answered_of(s: Settings, d: u16) -> Answered
         k,
         position: position_of(s.config, d),
     }
+}
+
+// The subframe a before n is answered in the same uplink subframe as n.
+pub fn shares_window(config: u16, n: u16, a: u16) -> bool
+    ensures { λ r. ⌜ r ≡ shares config n a ⌝ }
+{
+    if 13 < a {
+        return false;
+    }
+    let earlier = (n % 10 + 9 * a) % 10;
+    distance_of(config, n) + a == distance_of(config, earlier)
 }

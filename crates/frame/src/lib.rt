@@ -5,6 +5,8 @@ mod refusals;
 mod table;
 
 pub use answering::answered_of;
+pub use answering::shares_window;
+pub use refusals::has_scheduled;
 pub use refusals::is_bundled;
 pub use refusals::settings_refusal;
 pub use refusals::window_refusal;
@@ -14,7 +16,8 @@ pub use table::window_of;
 
 // The settings of a cell (document 01, "Settings"), as raw numbers: a call refuses what 01 does not allow. `config` is the
 // uplink-downlink configuration, `nrb` is N_RB, `n1` is N1 (36.213's N_PUCCH^(1)), `mode` is 0 for bundling and 1 for multiplexing,
-// `blocks` is the most transport blocks that a grant carries.
+// `blocks` is the most transport blocks that a grant carries. `scheduled` is the resource configured for scheduled blocks (document
+// 02, U1), 65535 where none is set.
 #[repr(C)]
 pub struct Settings {
     pub config: u16,
@@ -22,6 +25,7 @@ pub struct Settings {
     pub n1: u16,
     pub mode: u16,
     pub blocks: u16,
+    pub scheduled: u16,
 }
 
 // The window of an uplink subframe: M, then K in the print's order, and its positions in time order, earliest first. Zeros stand

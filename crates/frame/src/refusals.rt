@@ -1,8 +1,8 @@
-// Settings and their refusals (document 01, "Settings"; refusals 1 to 7), and which reply a window takes.
+// Settings and their refusals (document 01, "Settings"; refusals 1 to 7; document 02, U1, 17), and which reply a window takes.
 use crate::Settings;
 use crate::table::size_of;
 ghost use mathlib.Core.Path.{_≡_};
-ghost use Rattle.frame.specs.Settings.{cellRefusal, modeRefusal, blocksRefusal, laterRefusal, settingsRefusal, windowRefusal, bundles};
+ghost use Rattle.frame.specs.Settings.{cellRefusal, modeRefusal, blocksRefusal, hasScheduled, scheduledRefusal, laterRefusal, settingsRefusal, windowRefusal, bundles};
 
 // The cell: 1 to 3.
 fn cell_refusal(s: Settings) -> u16
@@ -51,11 +51,30 @@ fn blocks_refusal(s: Settings) -> u16
     0
 }
 
-// What later papers add to the settings: no refusal yet.
+// A scheduled resource is set.
+pub fn has_scheduled(s: Settings) -> bool
+    ensures { λ r. ⌜ r ≡ hasScheduled s ⌝ }
+{
+    s.scheduled != 65535
+}
+
+// The scheduled resource: 17.
+fn scheduled_refusal(s: Settings) -> u16
+    ensures { λ r. ⌜ r ≡ scheduledRefusal s ⌝ }
+{
+    if has_scheduled(s) {
+        if s.n1 <= s.scheduled {
+            return 17;
+        }
+    }
+    0
+}
+
+// What later papers add to the settings: 17.
 fn later_refusal(s: Settings) -> u16
     ensures { λ r. ⌜ r ≡ laterRefusal s ⌝ }
 {
-    0
+    scheduled_refusal(s)
 }
 
 // The first refusal that the settings meet, 1 to 6 and then those of later papers; 0 if they are accepted.
@@ -77,7 +96,7 @@ pub fn settings_refusal(s: Settings) -> u16
     later_refusal(s)
 }
 
-// The first of refusals 1 to 7 that settings and uplink subframe n meet; 0 if n has a window.
+// The first of refusals 1 to 6, 17 and 7 that settings and uplink subframe n meet; 0 if n has a window.
 pub fn window_refusal(s: Settings, n: u16) -> u16
     ensures { λ r. ⌜ r ≡ windowRefusal s n ⌝ }
 {

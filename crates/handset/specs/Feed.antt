@@ -1,4 +1,4 @@
--- Feeding a handset: document 01, "The running handset" and refusals 8 to 12.
+-- Feeding a handset: document 01, "The running handset" and refusals 8 to 12; document 02, U1, 18.
 -- Assumes nothing.
 use Prim.Native.Nat.{ℕ, zero, suc, _+_, _%_}
 use mathlib.Core.Bool.{cond}
@@ -10,8 +10,8 @@ use Rattle.reply.specs.declared.Answer.{Answer}
 use Rattle.reply.specs.declared.Answer.the-variants.{Taken, Refused}
 use Rattle.heard.specs.declared.Heard.{Heard}
 use Rattle.heard.specs.declared.View.{View}
-use Rattle.heard.specs.Heard.{heardRefusal}
-use Rattle.heard.specs.Memory.{slotOf, viewAgo}
+use Rattle.heard.specs.Heard.{causeOf}
+use Rattle.heard.specs.Memory.{slotOf, viewAgo, blockAgo}
 use Rattle.reply.specs.Replies.{windowAnswer}
 use Rattle.handset.specs.declared.Fed.{Fed}
 use Rattle.handset.specs.declared.Handset.{Handset}
@@ -30,9 +30,9 @@ nextAnswer h = answerOf (h .settings) (h .next) (viewAgo (h .past))
 unfoldable pub pushed : Handset → Heard → Handset
 pushed h x = record { settings = h .settings; next = (h .next + 1) % 10; past = slotOf x ∷ slotsFrom 12 0 (h .past) }
 
--- A feed refuses 8, then 9 to 12 for what it brings in the subframe that is expected.
+-- A feed refuses 8, then 9 to 12 and 18 for what it brings in the subframe that is expected.
 unfoldable pub feedRefusal : Handset → Heard → ℕ
-feedRefusal h x = orElse (stateRefusal h) (heardRefusal (h .settings) (h .next) x)
+feedRefusal h x = orElse (stateRefusal h) (causeOf (h .settings) (h .next) (blockAgo (h .past)) x)
 
 -- A refusal leaves the handset as it was.
 abbrev pub fedAs : ℕ → Handset → Heard → Fed

@@ -36,6 +36,7 @@ pub fn make(s: Settings) -> Made
             n1: 0,
             mode: 0,
             blocks: 0,
+            scheduled: 0,
         };
         let handset = fresh_of(refused);
         return Made { refusal, handset };

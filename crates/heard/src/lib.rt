@@ -1,4 +1,4 @@
-// What a handset hears, its refusals, and what a reply sees of it (document 01, "What a handset hears").
+// What a handset hears, its refusals, and what a reply sees of it (document 01, "What a handset hears"; document 02, U1).
 mod checks;
 
 pub use checks::heard_in;
@@ -17,10 +17,25 @@ pub struct Grant {
     pub dai: u16,
 }
 
+// A scheduled block, which comes with no PDCCH: the blocks it carries and which of them decoded. It has no CCE and no DAI.
+pub struct ScheduledBlock {
+    pub blocks: u16,
+    pub first: bool,
+    pub second: bool,
+}
+
+// A PDCCH that releases the schedule: its first CCE and its DAI.
+pub struct Release {
+    pub cce: Cce,
+    pub dai: u16,
+}
+
 // What a subframe gives the handset.
 pub enum Heard {
     Nothing,
     Granted(Grant),
+    Scheduled(ScheduledBlock),
+    Released(Release),
 }
 
 // A PDCCH as a reply sees it: a sole block's result already stands for both blocks.
@@ -31,14 +46,21 @@ pub struct Control {
     pub second: bool,
 }
 
-// What a reply sees of a subframe.
+// A scheduled block as a reply sees it; a sole block's result stands for both here too.
+pub struct Results {
+    pub first: bool,
+    pub second: bool,
+}
+
+// What a reply sees of a subframe. A release is a PDCCH that decoded everything.
 pub enum View {
     Unheard,
     Pdcch(Control),
+    Block(Results),
 }
 
-// A remembered subframe, four bytes: kind (0 nothing, 1 grant), first CCE, DAI, and results (bit 0 the first block decoded,
-// bit 1 the second, bit 2 two blocks carried).
+// A remembered subframe, four bytes: kind (0 nothing, 1 grant, 2 scheduled block, 3 release), first CCE, DAI, and results (bit 0 the
+// first block decoded, bit 1 the second, bit 2 two blocks carried). A scheduled block has no CCE and no DAI, a release no results.
 #[repr(C)]
 pub struct Slot {
     pub kind: u8,

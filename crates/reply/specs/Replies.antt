@@ -1,5 +1,5 @@
--- The reply of a window: document 01, "The bundled reply" and "The multiplexed reply". The settings' mode is the mode that the
--- window is answered in.
+-- The reply of a window: document 01, "The bundled reply" and "The multiplexed reply"; document 02, U1. The settings' mode is the
+-- mode that the window is answered in.
 -- Assumes nothing.
 use Prim.Native.Nat.{ℕ, _+_, _-_, _%_}
 use mathlib.Core.Bool.{Bool, cond, not, _&&_}
@@ -21,7 +21,7 @@ use Rattle.reply.specs.declared.Answer.{Answer}
 use Rattle.reply.specs.declared.Answer.the-variants.{NoWindow, Silent, Sent, Refused}
 use Rattle.fold.specs.declared.Seen.{Seen}
 use Rattle.heard.specs.declared.View.{View}
-use Rattle.heard.specs.declared.View.the-variants.{Unheard, Pdcch}
+use Rattle.heard.specs.declared.View.the-variants.{Unheard, Pdcch, Block}
 use Rattle.fold.specs.Fold.{seenOf}
 use Rattle.heard.specs.Memory.{bit}
 
@@ -44,11 +44,19 @@ missShown s seen = not (eqb (s .config) 0) && not (eqb (seen .v) (expected (seen
 unfoldable pub secondBit : Settings → Seen → ℕ
 secondBit s seen = cond (eqb (s .blocks) 2) (bit (seen .second)) 0
 
--- The bundled reply: silent where U = 0 or a miss is shown; else each block's bit is 1 (ACK) if every heard grant decoded it, on
--- the resource of the last heard grant.
+-- The configured resource of scheduled blocks, as a resource call's answer.
+abbrev pub onScheduled : Settings → Mapped
+onScheduled s = mapped.At (record { 0 = s .scheduled })
+
+-- No PDCCH was heard: "If it is the only thing heard, the reply goes on a configured resource"; silent where nothing was.
+unfoldable pub loneAnswer : Settings → Seen → Answer
+loneAnswer s seen = cond (seen .scheduled) (replyOn 1 (onScheduled s) (bit (seen .first)) (secondBit s seen)) Silent
+
+-- The bundled reply: where U = 0 that of a lone scheduled block; silent where a miss is shown; else each block's bit is 1 (ACK) if
+-- all that was heard decoded it, on the resource of the last heard PDCCH.
 unfoldable pub bundledAnswer : Settings → ℕ → Seen → Answer
 bundledAnswer s n seen =
-    cond (eqb (seen .u) 0) Silent
+    cond (eqb (seen .u) 0) (loneAnswer s seen)
     (cond (missShown s seen) Silent
     (replyOn 1 (resourceOf s n (seen .position) (seen .cce .0)) (bit (seen .first)) (secondBit s seen)))
 
@@ -56,11 +64,14 @@ bundledAnswer s n seen =
 unfoldable pub stateOf : View → State
 stateOf Unheard = Dtx
 stateOf (Pdcch g) = cond (g .first && g .second) Ack Nack
+stateOf (Block b) = cond (b .first && b .second) Ack Nack
 
--- The first CCE of a heard grant.
-unfoldable pub cceOf : View → ℕ
-cceOf Unheard = 0
-cceOf (Pdcch g) = g .cce .0
+-- The resource of position m: that of a PDCCH's first CCE; of a scheduled block "its position uses that resource", the configured
+-- one. (Nothing is sent on an unheard position: a symbol's index is always heard.)
+unfoldable pub carrierOf : Settings → ℕ → ℕ → View → Mapped
+carrierOf s n m Unheard = resourceOf s n m 0
+carrierOf s n m (Pdcch g) = resourceOf s n m (g .cce .0)
+carrierOf s n m (Block b) = onScheduled s
 
 -- The state of a window: the states of its positions, in the order of K as printed.
 unfoldable pub windowState : (ℕ → View) → List ℕ → List State
@@ -68,7 +79,7 @@ windowState view ks = map (λ (k : ℕ). stateOf (view k)) ks
 
 -- The symbol is sent on the resource of position i, its index.
 unfoldable pub symbolAnswer : Settings → ℕ → (ℕ → View) → List ℕ → Symbol → Answer
-symbolAnswer s n view ks (symbol.Sent i b0 b1) = replyOn 2 (resourceOf s n i (cceOf (view (getD ks i 0)))) b0 b1
+symbolAnswer s n view ks (symbol.Sent i b0 b1) = replyOn 2 (carrierOf s n i (view (getD ks i 0))) b0 b1
 symbolAnswer s n view ks symbol.Silent = Silent
 
 unfoldable pub multiplexedAnswer : Settings → ℕ → (ℕ → View) → List ℕ → Answer

@@ -1,4 +1,4 @@
-// The station's reading of a reply (document 01, "The station's reading").
+// The station's reading of a reply (document 01, "The station's reading"; document 02, U1).
 use frame::Settings;
 use resource::Cce;
 use resource::Inverted;
@@ -7,11 +7,23 @@ use symbols::Delivery;
 ghost use mathlib.Core.Path.{_≡_};
 ghost use Rattle.station.specs.Readings.{bundledReading, readAt, readOf};
 
-// What a reply says: position and first CCE of the grant that it is read as, with the ACK bits of a bundled reply, or with the
-// delivered positions of a multiplexed one, bit p for position p.
+// What a reply is read as: the PDCCH at a position, with its first CCE, or the scheduled block at a position.
+pub enum Place {
+    Pdcch(u16, Cce),
+    Block(u16),
+}
+
+// What the reading is told of the window: nothing, or the position of the scheduled block that was sent in it.
+pub enum Told {
+    NotTold,
+    At(u16),
+}
+
+// What a reply says: what it is read as, with the ACK bits of a bundled reply, or with the delivered positions of a multiplexed one,
+// bit p for position p.
 pub enum Reading {
-    Bundled(u16, Cce, u16, u16),
-    Multiplexed(u16, Cce, u16),
+    Bundled(Place, u16, u16),
+    Multiplexed(Place, u16),
     Refused(u16),
 }
 
