@@ -1,4 +1,4 @@
--- What a grant is where none of refusals 9 to 12 is met, field by field.
+-- What is heard where its refusals by itself, 9 to 12 and 18 with no resource set, are not met: kind by kind, field by field.
 -- Assumes nothing.
 use Prim.Native.Nat.{ℕ, suc, _<_, _≤_}
 use mathlib.Core.Bool.{Bool, true, false, cond}
@@ -8,39 +8,70 @@ use lib.Dec.{ltb}
 use borrow.Author.Tests.{ltb-true}
 use Rattle.frame.specs.declared.Settings.{Settings}
 use Rattle.frame.specs.Layout.{downlink}
-use Rattle.frame.specs.Settings.{outside}
+use Rattle.frame.specs.Settings.{orElse, outside, hasScheduled}
 use Rattle.frame.proofs.Accepted.{neither, unmet, between}
 use Rattle.resource.specs.Formula.{edge}
-use Rattle.heard.specs.declared.Grant.{Grant}
-use Rattle.heard.specs.declared.Heard.the-variants.{Granted}
-use Rattle.heard.specs.Heard.{uplinkRefusal, grantRefusal, heardRefusal}
+use Rattle.heard.specs.declared.Heard.{Heard}
+use Rattle.heard.specs.declared.Heard.the-variants.{Nothing, Granted, Scheduled, Released}
+use Rattle.heard.specs.Heard.{uplinkRefusal, carriedRefusal, pdcchRefusal, unsetRefusal, heardRefusal}
 
-pub record Valid (s : Settings) (n : ℕ) (g : Grant) : Type 0 where
-  pub downlink : downlink (s .config) n ≡ true
-  pub blocksLeast : 1 ≤ g .blocks
-  pub blocksMost : g .blocks ≤ s .blocks
-  pub cce : g .cce .0 < edge (s .nrb) 4
-  pub daiLeast : 1 ≤ g .dai
-  pub daiMost : g .dai ≤ 4
+pub record ValidBlocks (s : Settings) (blocks : ℕ) : Type 0 where
+  pub least : 1 ≤ blocks
+  pub most : blocks ≤ s .blocks
+
+pub record ValidPdcch (s : Settings) (cce dai : ℕ) : Type 0 where
+  pub cceLow : cce < edge (s .nrb) 4
+  pub daiLeast : 1 ≤ dai
+  pub daiMost : dai ≤ 4
+
+abbrev pub Valid : Settings → ℕ → Heard → Type 0
+Valid s n Nothing = Unit {0}
+Valid s n (Granted g) = (downlink (s .config) n ≡ true) × ValidBlocks s (g .blocks) × ValidPdcch s (g .cce .0) (g .dai)
+Valid s n (Scheduled b) = (downlink (s .config) n ≡ true) × ValidBlocks s (b .blocks) × (hasScheduled s ≡ true)
+Valid s n (Released p) = (downlink (s .config) n ≡ true) × ValidPdcch s (p .cce .0) (p .dai)
 
 -- No refusal where a test must hold is the test held, and none further on.
 pub held : (b : Bool) (k next : ℕ) → cond b next (suc k) ≡ 0 → (b ≡ true) × (next ≡ 0)
 held true k next e = (refl, e)
 held false k next e = absurd (omega arith)
 
-pub valid : (s : Settings) (n : ℕ) (g : Grant) → heardRefusal s n (Granted g) ≡ 0 → Valid s n g
-unfolding heardRefusal uplinkRefusal grantRefusal
-valid s n g e =
-    let a = neither (uplinkRefusal s n) (grantRefusal s g) e in
-    let dai : ℕ = cond (outside 1 4 (g .dai)) 12 0 in
-    let blocks = unmet (outside 1 (s .blocks) (g .blocks)) 9 (cond (ltb (g .cce .0) (edge (s .nrb) 4)) dai 11) (a .1) in
-    let cce = held (ltb (g .cce .0) (edge (s .nrb) 4)) 10 dai (blocks .1) in
-    let last = unmet (outside 1 4 (g .dai)) 11 0 (cce .1) in
-    record {
-      downlink = held (downlink (s .config) n) 8 0 (a .0) .0;
-      blocksLeast = between 1 (s .blocks) (g .blocks) (blocks .0) .0;
-      blocksMost = between 1 (s .blocks) (g .blocks) (blocks .0) .1;
-      cce = ltb-true (g .cce .0) (edge (s .nrb) 4) (cce .0);
-      daiLeast = between 1 4 (g .dai) (last .0) .0;
-      daiMost = between 1 4 (g .dai) (last .0) .1;
-    }
+module _ (s : Settings) where
+  valid-downlink : (n : ℕ) → uplinkRefusal s n ≡ 0 → downlink (s .config) n ≡ true
+  unfolding uplinkRefusal
+  valid-downlink n e = held (downlink (s .config) n) 8 0 e .0
+
+  valid-blocks : (blocks : ℕ) → carriedRefusal s blocks ≡ 0 → ValidBlocks s blocks
+  unfolding carriedRefusal
+  valid-blocks blocks e =
+      let p = between 1 (s .blocks) blocks (unmet (outside 1 (s .blocks) blocks) 9 0 e .0) in
+      record { least = p .0; most = p .1 }
+
+  valid-pdcch : (cce dai : ℕ) → pdcchRefusal s cce dai ≡ 0 → ValidPdcch s cce dai
+  unfolding pdcchRefusal
+  valid-pdcch cce dai e =
+      let low = held (ltb cce (edge (s .nrb) 4)) 10 (cond (outside 1 4 dai) 12 0) e in
+      let p = between 1 4 dai (unmet (outside 1 4 dai) 11 0 (low .1) .0) in
+      record { cceLow = ltb-true cce (edge (s .nrb) 4) (low .0); daiLeast = p .0; daiMost = p .1 }
+
+  valid-set : unsetRefusal s ≡ 0 → hasScheduled s ≡ true
+  unfolding unsetRefusal
+  valid-set e = go (hasScheduled s) e
+    where
+      go : (b : Bool) → _≡_ {A = ℕ} (cond b 0 18) 0 → b ≡ true
+      go true e = refl
+      go false e = absurd (omega arith)
+
+  pub valid : (n : ℕ) (x : Heard) → heardRefusal s n x ≡ 0 → Valid s n x
+  unfolding heardRefusal
+  valid n Nothing e = tt
+  valid n (Granted g) e =
+      let a = neither (uplinkRefusal s n) (orElse (carriedRefusal s (g .blocks)) (pdcchRefusal s (g .cce .0) (g .dai))) e in
+      let b = neither (carriedRefusal s (g .blocks)) (pdcchRefusal s (g .cce .0) (g .dai)) (a .1) in
+      (valid-downlink n (a .0), valid-blocks (g .blocks) (b .0), valid-pdcch (g .cce .0) (g .dai) (b .1))
+  valid n (Scheduled b) e =
+      let a = neither (uplinkRefusal s n) (orElse (carriedRefusal s (b .blocks)) (unsetRefusal s)) e in
+      let c = neither (carriedRefusal s (b .blocks)) (unsetRefusal s) (a .1) in
+      (valid-downlink n (a .0), valid-blocks (b .blocks) (c .0), valid-set (c .1))
+  valid n (Released p) e =
+      let a = neither (uplinkRefusal s n) (pdcchRefusal s (p .cce .0) (p .dai)) e in
+      (valid-downlink n (a .0), valid-pdcch (p .cce .0) (p .dai) (a .1))
