@@ -120,7 +120,7 @@ module _ (S : ℕ → Send) (H : ℕ → Heard) where
   same-k j k c d e = cc
 
   -- What was heard k ago is the last one by its k.
-  own-k : (j k c : ℕ) (x : Heard) → asLast j x ≡ heardAt k c → j ≡ k
+  pub own-k : (j k c : ℕ) (x : Heard) → asLast j x ≡ heardAt k c → j ≡ k
   own-k j k c Nothing e = no-last k c e
   own-k j k c (Granted g) e = same-k j k c (g .cce .0) e
   own-k j k c (Scheduled b) e = no-last k c e

@@ -12,7 +12,7 @@ use lib.ListN.{length}
 use Rattle.frame.specs.Order.{positionOf}
 use Rattle.confirmation.specs.declared.Send.{Send}
 use Rattle.confirmation.specs.Sent.{isPdcch as isSentPdcch, daiOf}
-use Rattle.agreement.proofs.Both.{both}
+use Rattle.confirmation.proofs.Confirmed.{both}
 use Rattle.heard.specs.declared.Heard.{Heard}
 use Rattle.heard.specs.declared.Heard.the-variants.{Nothing, Granted, Scheduled, Released}
 use Rattle.fold.specs.declared.Seen.{Seen}
@@ -49,6 +49,11 @@ none-counted (at k sent x ∷ es) e = go (isPdcch x) e (none-counted es)
     go true e rest = absurd (false≢true (sym e))
     go false e rest = omega (arith, rest e)
 
+-- What was heard was sent.
+pub sent-heard : (sent : Send) (x : Heard) → isHeard x ≡ true → Brings sent x → sentOf x ≡ sent
+sent-heard sent x h (inl p) = absurd (false≢true (sym (ap isHeard p) ∙ h))
+sent-heard sent x h (inr p) = p
+
 module _ (ks : List ℕ) where
   -- Without a heard PDCCH V stays.
   quiet : (es : List Entry) (seen : Seen) → anyOf isPdcch es ≡ false → foldIn ks seen es .v ≡ seen .v
@@ -77,11 +82,6 @@ module _ (ks : List ℕ) where
   block-seen (at k sent (Scheduled b) ∷ es) seen =
       block-seen es (stepOf seen (positionOf k ks) (viewOf (Scheduled b))) ∙ sym (or-true (seen .scheduled))
   block-seen (at k sent (Released p) ∷ es) seen = block-seen es (stepOf seen (positionOf k ks) (viewOf (Released p)))
-
-  -- What was heard was sent.
-  sent-heard : (sent : Send) (x : Heard) → isHeard x ≡ true → Brings sent x → sentOf x ≡ sent
-  sent-heard sent x h (inl p) = absurd (false≢true (sym (ap isHeard p) ∙ h))
-  sent-heard sent x h (inr p) = p
 
   -- What comes after a heard PDCCH, by its DAI: it is the last one, or the rest is numbered on from it.
   numbered-on : (es : List Entry) (next : Seen) (j : ℕ)
