@@ -2,7 +2,8 @@
 -- Assumes nothing.
 use mathlib.Core.Path.{_≡_, sym, ap, _∙_}
 use Rattle.feedback.specs.Answers.{resourceAnswer, inverseAnswer, readingAnswer, claimsAnswer, fedAnswer}
-use Rattle.feedback.specs.Back.{mappedIn, invertedIn, readingIn, checkedIn, fedIn, AnswersComeBack, Apart, SameNumbers, KindsOfAnswers}
+use Rattle.feedback.specs.Back.{windowIn, mappedIn, invertedIn, readingIn, checkedIn, fedIn, AnswersComeBack, Apart, SameNumbers, KindsOfAnswers}
+use Rattle.feedback.proofs.WindowKept.{window-back}
 use Rattle.feedback.proofs.ResourceKept.{resource-back}
 use Rattle.feedback.proofs.InverseKept.{inverse-back}
 use Rattle.feedback.proofs.ReadingKept.{reading-kept}
@@ -12,6 +13,7 @@ use Rattle.feedback.proofs.FeedKept.{feed-kept}
 pub answers-come-back : AnswersComeBack
 answers-come-back =
     record {
+      window = window-back;
       resource = resource-back;
       inverse = inverse-back;
       reading = λ s n r b0 b1. reading-kept s n r b0 b1 .0;
@@ -26,6 +28,7 @@ pub same-numbers : SameNumbers
 same-numbers =
     let l : AnswersComeBack = answers-come-back in
     record {
+      window = λ s t n n' e. sym (l .window s n) ∙ ap windowIn e ∙ l .window t n';
       resource = λ s t n m c n' m' c'. alike resourceAnswer mappedIn (l .resource s n m c) (l .resource t n' m' c');
       inverse = λ s t n r n' r'. alike inverseAnswer invertedIn (l .inverse s n r) (l .inverse t n' r');
       reading = λ s t n r b0 b1 n' r' c0 c1. alike readingAnswer readingIn (l .reading s n r b0 b1) (l .reading t n' r' c0 c1);

@@ -25,6 +25,25 @@ ghost use Rattle.handset.specs.Feed.{feedOf};
 ghost use Rattle.handset.specs.Make.{makeOf};
 ghost use Rattle.heard.specs.declared.Heard.the-variants.{Nothing};
 
+// The kinds of a reading and of a feed, then those of claims, as specs/Kinds.antt has them.
+const KIND_REFUSED: u16 = 0;
+
+const KIND_BUNDLED: u16 = 1;
+
+const KIND_MULTIPLEXED: u16 = 2;
+
+const KIND_SILENT: u16 = 3;
+
+const KIND_TAKEN: u16 = 4;
+
+const KIND_NO_WINDOW: u16 = 5;
+
+const CLAIMS_REFUSED: u16 = 0;
+
+const CLAIMS_CLEAN: u16 = 1;
+
+const CLAIMS_CLASH: u16 = 2;
+
 // `size` is M, `k` has K in the print's order and `order` its positions in time order, zeros after the M entries of both; all 0 where
 // refused.
 #[repr(C)]
@@ -119,7 +138,7 @@ fn reading_numbers(x: Reading) -> ReadingAnswer
     match x {
         Reading::Bundled(m, c, b0, b1) => ReadingAnswer {
             refusal: 0,
-            kind: 1,
+            kind: KIND_BUNDLED,
             position: m,
             cce: c.number(),
             b0,
@@ -128,7 +147,7 @@ fn reading_numbers(x: Reading) -> ReadingAnswer
         },
         Reading::Multiplexed(m, c, positions) => ReadingAnswer {
             refusal: 0,
-            kind: 2,
+            kind: KIND_MULTIPLEXED,
             position: m,
             cce: c.number(),
             b0: 0,
@@ -137,7 +156,7 @@ fn reading_numbers(x: Reading) -> ReadingAnswer
         },
         Reading::Refused(k) => ReadingAnswer {
             refusal: k,
-            kind: 0,
+            kind: KIND_REFUSED,
             position: 0,
             cce: 0,
             b0: 0,
@@ -153,17 +172,17 @@ fn claims_numbers(x: Checked) -> ClaimsAnswer
     match x {
         Checked::Clean => ClaimsAnswer {
             refusal: 0,
-            kind: 1,
+            kind: CLAIMS_CLEAN,
             index: 0,
         },
         Checked::Clash(i) => ClaimsAnswer {
             refusal: 0,
-            kind: 2,
+            kind: CLAIMS_CLASH,
             index: i as u64,
         },
         Checked::Refused(k, i) => ClaimsAnswer {
             refusal: k,
-            kind: 0,
+            kind: CLAIMS_REFUSED,
             index: i as u64,
         },
     }
@@ -186,10 +205,10 @@ fn answer_numbers(x: Answer, handset: Handset) -> FedAnswer
     ensures { λ r. ⌜ r ≡ answerNumbers x handset ⌝ }
 {
     match x {
-        Answer::Taken => no_reply(0, 4, handset),
-        Answer::NoWindow => no_reply(0, 5, handset),
-        Answer::Silent => no_reply(0, 3, handset),
-        Answer::Refused(k) => no_reply(k, 0, handset),
+        Answer::Taken => no_reply(0, KIND_TAKEN, handset),
+        Answer::NoWindow => no_reply(0, KIND_NO_WINDOW, handset),
+        Answer::Silent => no_reply(0, KIND_SILENT, handset),
+        Answer::Refused(k) => no_reply(k, KIND_REFUSED, handset),
         Answer::Sent(r) => {
             let resource = r.resource;
             FedAnswer {
