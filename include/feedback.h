@@ -258,8 +258,7 @@ struct feedback_settings {
     uint16_t nrb;       /* bandwidth N_RB in resource blocks, 6 to 110 */
     uint16_t n1;        /* N1, the higher-layer N_PUCCH^(1), 0 to 2047 */
     uint16_t mode;      /* 0 bundling, 1 multiplexing; configuration 5 has no multiplexing */
-    uint16_t blocks;    /* the most transport blocks one grant or scheduled block may carry, 1 or
-                           2 */
+    uint16_t blocks;    /* the most transport blocks of one grant or scheduled block, 1 or 2 */
     uint16_t scheduled; /* the PUCCH resource that higher layers configure for scheduled blocks,
                            below N1, or FEEDBACK_NONE: none is set. A field left 0 is resource 0,
                            and not "none"; where N1 is 0 it is refused 17 */
@@ -441,22 +440,22 @@ struct feedback_inverse_answer feedback_inverse(struct feedback_settings setting
  *
  * The answer says what the reply is read as. Where a scheduled position is told and
  * the reply came on settings.scheduled, that is the scheduled block: scheduled is 1,
- * position the one told, and cce 0. Else it is the PDCCH whose resource this is, be
- * it at the position told: scheduled is 0, and the answer names its position and its
+ * position the one told, and cce 0. Else it is the PDCCH whose resource this is, even
+ * one at the position told: scheduled is 0, and the answer names its position and its
  * first CCE.
  *
  * Bundled: the PDCCH named is the last one the handset heard; read as the scheduled
  * block, no PDCCH was heard. A bit is ACK exactly when every grant that the handset
  * HEARD in this window decoded that block, and the scheduled block too if it was
- * heard. A grant with one block counts with it for both bits, so either ACK confirms
- * it. With DAIs by the rule above, PDCCHs sent before the last one heard can be lost
- * unnoticed, but then four or eight of them in all, where the DAI comes round to the
- * same value. So, if at most four PDCCHs of the window were sent up to and with the
- * one named here (grants and releases, the scheduled block not counted), all of these
- * were heard and an ACK holds for each grant of them. If more were sent, it is sure
- * for the named one alone. PDCCHs sent after it were lost. Whether the scheduled block
- * was heard, such a reading does not tell: only where the reply is read as that block,
- * an ACK holds for it, and then for nothing else.
+ * heard. One that carries one block counts with it for both bits, so either ACK
+ * confirms it. With DAIs by the rule above, PDCCHs sent before the last one heard can
+ * be lost unnoticed, but then four or eight of them in all, where the DAI comes round
+ * to the same value. So, if at most four PDCCHs of the window were sent up to and with
+ * the one named here (releases counted, the scheduled block not), all of these were
+ * heard and an ACK holds for each grant of them. If more were sent, it is sure for the
+ * named one alone. PDCCHs sent after it were lost. Whether the scheduled block was
+ * heard, a reading as a PDCCH does not tell: an ACK is sure for it only where the
+ * reply is read as that block, and then for nothing else.
  *
  * Multiplexed: delivered has the positions that are A (every block carried was
  * decoded) in every state of the window that sends this symbol. Where states
