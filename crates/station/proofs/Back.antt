@@ -16,9 +16,10 @@ use Rattle.frame.specs.declared.Settings.{Settings}
 use Rattle.frame.specs.Settings.{hasScheduled, windowRefusal, bundles}
 use Rattle.frame.proofs.Accepted.{answered}
 use Rattle.resource.specs.declared.Mapped.the-variants as mapped
-use Rattle.resource.specs.Calls.{sizeOf, resourceOf}
+use Rattle.resource.specs.Calls.{sizeOf, resourceOf, inverseSized}
 use Rattle.resource.proofs.OneToOne.{call-accepted, call-back, resource-range, inverse-call, inverse-refused}
 use Rattle.resource.proofs.Refused.{low-refused}
+use Rattle.resource.proofs.Sized.{inverse-told}
 use Rattle.symbols.specs.declared.Delivery.{Delivery}
 use Rattle.symbols.specs.declared.Delivery.the-variants as delivery
 use Rattle.symbols.specs.declared.State.{State}
@@ -31,7 +32,7 @@ use Rattle.station.specs.declared.Place.the-variants.{Pdcch, Block}
 use Rattle.station.specs.declared.Reading.the-variants.{Multiplexed, Refused}
 use Rattle.station.specs.declared.Told.{Told}
 use Rattle.station.specs.declared.Told.the-variants as told
-use Rattle.station.specs.Readings.{placePosition, badBits, bundledReading, multiplexedReading, readAt, dynamicReading, toldRefusal, readOn, readOf, Names, GivesBack}
+use Rattle.station.specs.Readings.{placePosition, badBits, bundledReading, multiplexedReading, readAt, readInverted, dynamicReading, toldRefusal, readOn, readOf, Names, GivesBack}
 
 -- Each kind of reading names the pair or refuses the bits.
 bundled-gives : (s : Settings) (m c b0 b1 : ℕ) (b : Bool) → badBits s b0 b1 ≡ b → GivesBack m c (bundledReading s (Pdcch m (record { 0 = c })) b0 b1)
@@ -73,6 +74,22 @@ not-refused : (s : Settings) (n : ℕ) (t : Told) (r b0 b1 : ℕ) → windowRefu
 unfolding readOf
 not-refused s n t r b0 b1 e f = rw (e, f)
 
+-- A resource that is not taken as a scheduled block is dynamic, 1 to 7 included.
+pub read-dynamic : (s : Settings) (n : ℕ) (t : Told) (r b0 b1 : ℕ) → toldRefusal s (sizeOf s n) t ≡ 0
+    → readOn s n t r b0 b1 ≡ dynamicReading s n r b0 b1 → readOf s n t r b0 b1 ≡ dynamicReading s n r b0 b1
+unfolding readOf dynamicReading
+read-dynamic s n t r b0 b1 fine on = go (windowRefusal s n) refl
+  where
+    go : (k : ℕ) → windowRefusal s n ≡ k → readOf s n t r b0 b1 ≡ dynamicReading s n r b0 b1
+    go zero e = rw (e, fine) on
+    go (suc k) e = rw (e, inverse-refused s n k e r)
+
+-- The dynamic reading of a caller that has looked M up.
+pub dynamic-sized : (s : Settings) (n size : ℕ) → size ≡ sizeOf s n → (r b0 b1 : ℕ)
+    → readInverted s size (inverseSized s size r) b0 b1 ≡ dynamicReading s n r b0 b1
+unfolding dynamicReading
+dynamic-sized s n size looked r b0 b1 = rw (inverse-told s n size looked r, looked)
+
 -- A resource that is set lies below N1.
 below-n1 : (s : Settings) (n : ℕ) → windowRefusal s n ≡ 0 → hasScheduled s ≡ true → s .scheduled < s .n1
 below-n1 s n e set = answered s n e .0 .scheduledLow set
@@ -96,7 +113,7 @@ module _ (s : Settings) (n m c r : ℕ) (there : resourceOf s n m c ≡ mapped.A
 
   -- The resource of a pair is read at that pair.
   pub read-there : readOf s n t r b0 b1 ≡ readAt s (sizeOf s n) (Pdcch m (record { 0 = c })) b0 b1
-  read-there = not-refused s n t r b0 b1 accepted-there fine ∙ on-there t fine ∙ dynamic-there
+  read-there = read-dynamic s n t r b0 b1 fine (on-there t fine) ∙ dynamic-there
 
   -- The pair comes back, with whatever bits the reading does not refuse.
   pub read-back : GivesBack m c (readOf s n t r b0 b1)
@@ -119,12 +136,8 @@ read-symbol s n r t p ss i b0 b1 place mode size sent read = read ∙ rw (mode, 
 
 -- Told nothing, the reading is that of a dynamic resource.
 pub untold : (s : Settings) (n r b0 b1 : ℕ) → readOf s n told.NotTold r b0 b1 ≡ dynamicReading s n r b0 b1
-unfolding readOf toldRefusal readOn dynamicReading
-untold s n r b0 b1 = go (windowRefusal s n) refl
-  where
-    go : (k : ℕ) → windowRefusal s n ≡ k → readOf s n told.NotTold r b0 b1 ≡ dynamicReading s n r b0 b1
-    go zero e = rw e
-    go (suc k) e = rw (e, inverse-refused s n k e r)
+unfolding toldRefusal readOn
+untold s n r b0 b1 = read-dynamic s n told.NotTold r b0 b1 refl refl
 
 -- 13 refuses the scheduled resource where the reading is told nothing.
 pub untold-scheduled : (s : Settings) (n : ℕ) → windowRefusal s n ≡ 0 → hasScheduled s ≡ true → (b0 b1 : ℕ)

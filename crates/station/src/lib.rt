@@ -5,6 +5,7 @@ use resource::Inverted;
 use resource::Resource;
 use symbols::Delivery;
 ghost use mathlib.Core.Path.{_≡_};
+ghost use Rattle.frame.specs.Settings.{orElse, windowRefusal};
 ghost use Rattle.resource.specs.Calls.{inverseSized};
 ghost use Rattle.station.specs.Readings.{placePosition, bundledReading, readAt, readInverted, toldRefusal, readOf};
 
@@ -92,23 +93,32 @@ fn told_refusal(s: Settings, size: u16, m: u16) -> u16
     18
 }
 
-// The reading that is told position m. A dynamic resource is read as any other; the settings are tested once on each way.
+// The refusal of a told position comes after those of settings and subframe.
+fn first_refusal(s: Settings, n: u16, told: u16) -> u16
+    ensures { λ k. ⌜ k ≡ orElse (windowRefusal s n) told ⌝ }
+{
+    let refusal = frame::window_refusal(s, n);
+    if refusal != 0 {
+        return refusal;
+    }
+    told
+}
+
+// The reading that is told position m: any resource but the scheduled one is dynamic. The settings are tested once on each way.
 fn read_told(s: Settings, n: u16, m: u16, r: Resource, b0: u16, b1: u16) -> Reading
     ensures { λ x. ⌜ x ≡ readOf s n (Told.At m) (r .0) b0 b1 ⌝ }
 {
     let size = frame::size_of(s.config, n);
     let told = told_refusal(s, size, m);
-    if told == 0 {
-        if r.number() != s.scheduled {
-            return read_dynamic(s, size, r, b0, b1);
-        }
+    if told != 0 {
+        return Reading::Refused(first_refusal(s, n, told));
+    }
+    if r.number() != s.scheduled {
+        return read_dynamic(s, size, r, b0, b1);
     }
     let refusal = frame::window_refusal(s, n);
     if refusal != 0 {
         return Reading::Refused(refusal);
-    }
-    if told != 0 {
-        return Reading::Refused(told);
     }
     read_at(s, size, Place::Block(m), b0, b1)
 }
