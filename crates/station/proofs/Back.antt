@@ -7,9 +7,9 @@ use Prim.Native.Nat.{ℕ, zero, suc, _<_}
 use mathlib.Core.Bool.{Bool, true, false, cond}
 use mathlib.Core.List.{List}
 use mathlib.Core.Logic.{inl, inr}
-use mathlib.Core.Path.{_≡_, refl, sym, _∙_}
+use mathlib.Core.Path.{_≡_, refl, _∙_}
 use native.Mathlib.Omega.{arith}
-use lib.Dec.{ltb, eqb}
+use lib.Dec.{ltb}
 use lib.ListN.{length}
 use borrow.Author.Tests.{lt-ltb, eq-eqb, ne-eqb}
 use Rattle.frame.specs.declared.Settings.{Settings}
@@ -32,7 +32,7 @@ use Rattle.station.specs.declared.Place.the-variants.{Pdcch, Block}
 use Rattle.station.specs.declared.Reading.the-variants.{Multiplexed, Refused}
 use Rattle.station.specs.declared.Told.{Told}
 use Rattle.station.specs.declared.Told.the-variants as told
-use Rattle.station.specs.Readings.{placePosition, badBits, bundledReading, multiplexedReading, readAt, readInverted, dynamicReading, toldRefusal, readOn, readOf, Names, GivesBack}
+use Rattle.station.specs.Readings.{placePosition, badBits, bundledReading, multiplexedReading, readAt, readInverted, dynamicReading, toldRefusal, readOn, readOf, GivesBack}
 
 -- Each kind of reading names the pair or refuses the bits.
 bundled-gives : (s : Settings) (m c b0 b1 : ℕ) (b : Bool) → badBits s b0 b1 ≡ b → GivesBack m c (bundledReading s (Pdcch m (record { 0 = c })) b0 b1)
@@ -74,7 +74,7 @@ not-refused : (s : Settings) (n : ℕ) (t : Told) (r b0 b1 : ℕ) → windowRefu
 unfolding readOf
 not-refused s n t r b0 b1 e f = rw (e, f)
 
--- A resource that is not taken as a scheduled block is dynamic, 1 to 7 included.
+-- A resource that is not taken as a scheduled block is dynamic, 1 to 7 and 17 included.
 pub read-dynamic : (s : Settings) (n : ℕ) (t : Told) (r b0 b1 : ℕ) → toldRefusal s (sizeOf s n) t ≡ 0
     → readOn s n t r b0 b1 ≡ dynamicReading s n r b0 b1 → readOf s n t r b0 b1 ≡ dynamicReading s n r b0 b1
 unfolding readOf dynamicReading

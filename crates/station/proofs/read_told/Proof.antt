@@ -42,15 +42,17 @@ module _ (s : Settings) (n m size told : ℕ) (looked : size ≡ sizeOf s n) (as
     fine : toldRefusal s (sizeOf s n) (At m) ≡ 0
     fine = rw (← looked) (sym asked ∙ none)
 
-    dynamic : (q : ℕ) → q ≡ r → (q ≡ s .scheduled → ⊥) → readInverted s size (inverseSized s size r) b0 b1 ≡ readOf s n (At m) r b0 b1
+    dynamic : (q : ℕ) → q ≡ r → (q ≡ s .scheduled → ⊥) → (x : Reading) → x ≡ readInverted s size (inverseSized s size r) b0 b1
+        → x ≡ readOf s n (At m) r b0 b1
     unfolding readOn
-    dynamic q same other =
-        dynamic-sized s n size looked r b0 b1
+    dynamic q same other x given =
+        given ∙ dynamic-sized s n size looked r b0 b1
         ∙ sym (read-dynamic s n (At m) r b0 b1 fine (rw (ne-eqb r (s .scheduled) (λ e. other (same ∙ e)))))
 
-    block : (q k : ℕ) → q ≡ r → q ≡ s .scheduled → k ≡ windowRefusal s n → k ≡ 0 → readAt s size (Block m) b0 b1 ≡ readOf s n (At m) r b0 b1
+    block : (q : ℕ) → q ≡ r → q ≡ s .scheduled → (k : ℕ) → k ≡ windowRefusal s n → k ≡ 0 → (x : Reading) → x ≡ readAt s size (Block m) b0 b1
+        → x ≡ readOf s n (At m) r b0 b1
     unfolding readOf readOn
-    block q k same is e unmet = rw (sym e ∙ unmet, fine, eq-eqb r (s .scheduled) (sym same ∙ is), looked)
+    block q same is k e unmet x given = given ∙ rw (sym e ∙ unmet, fine, eq-eqb r (s .scheduled) (sym same ∙ is), looked)
 
 size-of-requires : tie.Need-size-of-requires
 size-of-requires c κs = search needs
@@ -76,9 +78,8 @@ returns-2 : tie.Need-returns-2
 returns-2 c =
     let number = c .before .before .before in
     let asked = number .before .before in
-    c .read-dynamic .ensures
-    ∙ dynamic _ _ _ _ _ (asked .before .size-of .ensures) (asked .told-refusal .ensures) _ _ _ (number .before .if1 .left) _
-    (number .number .ensures) (c .before .if2 .taken)
+    dynamic _ _ _ _ _ (asked .before .size-of .ensures) (asked .told-refusal .ensures) _ _ _ (number .before .if1 .left) _
+    (number .number .ensures) (c .before .if2 .taken) _ (c .read-dynamic .ensures)
 
 window-refusal-requires : tie.Need-window-refusal-requires
 window-refusal-requires c κs = search needs
@@ -96,9 +97,8 @@ returns-4 c =
     let window = c .before .before in
     let number = window .before .before .before in
     let asked = number .before .before in
-    c .read-at .ensures
-    ∙ block _ _ _ _ _ (asked .before .size-of .ensures) (asked .told-refusal .ensures) _ _ _ (number .before .if1 .left) _ _
-    (number .number .ensures) (window .before .if2 .left) (window .window-refusal .ensures) (c .before .if3 .left)
+    block _ _ _ _ _ (asked .before .size-of .ensures) (asked .told-refusal .ensures) _ _ _ (number .before .if1 .left) _
+    (number .number .ensures) (window .before .if2 .left) _ (window .window-refusal .ensures) (c .before .if3 .left) _ (c .read-at .ensures)
 
 pub read-told-spec : {M : Type 1} → statement M
 read-told-spec =
