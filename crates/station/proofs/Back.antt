@@ -126,13 +126,11 @@ unfolding readOn
 read-block s n m e inside set b0 b1 =
     not-refused s n (told.At m) (s .scheduled) b0 b1 e (told-fine s n m inside set) ∙ rw (eq-eqb (s .scheduled) (s .scheduled) refl)
 
--- The symbol of a state, read at its index, is read as what the reply was read as there, with the positions that are A in every
--- state sending it.
-pub read-symbol : (s : Settings) (n r : ℕ) (t : Told) (p : Place) (ss : List State) (i b0 b1 : ℕ) → placePosition p ≡ i
-    → bundles s (sizeOf s n) ≡ false → length ss ≡ sizeOf s n → symbolOf ss ≡ symbol.Sent i b0 b1
-    → readOf s n t r b0 b1 ≡ readAt s (sizeOf s n) p b0 b1 → readOf s n t r b0 b1 ≡ Multiplexed p (deliveredSet (sizeOf s n) i b0 b1)
+-- The symbol of a state, read at a place of its index, is that place with the positions that are A in every state sending it.
+pub read-symbol : (s : Settings) (size : ℕ) (p : Place) (ss : List State) (i b0 b1 : ℕ) → placePosition p ≡ i → bundles s size ≡ false
+    → length ss ≡ size → symbolOf ss ≡ symbol.Sent i b0 b1 → readAt s size p b0 b1 ≡ Multiplexed p (deliveredSet size i b0 b1)
 unfolding readAt multiplexedReading deliveryOf
-read-symbol s n r t p ss i b0 b1 place mode size sent read = read ∙ rw (mode, place, rw size at (sent-in-row ss i b0 b1 sent))
+read-symbol s size p ss i b0 b1 place mode same sent = rw (mode, place, rw same at (sent-in-row ss i b0 b1 sent))
 
 -- Told nothing, the reading is that of a dynamic resource.
 pub untold : (s : Settings) (n r b0 b1 : ℕ) → readOf s n told.NotTold r b0 b1 ≡ dynamicReading s n r b0 b1
