@@ -104,7 +104,7 @@ accepting s a =
       set-is-low (hasScheduled s) (s .scheduled) (s .n1) (a .scheduledLow),
     )
 
--- Where 1 to 7 are not met, the settings are accepted and n has a window.
+-- Where 1 to 7 and 17 are not met, the settings are accepted and n has a window.
 pub answered : (s : Settings) (n : ℕ) → windowRefusal s n ≡ 0 → Accepted s × (0 < length (windowOf (s .config) n))
 unfolding windowRefusal noWindowRefusal
 answered s n e =

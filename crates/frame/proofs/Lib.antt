@@ -9,5 +9,6 @@ pub mod Layouts
 pub mod Lists
 pub mod Orders
 pub mod Padded
+pub mod Shares
 pub mod Times
 pub mod Windows

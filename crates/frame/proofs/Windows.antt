@@ -174,7 +174,7 @@ distance-inside c d e =
     is-true _ (rw (e, same) at t)
 
 -- A subframe of the run is in no window but the one at its distance.
-distance-only : (c s m d : ℕ) → InWindow c s m d → getD (windowOf c (s % 10)) m 0 ≡ distanceOf c (d % 10)
+pub distance-only : (c s m d : ℕ) → InWindow c s m d → getD (windowOf c (s % 10)) m 0 ≡ distanceOf c (d % 10)
 distance-only c s m d w =
     rw (← k-before c s m d w) (eqb→eq _ _ (position-passes _ only-tested c (s % 10) m (w .position)))
 

@@ -151,7 +151,7 @@ module _ (nrb n1 size : ℕ) where
             same-pair m c m′ c′ (sym (p .back) ∙ p′ .back);
       }
 
--- Where 1 to 7 are not met, the calls are the map and the inverse of their window.
+-- Where 1 to 7 and 17 are not met, the calls are the map and the inverse of their window.
 pub resource-call : (s : Settings) (n : ℕ) → windowRefusal s n ≡ 0 → (m c : ℕ) → resourceOf s n m c ≡ resourceIn (s .nrb) (s .n1) (sizeOf s n) m c
 unfolding resourceOf resourceIn
 resource-call s n e m c = rw e
@@ -175,6 +175,11 @@ not-refused (suc w) next r x e = let z : _≡_ {A = ℕ} 0 1 = cc in absurd (ome
 pub call-accepted : (s : Settings) (n m c : ℕ) (x : Resource) → resourceOf s n m c ≡ mapped.At x → windowRefusal s n ≡ 0
 unfolding resourceOf
 call-accepted s n m c x e = not-refused (windowRefusal s n) _ _ x e
+
+-- What refuses the settings or the subframe is what the inverse answers, whatever the resource.
+pub inverse-refused : (s : Settings) (n k : ℕ) → windowRefusal s n ≡ suc k → (r : ℕ) → inverseOf s n r ≡ inverted.Refused (suc k)
+unfolding inverseOf
+inverse-refused s n k e r = rw e
 
 -- The inverse gives back the pair whose resource the call gave.
 pub call-back : (s : Settings) (n m c r : ℕ) → resourceOf s n m c ≡ mapped.At (record { 0 = r }) → inverseOf s n r ≡ inverted.At m (record { 0 = c })
