@@ -1,13 +1,12 @@
 -- The look back of 18: what it depends on, and that what is heard by itself is judged without it.
 -- Assumes nothing.
 use Prim.Native.Nat.{ℕ, zero, suc, _≤_}
-use mathlib.Core.Bool.{Bool, true, false, cond, _&&_, _||_, false≢true, or-true}
-use mathlib.Core.Path.{_≡_, refl, sym, ap, _∙_}
+use mathlib.Core.Bool.{Bool, true, false, cond, _&&_, _||_, false≢true}
+use mathlib.Core.Path.{_≡_, refl, sym}
 use native.Mathlib.Nat.{le-step}
 use native.Mathlib.Omega.{arith}
 use Rattle.frame.specs.declared.Settings.{Settings}
 use Rattle.frame.specs.Distance.{shares}
-use Rattle.frame.specs.Settings.{orElse}
 use Rattle.frame.proofs.Accepted.{neither, unmet}
 use Rattle.heard.specs.declared.Heard.{Heard}
 use Rattle.heard.specs.Heard.{isBlock, heardRefusal, blockBefore, secondRefusal, causeOf}

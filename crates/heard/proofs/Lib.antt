@@ -1,2 +1,4 @@
 pub mod Before
+pub mod LookBack
+pub mod Remembered
 pub mod Valid

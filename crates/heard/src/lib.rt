@@ -1,6 +1,8 @@
 // What a handset hears, its refusals, and what a reply sees of it (document 01, "What a handset hears"; document 02, U1).
 mod checks;
 
+pub use checks::block_before;
+pub use checks::cause_of;
 pub use checks::heard_in;
 pub use checks::heard_refusal;
 use resource::Cce;
@@ -83,17 +85,28 @@ pub fn pick(test: bool, a: bool, b: bool) -> bool
 pub fn view_in(t: Slot) -> View
     ensures { λ r. ⌜ r ≡ viewIn t ⌝ }
 {
-    if t.kind == 0 {
-        return View::Unheard;
-    }
     let two = t.results / 4 % 2 == 1;
     let first = t.results % 2 == 1;
     let last = t.results / 2 % 2 == 1;
     let second = pick(two, last, first);
-    View::Pdcch(Control {
-        cce: Cce::new(t.cce as u16),
-        dai: t.dai as u16,
-        first,
-        second,
-    })
+    if t.kind == 1 {
+        return View::Pdcch(Control {
+            cce: Cce::new(t.cce as u16),
+            dai: t.dai as u16,
+            first,
+            second,
+        });
+    }
+    if t.kind == 2 {
+        return View::Block(Results { first, second });
+    }
+    if t.kind == 3 {
+        return View::Pdcch(Control {
+            cce: Cce::new(t.cce as u16),
+            dai: t.dai as u16,
+            first: true,
+            second: true,
+        });
+    }
+    View::Unheard
 }
