@@ -332,17 +332,16 @@ module _ (set : Settings) (n : ℕ) (good : windowRefusal set n ≡ 0) (ok : Acc
         sent (p .0),
         due some lost ∙ goes-on m (l .1) (p .0) (f .at-position) (f .at-cce) (p .3 .there),
         says (p .0)
-        (λ k c e.
-        let q = same-last (l .0) (l .1) k c (sym (l .2) ∙ e) in
-        (
-          m,
-          f .of .position,
-          f .of .back ∙ q .0,
-          ap (resourceOf set n m) (sym (q .1)) ∙ p .3 .there,
-          reads-pdcch m (l .1) (p .0) (bit (seen .first)) (secondBit set seen) (p .3 .there) ∙ reads (place.Pdcch m (record { 0 = l .1 }))
-          ∙ ap (λ (x : ℕ). reading.Bundled (place.Pdcch m (record { 0 = x })) (bit (seen .first)) (secondBit set seen)) (q .1),
-        ))
-        (λ k none h. absurd (false≢true (sym none ∙ some))),
+            (λ k c e.
+            let q = same-last (l .0) (l .1) k c (sym (l .2) ∙ e) in (
+              m,
+              f .of .position,
+              f .of .back ∙ q .0,
+              ap (resourceOf set n m) (sym (q .1)) ∙ p .3 .there,
+              reads-pdcch m (l .1) (p .0) (bit (seen .first)) (secondBit set seen) (p .3 .there) ∙ reads (place.Pdcch m (record { 0 = l .1 }))
+                  ∙ ap (λ (x : ℕ). reading.Bundled (place.Pdcch m (record { 0 = x })) (bit (seen .first)) (secondBit set seen)) (q .1),
+            ))
+            (λ k none h. absurd (false≢true (sym none ∙ some))),
       )
 
   -- and to a lone scheduled block
@@ -353,11 +352,11 @@ module _ (set : Settings) (n : ℕ) (good : windowRefusal set n ≡ 0) (ok : Acc
     sent (set .scheduled),
     lone none some,
     says (set .scheduled)
-    (λ k c e. let z : _≡_ {A = ℕ} 0 1 = cc (e, none-heard none) in absurd (omega arith))
-    (λ k none′ h.
-    let w = heard-block k h in
-    let b = reads-block k (w .0) (w .1) in
-    (b .0, b .1, b .2, refl, b .3 (bit (seen .first)) (secondBit set seen) ∙ reads (place.Block (b .0)))),
+        (λ k c e. let z : _≡_ {A = ℕ} 0 1 = cc (e, none-heard none) in absurd (omega arith))
+        (λ k none′ h.
+        let w = heard-block k h in
+        let b = reads-block k (w .0) (w .1) in
+        (b .0, b .1, b .2, refl, b .3 (bit (seen .first)) (secondBit set seen) ∙ reads (place.Block (b .0)))),
   )
 
   pub bundled-window : Bundled set (resourceOf set n) read (windowOf (set .config) n) (map (entry S H) (timesOf (windowOf (set .config) n))) (bundledAnswer set n (seenOf F (windowOf (set .config) n)))

@@ -14,8 +14,11 @@ use Rattle.frame.specs.Table.{windowOf}
 use Rattle.resource.specs.declared.Mapped.{Mapped}
 use Rattle.resource.specs.declared.Inverted.{Inverted}
 use Rattle.resource.specs.Calls.{mappedAs, invertedAs, resourceOf, inverseOf}
+use Rattle.station.specs.declared.Place.{Place}
+use Rattle.station.specs.declared.Place.the-variants as place
 use Rattle.station.specs.declared.Reading.{Reading}
 use Rattle.station.specs.declared.Reading.the-variants as reading
+use Rattle.station.specs.declared.Told.{Told}
 use Rattle.station.specs.Readings.{readOf}
 use Rattle.claims.specs.declared.Checked.{Checked}
 use Rattle.claims.specs.declared.Checked.the-variants as checked
@@ -61,11 +64,13 @@ abbrev pub readingAs : ℕ → Reading → Reading
 readingAs zero told = told
 readingAs (suc k) told = reading.Refused (suc k)
 
+abbrev pub placeIn : ReadingAnswer → Place
+placeIn a = cond (eqb (a .scheduled) 0) (place.Pdcch (a .position) (record { 0 = a .cce })) (place.Block (a .position))
+
 abbrev pub readingIn : ReadingAnswer → Reading
 readingIn a =
     readingAs (a .refusal)
-    (cond (eqb (a .kind) kindBundled) (reading.Bundled (a .position) (record { 0 = a .cce }) (a .b0) (a .b1))
-    (reading.Multiplexed (a .position) (record { 0 = a .cce }) (a .delivered)))
+    (cond (eqb (a .kind) kindBundled) (reading.Bundled (placeIn a) (a .b0) (a .b1)) (reading.Multiplexed (placeIn a) (a .delivered)))
 
 abbrev pub checkedAs : ℕ → ℕ → Checked → Checked
 checkedAs zero index told = told
@@ -95,7 +100,7 @@ pub record AnswersComeBack : Type 0 where
   pub window : (s : Settings) (n : ℕ) → windowIn (windowAnswer s n) ≡ toldWindow s n
   pub resource : (s : Settings) (n m c : ℕ) → mappedIn (resourceAnswer (resourceOf s n m c)) ≡ resourceOf s n m c
   pub inverse : (s : Settings) (n r : ℕ) → invertedIn (inverseAnswer (inverseOf s n r)) ≡ inverseOf s n r
-  pub reading : (s : Settings) (n r b0 b1 : ℕ) → readingIn (readingAnswer (readOf s n r b0 b1)) ≡ readOf s n r b0 b1
+  pub reading : (s : Settings) (n : ℕ) (t : Told) (r b0 b1 : ℕ) → readingIn (readingAnswer (readOf s n t r b0 b1)) ≡ readOf s n t r b0 b1
   pub claims : (s : Settings) (n : ℕ) (list : List ℕ) (lent : ℕ)
       → checkedIn (claimsAnswer (checkedOf s n list lent)) ≡ checkedOf s n list lent
   pub feed : (h : Handset) (x : Heard) → fedIn (fedAnswer (feedOf h x)) ≡ feedOf h x
@@ -108,7 +113,7 @@ pub record SameNumbers : Type 0 where
   pub window : (s t : Settings) (n n' : ℕ) → windowAnswer s n ≡ windowAnswer t n' → toldWindow s n ≡ toldWindow t n'
   pub resource : (s t : Settings) (n m c n' m' c' : ℕ) → Apart resourceAnswer (resourceOf s n m c) (resourceOf t n' m' c')
   pub inverse : (s t : Settings) (n r n' r' : ℕ) → Apart inverseAnswer (inverseOf s n r) (inverseOf t n' r')
-  pub reading : (s t : Settings) (n r b0 b1 n' r' c0 c1 : ℕ) → Apart readingAnswer (readOf s n r b0 b1) (readOf t n' r' c0 c1)
+  pub reading : (s s' : Settings) (n : ℕ) (t : Told) (r b0 b1 n' : ℕ) (t' : Told) (r' c0 c1 : ℕ) → Apart readingAnswer (readOf s n t r b0 b1) (readOf s' n' t' r' c0 c1)
   pub claims : (s t : Settings) (n n' : ℕ) (list list' : List ℕ) (lent lent' : ℕ)
       → Apart claimsAnswer (checkedOf s n list lent) (checkedOf t n' list' lent')
   pub feed : (h i : Handset) (x y : Heard) → Apart fedAnswer (feedOf h x) (feedOf i y)
@@ -120,8 +125,8 @@ abbrev pub KindFor : ℕ → ℕ → ℕ → Type 0
 KindFor most kind refusal = (eqb kind 0 ≡ not (eqb refusal 0)) × (leb kind most ≡ true)
 
 pub record KindsOfAnswers : Type 0 where
-  pub reading : (s : Settings) (n r b0 b1 : ℕ)
-      → KindFor kindMultiplexed (readingAnswer (readOf s n r b0 b1) .kind) (readingAnswer (readOf s n r b0 b1) .refusal)
+  pub reading : (s : Settings) (n : ℕ) (t : Told) (r b0 b1 : ℕ)
+      → KindFor kindMultiplexed (readingAnswer (readOf s n t r b0 b1) .kind) (readingAnswer (readOf s n t r b0 b1) .refusal)
   pub claims : (s : Settings) (n : ℕ) (list : List ℕ) (lent : ℕ)
       → KindFor claimsClash (claimsAnswer (checkedOf s n list lent) .kind) (claimsAnswer (checkedOf s n list lent) .refusal)
   pub feed : (h : Handset) (x : Heard) → KindFor kindNoWindow (fedAnswer (feedOf h x) .kind) (fedAnswer (feedOf h x) .refusal)

@@ -8,19 +8,23 @@ use handset::Handset;
 use handset::Made;
 use heard::Grant;
 use heard::Heard;
+use heard::Release;
+use heard::ScheduledBlock;
 use reply::Answer;
 use resource::Cce;
 use resource::Inverted;
 use resource::Mapped;
 use resource::Resource;
+use station::Place;
 use station::Reading;
+use station::Told;
 ghost use mathlib.Core.Path.{_≡_};
 ghost use Rattle.frame.specs.Distance.{answeredOf};
 ghost use Rattle.resource.specs.Calls.{resourceOf, inverseOf};
 ghost use Rattle.station.specs.Readings.{readOf};
 ghost use Rattle.claims.specs.Claims.{checkedOf, scratchOf};
 ghost use lib.ListN.{length};
-ghost use Rattle.feedback.specs.Answers.{windowAnswer, resourceAnswer, inverseAnswer, readingAnswer, claimsAnswer, noReply, answerNumbers, fedAnswer, grantOf};
+ghost use Rattle.feedback.specs.Answers.{windowAnswer, resourceAnswer, inverseAnswer, toldPosition, placeAnswer, readingAnswer, claimsAnswer, noReply, answerNumbers, fedAnswer, grantOf, blockOf, releaseOf};
 ghost use Rattle.handset.specs.Feed.{feedOf};
 ghost use Rattle.handset.specs.Make.{makeOf};
 ghost use Rattle.heard.specs.declared.Heard.the-variants.{Nothing};
@@ -68,7 +72,7 @@ pub struct InverseAnswer {
 }
 
 // Kind 1 is a bundled reading with the ACK bits, 2 a multiplexed one with the delivered positions, bit p for position p; 0 where
-// refused.
+// refused. `scheduled` is 1 where the reply is read as the scheduled block, which has no CCE.
 #[repr(C)]
 pub struct ReadingAnswer {
     pub refusal: u16,
@@ -78,6 +82,7 @@ pub struct ReadingAnswer {
     pub b0: u16,
     pub b1: u16,
     pub delivered: u16,
+    pub scheduled: u16,
 }
 
 // Kind 1 is clean, 2 a clash with the index of the first claim equal to an earlier one; 0 where refused, and 16 has the index of the
@@ -132,28 +137,51 @@ fn inverse_numbers(x: Inverted) -> InverseAnswer
     }
 }
 
-fn reading_numbers(x: Reading) -> ReadingAnswer
-    ensures { λ r. ⌜ r ≡ readingAnswer x ⌝ }
+// The position that a C caller tells, 65535 for none.
+fn told_position(position: u16) -> Told
+    ensures { λ r. ⌜ r ≡ toldPosition position ⌝ }
+{
+    if position == 65535 {
+        return Told::NotTold;
+    }
+    Told::At(position)
+}
+
+fn place_numbers(x: Place, kind: u16, b0: u16, b1: u16, delivered: u16) -> ReadingAnswer
+    ensures { λ r. ⌜ r ≡ placeAnswer x kind b0 b1 delivered ⌝ }
 {
     match x {
-        Reading::Bundled(m, c, b0, b1) => ReadingAnswer {
+        Place::Pdcch(m, c) => ReadingAnswer {
             refusal: 0,
-            kind: KIND_BUNDLED,
+            kind,
             position: m,
             cce: c.number(),
             b0,
             b1,
-            delivered: 0,
+            delivered,
+            scheduled: 0,
         },
-        Reading::Multiplexed(m, c, positions) => ReadingAnswer {
+        Place::Block(m) => ReadingAnswer {
             refusal: 0,
-            kind: KIND_MULTIPLEXED,
+            kind,
             position: m,
-            cce: c.number(),
-            b0: 0,
-            b1: 0,
-            delivered: positions,
+            cce: 0,
+            b0,
+            b1,
+            delivered,
+            scheduled: 1,
         },
+    }
+}
+
+fn reading_numbers(x: Reading) -> ReadingAnswer
+    ensures { λ r. ⌜ r ≡ readingAnswer x ⌝ }
+{
+    match x {
+        Reading::Bundled(place, b0, b1) => place_numbers(place, KIND_BUNDLED, b0, b1, 0),
+        Reading::Multiplexed(place, positions) => {
+            place_numbers(place, KIND_MULTIPLEXED, 0, 0, positions)
+        }
         Reading::Refused(k) => ReadingAnswer {
             refusal: k,
             kind: KIND_REFUSED,
@@ -162,6 +190,7 @@ fn reading_numbers(x: Reading) -> ReadingAnswer
             b0: 0,
             b1: 0,
             delivered: 0,
+            scheduled: 0,
         },
     }
 }
@@ -233,10 +262,10 @@ fn fed_numbers(f: Fed) -> FedAnswer
 
 // The number of the structs' layout, which the name carries too: a program that was compiled for another layout does not link.
 #[no_mangle]
-pub extern "C" fn feedback_layout_1() -> u16
-    ensures { λ r. ⌜ r ≡ 1 ⌝ }
+pub extern "C" fn feedback_layout_2() -> u16
+    ensures { λ r. ⌜ r ≡ 2 ⌝ }
 {
-    1
+    2
 }
 
 #[no_mangle]
@@ -293,13 +322,15 @@ pub extern "C" fn feedback_inverse(settings: Settings, n: u16, resource: u16) ->
 pub extern "C" fn feedback_reading(
     settings: Settings,
     n: u16,
+    scheduled_position: u16,
     resource: u16,
     b0: u16,
     b1: u16,
 ) -> ReadingAnswer
-    ensures { λ r. ⌜ r ≡ readingAnswer (readOf settings n resource b0 b1) ⌝ }
+    ensures { λ r. ⌜ r ≡ readingAnswer (readOf settings n (toldPosition scheduled_position) resource b0 b1) ⌝ }
 {
-    reading_numbers(station::read(settings, n, Resource::new(resource), b0, b1))
+    let told = told_position(scheduled_position);
+    reading_numbers(station::read(settings, n, told, Resource::new(resource), b0, b1))
 }
 
 #[no_mangle]
@@ -349,4 +380,32 @@ pub extern "C" fn feedback_feed_grant(
         dai,
     };
     fed_numbers(handset::feed(handset, Heard::Granted(grant)))
+}
+
+#[no_mangle]
+pub extern "C" fn feedback_feed_scheduled(
+    handset: Handset,
+    blocks: u16,
+    first: u16,
+    second: u16,
+) -> FedAnswer
+    ensures { λ r. ⌜ r ≡ fedAnswer (feedOf handset (blockOf blocks first second)) ⌝ }
+{
+    let block = ScheduledBlock {
+        blocks,
+        first: first != 0,
+        second: second != 0,
+    };
+    fed_numbers(handset::feed(handset, Heard::Scheduled(block)))
+}
+
+#[no_mangle]
+pub extern "C" fn feedback_feed_release(handset: Handset, cce: u16, dai: u16) -> FedAnswer
+    ensures { λ r. ⌜ r ≡ fedAnswer (feedOf handset (releaseOf cce dai)) ⌝ }
+{
+    let release = Release {
+        cce: Cce::new(cce),
+        dai,
+    };
+    fed_numbers(handset::feed(handset, Heard::Released(release)))
 }
