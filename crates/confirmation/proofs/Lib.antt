@@ -1,2 +1,4 @@
 pub mod Confirmed
+pub mod Counted
 pub mod Received
+pub mod Told
