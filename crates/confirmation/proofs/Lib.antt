@@ -2,3 +2,4 @@ pub mod Confirmed
 pub mod Counted
 pub mod Received
 pub mod Told
+pub mod Worked
