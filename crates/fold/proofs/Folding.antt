@@ -17,7 +17,7 @@ use Rattle.frame.proofs.Windows.{window-size, window-k}
 use Rattle.fold.specs.declared.Seen.{Seen}
 use Rattle.heard.specs.declared.Slot.{Slot}
 use Rattle.heard.specs.declared.View.{View}
-use Rattle.heard.specs.declared.View.the-variants.{Unheard, Pdcch}
+use Rattle.heard.specs.declared.View.the-variants.{Unheard, Pdcch, Block}
 use Rattle.fold.specs.Fold.{stepOf, seenFrom}
 use Rattle.heard.specs.Memory.{none, viewIn, viewAgo}
 
@@ -37,6 +37,7 @@ step-counts : (seen : Seen) (m : ℕ) (x : View) → stepOf seen m x .u ≤ seen
 unfolding stepOf
 step-counts seen m Unheard = omega arith
 step-counts seen m (Pdcch g) = omega arith
+step-counts seen m (Block b) = omega arith
 
 pub step-left : (seen : Seen) (m : ℕ) (x : View) (next : Seen) (j : ℕ) → next ≡ stepOf seen m x → seen .u ≤ j → next .u ≤ j + 1
 step-left seen m x next j e h = rw e (omega (arith, step-counts seen m x))

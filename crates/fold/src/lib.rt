@@ -39,6 +39,21 @@ fn step(seen: Seen, m: u16, x: View) -> Seen
                 cce,
                 first,
                 second,
+                scheduled: seen.scheduled,
+            }
+        }
+        View::Block(b) => {
+            let cce = seen.cce;
+            let first = pick(seen.first, b.first, false);
+            let second = pick(seen.second, b.second, false);
+            Seen {
+                u: seen.u,
+                v: seen.v,
+                position: seen.position,
+                cce,
+                first,
+                second,
+                scheduled: true,
             }
         }
     }

@@ -39,6 +39,7 @@ pub fn seen_in(past: [Slot; 13], config: u16, n: u16) -> Seen
         cce: Cce::new(0),
         first: true,
         second: true,
+        scheduled: false,
     };
     seen_from(past, config, n, w, 0, unseen)
 }

@@ -1,6 +1,6 @@
 -- `fold::window::seen_in` meets its contract: the fold from the window's first position. Assumes nothing.
 use Prim.Native.Nat.{ℕ}
-use mathlib.Core.Bool.{true}
+use mathlib.Core.Bool.{true, false}
 use mathlib.Core.List.{List}
 use mathlib.Core.Path.{_≡_, ap, _∙_}
 use borrow.Author.Needs.{needs}
@@ -13,9 +13,9 @@ use Rattle.fold.proofs.window.seen_in.Tie as tie
 
 -- from before the first position
 start : (F : ℕ → View) (ks : List ℕ) (cce : Cce) → cce .0 ≡ 0
-    → seenFrom F ks (orderOf ks) (record { u = 0; v = 0; position = 0; cce = cce; first = true; second = true }) ≡ seenOf F ks
+    → seenFrom F ks (orderOf ks) (record { u = 0; v = 0; position = 0; cce = cce; first = true; second = true; scheduled = false }) ≡ seenOf F ks
 unfolding seenOf
-start F ks cce e = ap (λ (x : ℕ). seenFrom F ks (orderOf ks) (record { u = 0; v = 0; position = 0; cce = record { 0 = x }; first = true; second = true })) e
+start F ks cce e = ap (λ (x : ℕ). seenFrom F ks (orderOf ks) (record { u = 0; v = 0; position = 0; cce = record { 0 = x }; first = true; second = true; scheduled = false })) e
 
 window-of-requires : tie.Need-window-of-requires
 window-of-requires c κs = search needs
