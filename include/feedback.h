@@ -482,7 +482,7 @@ struct feedback_inverse_answer feedback_inverse(struct feedback_settings setting
  *
  * It is proved that each block confirmed by this rule was heard and decoded by the
  * handset, whatever was lost: crates/confirmation/specs/Confirmed.antt has the rule,
- * crates/agreement/proofs/Confirmation.antt the proof. It needs PDCCHs with DAIs by
+ * crates/agreement/proofs/Conclusions.antt the proof. It needs PDCCHs with DAIs by
  * the rule above, at most one scheduled block sent in a window and its position told
  * here, a handset that is fed, for every subframe, what was sent there or nothing,
  * and its reply as it was sent, read with its own settings.

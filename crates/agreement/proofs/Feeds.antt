@@ -51,7 +51,7 @@ use Rattle.agreement.proofs.Entries.{member-at}
 use Rattle.agreement.proofs.Memory.{ValidPast, after, pushed-after, view-after, low-after, set-after, cause-after, sound-after}
 use Rattle.agreement.proofs.MultiplexedWindow.{multiplexed-window}
 use Rattle.agreement.proofs.NeverRefused.{never-refused}
-use Rattle.agreement.proofs.Told.{told-position, told-of-block}
+use Rattle.confirmation.proofs.Told.{told-position, told-of-block}
 
 -- The station's reading in the window of s, told the position of the block that was sent there.
 abbrev pub readIn : Settings → (ℕ → Send) → ℕ → ℕ → ℕ → ℕ → Reading
