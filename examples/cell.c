@@ -125,14 +125,6 @@ static struct sent send_in(struct station *station, unsigned s)
     return window->sent[by.position];
 }
 
-/* The station's reading of a reply in subframe s: it tells where it sent a scheduled block. */
-static struct feedback_reading_answer read_in(const struct station *station, unsigned s,
-                                              uint16_t resource, uint16_t b0, uint16_t b1)
-{
-    return feedback_reading(station->settings, (uint16_t)(s % 10),
-                            station->window[s % 16].scheduled, resource, b0, b1);
-}
-
 /* How many PDCCHs were sent in the window up to and with position m; time order is k falling. */
 static unsigned sent_up_to(const struct window *window, unsigned m)
 {
@@ -173,6 +165,25 @@ static bool leaves(const struct window *window, struct feedback_reading_answer r
     if (sent[m].blocks == 1)
         return reading.b0 || reading.b1;
     return block == 0 ? reading.b0 : reading.b1;
+}
+
+/* What the station makes of a reply: its reading, and the blocks that leave the buffer. */
+struct verdict {
+    struct feedback_reading_answer reading;
+    unsigned left[2]; /* bit m of left[0]: the first block at position m; of left[1]: the second */
+};
+
+/* A reply in subframe s is read; the call is told where a scheduled block was sent. */
+static struct verdict conclude(const struct station *station, unsigned s, uint16_t resource,
+                               uint16_t b0, uint16_t b1)
+{
+    const struct window *window = &station->window[s % 16];
+    struct verdict verdict = {.reading = feedback_reading(station->settings, (uint16_t)(s % 10),
+                                                          window->scheduled, resource, b0, b1)};
+    accepted(verdict.reading.refusal);
+    for (unsigned i = 0; i < 2u * window->table.size; i++)
+        verdict.left[i % 2] |= (unsigned)leaves(window, verdict.reading, i / 2, i % 2) << i / 2;
+    return verdict;
 }
 
 /* ==== The radio and the handset. What was lost and what was decoded is known here alone. ==== */
@@ -221,13 +232,13 @@ struct tally {
     unsigned sent, left, undecoded; /* blocks */
 };
 
-static void check(struct tally *tally, const struct station *station, const struct radio *radio,
-                  unsigned s, struct feedback_fed fed, int width)
+static void check(struct tally *tally, const struct window *window, const struct radio *radio,
+                  unsigned s, struct feedback_fed fed, struct verdict verdict, int width)
 {
     static const char *const acks[] = {"NACK NACK", "NACK ACK", "ACK NACK", "ACK ACK"};
     static const char *const kinds[] = {"-", "", "s", "r"}; /* by enum feedback_slot_kind */
-    const struct window *window = &station->window[s % 16];
     const struct feedback_window_answer *table = &window->table;
+    const struct feedback_reading_answer reading = verdict.reading;
     printf("%5u.%u |", s / 10, s % 10);
     for (unsigned i = 0; i < table->size; i++) {
         unsigned m = table->order[i], at = s - table->k[m];
@@ -240,8 +251,6 @@ static void check(struct tally *tally, const struct station *station, const stru
         printf("%*s| silent\n", width, "");
         return;
     }
-    struct feedback_reading_answer reading = read_in(station, s, fed.resource, fed.b0, fed.b1);
-    accepted(reading.refusal);
     char name[12] = "block";
     if (!reading.scheduled)
         snprintf(name, sizeof name, "CCE %u", reading.cce);
@@ -253,7 +262,7 @@ static void check(struct tally *tally, const struct station *station, const stru
     for (unsigned i = 0; i < 2u * table->size; i++) {
         unsigned m = table->order[i / 2], at = s - table->k[m], block = i % 2;
         bool decoded = radio->marks[at % 16][block] == '+';
-        if (!leaves(window, reading, m, block))
+        if (!(verdict.left[block] >> m & 1))
             continue;
         printf(" %u%c%s", at % 10, "ab"[block], decoded ? "" : " UNDECODED");
         tally->left++;
@@ -279,9 +288,13 @@ static int run(const uint16_t number[ARGUMENTS])
            number[LOSS], number[SEED], width, " subframes in time order");
     for (unsigned s = 0; s < number[FRAMES] * 10u; s++) {
         struct feedback_fed fed = receive_in(&radio, s, send_in(&station, s));
-        bool answers = fed.kind != FEEDBACK_KIND_TAKEN && fed.kind != FEEDBACK_KIND_NO_WINDOW;
-        if (answers && station.window[s % 16].table.size > 0) /* else begun before the run */
-            check(&tally, &station, &radio, s, fed, width);
+        struct verdict verdict = {0};
+        if (fed.kind == FEEDBACK_KIND_TAKEN || fed.kind == FEEDBACK_KIND_NO_WINDOW ||
+            station.window[s % 16].table.size == 0) /* a window that began before the run */
+            continue;
+        if (fed.kind != FEEDBACK_KIND_SILENT) /* the reply comes in at the station */
+            verdict = conclude(&station, s, fed.resource, fed.b0, fed.b1);
+        check(&tally, &station.window[s % 16], &radio, s, fed, verdict, width);
     }
     printf("of %u blocks %u left the buffer, %u of them undecoded\n", tally.sent, tally.left,
            tally.undecoded);
