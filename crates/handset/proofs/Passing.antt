@@ -1,4 +1,4 @@
--- What a state is where 8 is not met, and a feed where none of 8 to 12 is.
+-- What a state is where 8 is not met, and a feed where none of 8 to 12 and 18 is.
 -- Assumes nothing.
 use Prim.Native.Nat.{ℕ, _≤_}
 use mathlib.Core.Bool.{Bool, true, false, _&&_}
@@ -11,9 +11,11 @@ use Rattle.frame.specs.Settings.{settingsRefusal}
 use Rattle.frame.proofs.Accepted.{Accepted, accepted, neither}
 use Rattle.resource.proofs.Edges.{edge-most}
 use Rattle.heard.specs.declared.Heard.{Heard}
-use Rattle.heard.specs.declared.Heard.the-variants.{Nothing, Granted}
-use Rattle.heard.specs.Heard.{heardRefusal}
-use Rattle.heard.proofs.Valid.{Valid, valid, held}
+use Rattle.heard.specs.declared.Heard.the-variants.{Nothing, Granted, Scheduled, Released}
+use Rattle.heard.specs.Heard.{heardRefusal, causeOf}
+use Rattle.heard.specs.Memory.{blockAgo}
+use Rattle.heard.proofs.Before.{cause-none}
+use Rattle.heard.proofs.Valid.{ValidPdcch, valid, held}
 use Rattle.handset.specs.declared.Handset.{Handset}
 use Rattle.handset.specs.Feed.{feedRefusal}
 use Rattle.handset.specs.Sound.{allSound, stateSound, stateRefusal}
@@ -43,13 +45,16 @@ sound h e =
     }
 
 -- What is valid in a cell fits the bytes of a slot.
+storable-pdcch : (s : Settings) (cce dai : ℕ) → Accepted s → ValidPdcch s cce dai → (cce ≤ 255) × (dai ≤ 255)
+storable-pdcch s cce dai a v = (omega (arith, v .cceLow, edge-most (s .nrb) (a .nrbMost)), omega (arith, v .daiMost))
+
 storable : (s : Settings) (n : ℕ) (x : Heard) → Accepted s → heardRefusal s n x ≡ 0 → Storable x
 storable s n Nothing a e = tt
-storable s n (Granted g) a e =
-    let v : Valid s n g = valid s n g e in
-    omega (arith, v .cce, v .daiMost, edge-most (s .nrb) (a .nrbMost))
+storable s n (Granted g) a e = storable-pdcch s (g .cce .0) (g .dai) a (valid s n (Granted g) e .2)
+storable s n (Scheduled b) a e = tt
+storable s n (Released p) a e = storable-pdcch s (p .cce .0) (p .dai) a (valid s n (Released p) e .1)
 
--- Where 8 to 12 are not met.
+-- Where 8 to 12 and 18 are not met.
 pub record Passed (h : Handset) (x : Heard) : Type 0 where
   pub state : Sound h
   pub heard : heardRefusal (h .settings) (h .next) x ≡ 0
@@ -58,6 +63,7 @@ pub record Passed (h : Handset) (x : Heard) : Type 0 where
 pub passed : (h : Handset) (x : Heard) → feedRefusal h x ≡ 0 → Passed h x
 unfolding feedRefusal
 passed h x e =
-    let a = neither (stateRefusal h) (heardRefusal (h .settings) (h .next) x) e in
+    let a = neither (stateRefusal h) (causeOf (h .settings) (h .next) (blockAgo (h .past)) x) e in
     let state : Sound h = sound h (a .0) in
-    record { state = state; heard = a .1; stored = storable (h .settings) (h .next) x (state .settings) (a .1) }
+    let heard = cause-none (h .settings) (h .next) (blockAgo (h .past)) x (a .1) .0 in
+    record { state = state; heard = heard; stored = storable (h .settings) (h .next) x (state .settings) heard }

@@ -1,4 +1,4 @@
--- Why a handset is silent, for every lent state that 8 does not refuse and not only for those that a run comes to. Each grant that
+-- Why a handset is silent, for every lent state that 8 does not refuse and not only for those that a run comes to. Each PDCCH that
 -- it remembers in the window has a resource, by the one-to-one law of the resource crate, whose map is not unfolded here. So the
 -- resource call never causes silence, and silence means what 01 says ("The bundled reply", "The multiplexed reply").
 -- Assumes nothing.
@@ -23,11 +23,12 @@ use Rattle.resource.proofs.OneToOne.{calls-one-to-one}
 use Rattle.reply.specs.declared.Answer.the-variants.{Silent}
 use Rattle.heard.specs.declared.Control.{Control}
 use Rattle.heard.specs.declared.Heard.{Heard}
-use Rattle.heard.specs.declared.Heard.the-variants.{Nothing, Granted}
+use Rattle.heard.specs.declared.Heard.the-variants.{Nothing, Granted, Scheduled, Released}
 use Rattle.heard.specs.declared.Slot.{Slot}
 use Rattle.heard.specs.declared.View.the-variants.{Pdcch}
-use Rattle.heard.specs.Heard.{heardRefusal, viewOf}
-use Rattle.heard.specs.Memory.{none, heardIn, viewIn, viewAgo}
+use Rattle.heard.specs.Heard.{heardRefusal, causeOf, viewOf}
+use Rattle.heard.specs.Memory.{none, heardIn, viewIn, viewAgo, blockAgo}
+use Rattle.heard.proofs.Before.{cause-none}
 use Rattle.reply.specs.Silence.{HeardMapped, SilentCause}
 use Rattle.reply.proofs.Silences.{silent-cause}
 use Rattle.heard.proofs.Valid.{valid}
@@ -42,27 +43,33 @@ unfolding viewOf
 seen-low s n Nothing e g v = let z : _≡_ {A = ℕ} 0 1 = cc in absurd (omega arith)
 seen-low s n (Granted y) e g v =
     let same : y .cce ≡ g .cce = cc in
-    rw same at (valid s n y e .cce)
+    rw same at (valid s n (Granted y) e .2 .cceLow)
+seen-low s n (Scheduled b) e g v = let z : _≡_ {A = ℕ} 0 1 = cc in absurd (omega arith)
+seen-low s n (Released p) e g v =
+    let same : p .cce ≡ g .cce = cc in
+    rw same at (valid s n (Released p) e .1 .cceLow)
 
-slot-low : (s : Settings) (n : ℕ) (t : Slot) → slotSound s n t ≡ true → (g : Control) → viewIn t ≡ Pdcch g → g .cce .0 < edge (s .nrb) 4
+slot-low : (s : Settings) (n : ℕ) (older : List Slot) (t : Slot) → slotSound s n older t ≡ true → (g : Control) → viewIn t ≡ Pdcch g
+    → g .cce .0 < edge (s .nrb) 4
 unfolding slotSound viewIn
-slot-low s n t e g v =
-    let sound = both (leb (t .kind) 1) (eqb (heardRefusal s n (heardIn t)) 0) e in
-    seen-low s n (heardIn t) (eqb-true (heardRefusal s n (heardIn t)) 0 (sound .1)) g v
+slot-low s n older t e g v =
+    let sound = both (leb (t .kind) 3) (eqb (causeOf s n (blockAgo older) (heardIn t)) 0) e in
+    let none = cause-none s n (blockAgo older) (heardIn t) (eqb-true (causeOf s n (blockAgo older) (heardIn t)) 0 (sound .1)) in
+    seen-low s n (heardIn t) (none .0) g v
 
 -- So does each that a state remembers; before the oldest slot nothing was heard.
 past-low : (s : Settings) (past : List Slot) (n : ℕ) → allSound s n past ≡ true → (i : ℕ) (g : Control)
     → viewIn (getD past i none) ≡ Pdcch g → g .cce .0 < edge (s .nrb) 4
 unfolding allSound viewIn heardIn viewOf
 past-low s [] n e i g v = let z : _≡_ {A = ℕ} 0 1 = cc in absurd (omega arith)
-past-low s (t ∷ ts) n e zero g v = slot-low s (previous n) t (both (slotSound s (previous n) t) (allSound s (previous n) ts) e .0) g v
-past-low s (t ∷ ts) n e (suc i) g v = past-low s ts (previous n) (both (slotSound s (previous n) t) (allSound s (previous n) ts) e .1) i g v
+past-low s (t ∷ ts) n e zero g v = slot-low s (previous n) ts t (both (slotSound s (previous n) ts t) (allSound s (previous n) ts) e .0) g v
+past-low s (t ∷ ts) n e (suc i) g v = past-low s ts (previous n) (both (slotSound s (previous n) ts t) (allSound s (previous n) ts) e .1) i g v
 
 module _ (h : Handset) (accepted : stateRefusal h ≡ 0) (window : 0 < sizeOf (h .settings) (h .next)) where
   call-accepted : windowRefusal (h .settings) (h .next) ≡ 0
   call-accepted = window-accepted (h .settings) (h .next) (accepting (h .settings) (sound h accepted .settings)) window
 
-  -- The resource call for a heard position of the window is never refused.
+  -- The resource call for a PDCCH heard in the window is never refused.
   pub heard-mapped : HeardMapped (h .settings) (h .next) (viewAgo (h .past))
   unfolding viewAgo
   heard-mapped m g inside heard =
@@ -70,7 +77,8 @@ module _ (h : Handset) (accepted : stateRefusal h ≡ 0) (window : 0 < sizeOf (h
       let p = calls-one-to-one (h .settings) (h .next) call-accepted .into m (g .cce .0) inside low in
       (record { 0 = p .0 }, p .3 .there)
 
-  -- The answer is silence exactly for 01's causes: bundled, U = 0 or a miss shown; multiplexed, every position D.
+  -- The answer is silence exactly for the papers' causes: bundled, U = 0 and no scheduled block, or a miss shown; multiplexed, every
+  -- position D.
   pub answer-silent : (nextAnswer h ≡ Silent) ↔ SilentCause (h .settings) (h .next) (viewAgo (h .past))
   unfolding nextAnswer answerOf
   answer-silent =

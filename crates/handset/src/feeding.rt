@@ -1,4 +1,4 @@
-// Feeding a handset what the next subframe heard (document 01, "The running handset"; refusals 8 to 12).
+// Feeding a handset what the next subframe heard (document 01, "The running handset"; refusals 8 to 12; document 02, U1, 18).
 use crate::Fed;
 use crate::Handset;
 use crate::state::state_refusal;
@@ -7,10 +7,20 @@ use heard::Slot;
 use reply::Answer;
 ghost use mathlib.Core.Path.{_≡_};
 ghost use mathlib.Core.List.{_∷_};
-ghost use Rattle.heard.specs.Memory.{slotOf};
+ghost use Rattle.heard.specs.Memory.{resultsOf, slotOf};
 ghost use Rattle.handset.specs.Feed.{nextAnswer, pushed, feedRefusal, feedOf};
 ghost use Rattle.handset.specs.Make.{slotsFrom};
 ghost use Rattle.handset.specs.Stored.{Storable};
+
+// Bit 0 for the first block, bit 1 for the second, bit 2 for two blocks carried.
+fn results_of(first: bool, second: bool, blocks: u16) -> u8
+    ensures { λ r. ⌜ r ≡ resultsOf first second blocks ⌝ }
+{
+    let one = first as u8;
+    let other = second as u8;
+    let two = (blocks == 2) as u8;
+    one + 2 * other + 4 * two
+}
 
 // What is remembered of a subframe.
 fn slot_of(x: Heard) -> Slot
@@ -27,14 +37,31 @@ fn slot_of(x: Heard) -> Slot
         Heard::Granted(g) => {
             let cce = g.cce.number() as u8;
             let dai = g.dai as u8;
-            let first = g.first as u8;
-            let second = g.second as u8;
-            let two = (g.blocks == 2) as u8;
+            let results = results_of(g.first, g.second, g.blocks);
             Slot {
                 kind: 1,
                 cce,
                 dai,
-                results: first + 2 * second + 4 * two,
+                results,
+            }
+        }
+        Heard::Scheduled(b) => {
+            let results = results_of(b.first, b.second, b.blocks);
+            Slot {
+                kind: 2,
+                cce: 0,
+                dai: 0,
+                results,
+            }
+        }
+        Heard::Released(p) => {
+            let cce = p.cce.number() as u8;
+            let dai = p.dai as u8;
+            Slot {
+                kind: 3,
+                cce,
+                dai,
+                results: 0,
             }
         }
     }
@@ -88,7 +115,7 @@ fn next_answer(h: Handset) -> Answer
     reply::answer_in(s, h.next, past)
 }
 
-// 8, then 9 to 12 for what is brought in the subframe that is expected; 0 if the feed is not refused.
+// 8, then 9 to 12 and 18 for what is brought in the subframe that is expected; 0 if the feed is not refused.
 fn feed_refusal(h: Handset, x: Heard) -> u16
     ensures { λ r. ⌜ r ≡ feedRefusal h x ⌝ }
 {
@@ -97,7 +124,8 @@ fn feed_refusal(h: Handset, x: Heard) -> u16
         return state;
     }
     let s = h.settings;
-    heard::heard_refusal(s, h.next, x)
+    let past = h.past;
+    heard::cause_of(s, h.next, past, 0, x)
 }
 
 // The answer to what the next subframe heard, and the handset after it; a refusal leaves the handset as it was.

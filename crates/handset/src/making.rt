@@ -1,4 +1,4 @@
-// Making a handset from settings (document 01, "The running handset"; refusals 1 to 6).
+// Making a handset from settings (document 01, "The running handset"; refusals 1 to 6 and 17).
 use crate::Handset;
 use crate::Made;
 use frame::Settings;
@@ -24,7 +24,7 @@ fn fresh_of(settings: Settings) -> Handset
     }
 }
 
-// A fresh handset, or the first of refusals 1 to 6 that the settings meet, with a handset that every feed refuses.
+// A fresh handset, or the first of refusals 1 to 6 and 17 that the settings meet, with a handset that every feed refuses.
 pub fn make(s: Settings) -> Made
     ensures { λ r. ⌜ r ≡ makeOf s ⌝ }
 {

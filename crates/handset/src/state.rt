@@ -1,20 +1,40 @@
-// Refusal 8: what a lent state must be (document 01, "Causes and their numbers").
+// Refusal 8: what a lent state must be (document 01, "Causes and their numbers"; document 02, U1).
 use crate::Handset;
 use frame::Settings;
 use heard::Slot;
 ghost use mathlib.Core.Path.{_≡_};
-ghost use Prim.Native.Nat.{_≤_};
+ghost use Prim.Native.Nat.{_+_, _<_, _≤_};
+ghost use mathlib.Core.Bool.{_&&_};
+ghost use lib.Dec.{eqb, leb};
+ghost use lib.ListN.{drop, getD};
+ghost use Rattle.heard.specs.Heard.{heardRefusal};
+ghost use Rattle.heard.specs.Memory.{none, heardIn};
 ghost use Rattle.handset.specs.Sound.{slotSound, previous, allSound, stateRefusal};
 
-// A remembered subframe is of a kind that there is, and what it heard is valid in subframe n.
-fn is_sound(s: Settings, n: u16, t: Slot) -> bool
-    ensures { λ r. ⌜ r ≡ slotSound s n t ⌝ }
+// A remembered subframe is of a kind that there is, and what it heard is valid in subframe n by itself.
+fn is_valid(s: Settings, n: u16, t: Slot) -> bool
+    ensures { λ r. ⌜ r ≡ (leb (t .kind) 3 && eqb (heardRefusal s n (heardIn t)) 0) ⌝ }
 {
-    if 1 < t.kind {
+    if 3 < t.kind {
         return false;
     }
     let x = heard::heard_in(t);
     heard::heard_refusal(s, n, x) == 0
+}
+
+// Slot i is sound in subframe n after the older ones. Only a scheduled block looks at these.
+fn is_sound(s: Settings, n: u16, past: [Slot; 13], i: usize) -> bool
+    requires { ⌜ i < 13 ⌝ }
+    ensures { λ r. ⌜ r ≡ slotSound s n (drop (i + 1) past) (getD past i none) ⌝ }
+{
+    let t = past[i];
+    if !is_valid(s, n, t) {
+        return false;
+    }
+    if t.kind == 2 {
+        return !heard::block_before(s.config, n, past, i + 1);
+    }
+    true
 }
 
 // The subframe before n; before 0 comes 9. No division: the check below asks thirteen times.
@@ -37,8 +57,7 @@ fn all_sound(s: Settings, next: u16, past: [Slot; 13]) -> bool
     let mut i = 0;
     while i < 13 {
         n = subframe_before(n);
-        let t = past[i];
-        if !is_sound(s, n, t) {
+        if !is_sound(s, n, past, i) {
             return false;
         }
         i += 1;
@@ -46,7 +65,7 @@ fn all_sound(s: Settings, next: u16, past: [Slot; 13]) -> bool
     true
 }
 
-// 8 where the state fails 1 to 6, expects a subframe over 9, or remembers a grant failing 9 to 12; else 0.
+// 8 where the state fails 1 to 6 or 17, expects a subframe over 9, or remembers what fails 9 to 12 or 18; else 0.
 pub fn state_refusal(h: Handset) -> u16
     ensures { λ r. ⌜ r ≡ stateRefusal h ⌝ }
 {

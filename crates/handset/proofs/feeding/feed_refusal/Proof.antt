@@ -1,4 +1,4 @@
--- `handset::feeding::feed_refusal` meets its contract: 8 first, then 9 to 12. Assumes nothing.
+-- `handset::feeding::feed_refusal` meets its contract: 8 first, then 9 to 12 and 18. Assumes nothing.
 use borrow.Author.Needs.{needs}
 use Rattle.frame.proofs.Causes.{refused-first, refused-next}
 use Rattle.handset.specs.Feed.{feedRefusal}
@@ -12,13 +12,13 @@ returns : tie.Need-returns
 unfolding feedRefusal
 returns c = refused-first _ _ _ (c .before .state-refusal .ensures) (c .if1 .taken)
 
-heard-refusal-requires : tie.Need-heard-refusal-requires
-heard-refusal-requires c κs = search needs
+cause-of-requires : tie.Need-cause-of-requires
+cause-of-requires c κs = search needs
 
 returns-2 : tie.Need-returns-2
 unfolding feedRefusal
-returns-2 c = refused-next _ _ _ _ (c .before .before .before .state-refusal .ensures) (c .before .before .if1 .left) (c .heard-refusal .ensures)
+returns-2 c = refused-next _ _ _ _ (c .before .before .before .before .state-refusal .ensures) (c .before .before .before .if1 .left) (c .cause-of .ensures)
 
 pub feed-refusal-spec : {M : Type 1} → statement M
 feed-refusal-spec =
-    tie.close (tie.spec state-refusal-requires returns heard-refusal-requires returns-2)
+    tie.close (tie.spec state-refusal-requires returns cause-of-requires returns-2)

@@ -1,15 +1,15 @@
 -- `handset::feeding::slot_of` meets its contract. Assumes nothing.
-use Prim.Native.Nat.{ℕ, _+_, _*_, _≤_}
+use Prim.Native.Nat.{ℕ, _≤_}
 use mathlib.Core.Path.{_≡_}
 use native.Mathlib.Omega.{arith}
-use lib.Dec.{eqb}
 use borrow.Author.Needs.{needs}
 use Rattle.heard.specs.declared.Grant.{Grant}
 use Rattle.heard.specs.declared.Heard.{Heard}
-use Rattle.heard.specs.declared.Heard.the-variants.{Nothing, Granted}
+use Rattle.heard.specs.declared.Heard.the-variants.{Nothing, Granted, Scheduled, Released}
+use Rattle.heard.specs.declared.Release.{Release}
+use Rattle.heard.specs.declared.ScheduledBlock.{ScheduledBlock}
 use Rattle.heard.specs.declared.Slot.{Slot}
-use Rattle.heard.specs.Memory.{none, bit, slotOf}
-use Rattle.reply.proofs.Bits.{cast-bit, cast-small}
+use Rattle.heard.specs.Memory.{none, resultsOf, slotOf}
 use Rattle.handset.specs.Stored.{Storable}
 use Rattle.handset.proofs.feeding.slot_of.Statement.{statement}
 use Rattle.handset.proofs.feeding.slot_of.Tie as tie
@@ -18,14 +18,26 @@ nothing : (x : Heard) → x ≡ Nothing → none ≡ slotOf x
 unfolding slotOf
 nothing x e = rw e
 
-granted : (x : Heard) (g : Grant) → x ≡ Granted g → (cce : ℕ) → cce ≡ g .cce .0 → (first : ℕ) → first ≡ bit (g .first)
-    → (second : ℕ) → second ≡ bit (g .second) → (two : ℕ) → two ≡ bit (eqb (g .blocks) 2)
-    → _≡_ {A = Slot} (record { kind = 1; cce = cce; dai = g .dai; results = first + 2 * second + 4 * two }) (slotOf x)
+granted : (x : Heard) (g : Grant) → x ≡ Granted g → (cce : ℕ) → cce ≡ g .cce .0 → (results : ℕ) → results ≡ resultsOf (g .first) (g .second) (g .blocks)
+    → _≡_ {A = Slot} (record { kind = 1; cce = cce; dai = g .dai; results = results }) (slotOf x)
 unfolding slotOf
-granted x g e cce ec first ef second es two et = rw (e, ec, ef, es, et)
+granted x g e cce ec results er = rw (e, ec, er)
 
-small : (x : Heard) (g : Grant) → x ≡ Granted g → Storable x → (g .cce .0 ≤ 255) × (g .dai ≤ 255)
-small x g e s = rw e at s
+scheduled : (x : Heard) (b : ScheduledBlock) → x ≡ Scheduled b → (results : ℕ) → results ≡ resultsOf (b .first) (b .second) (b .blocks)
+    → _≡_ {A = Slot} (record { kind = 2; cce = 0; dai = 0; results = results }) (slotOf x)
+unfolding slotOf
+scheduled x b e results er = rw (e, er)
+
+released : (x : Heard) (p : Release) → x ≡ Released p → (cce : ℕ) → cce ≡ p .cce .0
+    → _≡_ {A = Slot} (record { kind = 3; cce = cce; dai = p .dai; results = 0 }) (slotOf x)
+unfolding slotOf
+released x p e cce ec = rw (e, ec)
+
+small-grant : (x : Heard) (g : Grant) → x ≡ Granted g → Storable x → (g .cce .0 ≤ 255) × (g .dai ≤ 255)
+small-grant x g e s = rw e at s
+
+small-release : (x : Heard) (p : Release) → x ≡ Released p → Storable x → (p .cce .0 ≤ 255) × (p .dai ≤ 255)
+small-release x p e s = rw e at s
 
 enum-told : tie.Need-enum-told
 enum-told c = search needs
@@ -37,49 +49,43 @@ number-requires : tie.Need-number-requires
 number-requires c κs = search needs
 
 cast-cce : tie.Need-cast-cce
-cast-cce c = omega (arith, c .number .ensures, small _ _ (c .before .before .x .given .1) (c .before .before .before .before .pre))
+cast-cce c = omega (arith, c .number .ensures, small-grant _ _ (c .before .before .x .given .1) (c .before .before .before .before .pre))
 
 cast-dai : tie.Need-cast-dai
-cast-dai c = omega (arith, small _ _ (c .before .before .before .x .given .1) (c .before .before .before .before .before .pre))
+cast-dai c = omega (arith, small-grant _ _ (c .before .before .before .x .given .1) (c .before .before .before .before .before .pre))
 
-cast-first : tie.Need-cast-first
-cast-first c = tt
+results-of-requires : tie.Need-results-of-requires
+results-of-requires c κs = search needs
 
-cast-second : tie.Need-cast-second
-cast-second c = tt
+enum-known-x-2 : tie.Need-enum-known-x-2
+enum-known-x-2 c = search needs
 
-cast-two : tie.Need-cast-two
-cast-two c = tt
+results-of-requires-2 : tie.Need-results-of-requires-2
+results-of-requires-2 c κs = search needs
 
--- the grant that is remembered
-heard : tie.After-struct-known4 → Grant
-heard c = c .before .before .before .before .before .before .x .given .0 .0
+enum-known-x-3 : tie.Need-enum-known-x-3
+enum-known-x-3 c = search needs
 
-mul-t11 : tie.Need-mul-t11
-unfolding heard
-mul-t11 c = omega (arith, cast-small (heard c .second))
+number-requires-2 : tie.Need-number-requires-2
+number-requires-2 c κs = search needs
 
-add-t12 : tie.Need-add-t12
-unfolding heard
-add-t12 c = omega (arith, cast-small (heard c .first), cast-small (heard c .second))
+cast-cce-2 : tie.Need-cast-cce-2
+cast-cce-2 c = omega (arith, c .number2 .ensures, small-release _ _ (c .before .before .x3 .given .1) (c .before .before .before .before .pre))
 
-mul-t13 : tie.Need-mul-t13
-unfolding heard
-mul-t13 c = omega (arith, cast-small (eqb (heard c .blocks) 2))
-
-add-t14 : tie.Need-add-t14
-unfolding heard
-add-t14 c = omega (arith, cast-small (heard c .first), cast-small (heard c .second), cast-small (eqb (heard c .blocks) 2))
+cast-dai-2 : tie.Need-cast-dai-2
+cast-dai-2 c = omega (arith, small-release _ _ (c .before .before .before .x3 .given .1) (c .before .before .before .before .before .pre))
 
 returns : tie.Need-returns
 returns c = nothing _ (c .enum-told .given .1)
 
 returns-2 : tie.Need-returns-2
-unfolding heard
-returns-2 c =
-    let number = c .before .before .before .before in
-    granted _ _ (number .before .before .x .given .1) _ (number .number .ensures) _ (cast-bit (heard c .first)) _ (cast-bit (heard c .second))
-    _ (cast-bit (eqb (heard c .blocks) 2))
+returns-2 c = granted _ _ (c .before .before .before .before .x .given .1) _ (c .before .before .number .ensures) _ (c .results-of .ensures)
+
+returns-3 : tie.Need-returns-3
+returns-3 c = scheduled _ _ (c .before .before .x2 .given .1) _ (c .results-of2 .ensures)
+
+returns-4 : tie.Need-returns-4
+returns-4 c = released _ _ (c .before .before .before .x3 .given .1) _ (c .before .number2 .ensures)
 
 pub slot-of-spec : {M : Type 1} → statement M
 slot-of-spec =
@@ -90,12 +96,14 @@ slot-of-spec =
     number-requires
     cast-cce
     cast-dai
-    cast-first
-    cast-second
-    cast-two
-    mul-t11
-    add-t12
-    mul-t13
-    add-t14
+    results-of-requires
+    enum-known-x-2
+    results-of-requires-2
+    enum-known-x-3
+    number-requires-2
+    cast-cce-2
+    cast-dai-2
     returns
-    returns-2)
+    returns-2
+    returns-3
+    returns-4)

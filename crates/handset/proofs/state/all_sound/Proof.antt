@@ -22,22 +22,16 @@ loop-holds c = (omega arith, omega arith, refl)
 subframe-before-requires : tie.Need-subframe-before-requires Inv-loop μ-loop
 subframe-before-requires c κs = c .before .loop .inv .0
 
-mul-t : tie.Need-mul-t Inv-loop μ-loop
-mul-t c = omega arith
-
-array-copy-out-t : tie.Need-array-copy-out-t Inv-loop μ-loop
-array-copy-out-t c = omega arith
-
 is-sound-requires : tie.Need-is-sound-requires Inv-loop μ-loop
-is-sound-requires c κs = tt
+is-sound-requires c κs = omega arith
 
 -- a slot of the thirteen
-inside : (c : tie.In-loop Inv-loop μ-loop) → c .before .loop .i < length (c .before .before .args .t3)
+inside : (c : tie.In-loop Inv-loop μ-loop) → c .before .loop .i < length (c .before .before .args .past)
 inside c = omega (arith, c .before .before .good .1 .1 .0 .1 .0 .1)
 
 returns : tie.Need-returns Inv-loop μ-loop
 returns c =
-    let fed = c .before .before .before in
+    let fed = c .before .before in
     let turn = fed .before in
     sound-not _ _ _ _ _ (turn .before .loop .inv .2) (inside turn) _ (fed .subframe-before .ensures .0) _ (c .before .is-sound .ensures) (not-true _ (c .if1 .taken))
 
@@ -49,7 +43,7 @@ loop-less c = omega arith
 
 loop-again : tie.Need-loop-again Inv-loop μ-loop
 loop-again c =
-    let fed = c .before .before .before in
+    let fed = c .before .before in
     let turn = fed .before in (
       fed .subframe-before .ensures .1,
       omega arith,
@@ -67,8 +61,6 @@ all-sound-spec =
     μ-loop
     loop-holds
     subframe-before-requires
-    mul-t
-    array-copy-out-t
     is-sound-requires
     returns
     add-i

@@ -1,23 +1,47 @@
 -- `handset::state::is_sound` meets its contract. Assumes nothing.
+use native.Mathlib.Omega.{arith}
 use borrow.Author.Needs.{needs}
-use borrow.Author.Tests.{lt-leb, le-leb}
-use Rattle.handset.specs.Sound.{slotSound}
+use borrow.Author.Tests.{not-true, not-false}
+use Rattle.handset.proofs.Remembered.{sound-invalid, sound-other, sound-block}
 use Rattle.handset.proofs.state.is_sound.Statement.{statement}
 use Rattle.handset.proofs.state.is_sound.Tie as tie
 
+mul-t : tie.Need-mul-t
+mul-t c = omega (arith, c .pre)
+
+array-copy-out-t : tie.Need-array-copy-out-t
+array-copy-out-t c = omega (arith, c .pre)
+
+is-valid-requires : tie.Need-is-valid-requires
+is-valid-requires c κs = search needs
+
 returns : tie.Need-returns
-unfolding slotSound
-returns c = rw (lt-leb _ 1 (c .if1 .taken))
+returns c = sound-invalid _ _ _ _ _ (c .before .is-valid .ensures) (not-true _ (c .if1 .taken))
 
-heard-in-requires : tie.Need-heard-in-requires
-heard-in-requires c κs = search needs
+add-block-before : tie.Need-add-block-before
+add-block-before c = omega arith
 
-heard-refusal-requires : tie.Need-heard-refusal-requires
-heard-refusal-requires c κs = search needs
+block-before-requires : tie.Need-block-before-requires
+block-before-requires c κs = search needs
 
 returns-2 : tie.Need-returns-2
-unfolding slotSound
-returns-2 c = rw (le-leb _ 1 (c .before .before .if1 .left), ← c .before .heard-in .ensures, c .heard-refusal .ensures)
+returns-2 c =
+    sound-block _ _ _ _ _ (c .before .before .before .before .is-valid .ensures) (not-false _ (c .before .before .before .if1 .left))
+    (c .before .if2 .taken) _ (c .block-before .ensures)
+
+returns-3 : tie.Need-returns-3
+returns-3 c =
+    sound-other _ _ _ _ _ (c .before .before .before .is-valid .ensures) (not-false _ (c .before .before .if1 .left)) (c .if2 .left)
 
 pub is-sound-spec : {M : Type 1} → statement M
-is-sound-spec = tie.close (tie.spec returns heard-in-requires heard-refusal-requires returns-2)
+is-sound-spec =
+    tie.close
+    (tie.spec
+    mul-t
+    array-copy-out-t
+    is-valid-requires
+    returns
+    add-block-before
+    block-before-requires
+    returns-2
+    returns-3)
