@@ -13,9 +13,7 @@ use Rattle.frame.specs.declared.Window.{Window}
 use Rattle.frame.specs.Coded.{codedWindow}
 use Rattle.frame.specs.Table.{windowOf}
 use Rattle.frame.proofs.Windows.{window-k}
-use Rattle.resource.specs.declared.Cce.{Cce}
 use Rattle.resource.specs.declared.Mapped.{Mapped}
-use Rattle.resource.specs.Calls.{resourceOf}
 use Rattle.symbols.specs.declared.State.{State}
 use Rattle.symbols.specs.declared.State.the-variants.{Ack, Nack, Dtx}
 use Rattle.symbols.specs.declared.Symbol.{Symbol}
@@ -27,7 +25,7 @@ use Rattle.symbols.proofs.Rows.{index-heard}
 use Rattle.reply.specs.declared.Answer.{Answer}
 use Rattle.reply.specs.declared.Answer.the-variants as answer
 use Rattle.heard.specs.declared.View.{View}
-use Rattle.reply.specs.Replies.{replyOn, stateOf, cceOf, windowState, symbolAnswer, multiplexedAnswer}
+use Rattle.reply.specs.Replies.{replyOn, stateOf, carrierOf, windowState, symbolAnswer, multiplexedAnswer}
 use Rattle.fold.proofs.Folding.{size-read, size-small, k-read}
 
 -- One position more is one digit more.
@@ -110,8 +108,7 @@ module _ (s : Settings) (n : ℕ) (F : ℕ → View) (w : Window) (read : w ≡ 
   symbol-silent e = rw (symbol-read ∙ e)
 
   pub symbol-sent : (i b0 b1 : ℕ) → y ≡ symbol.Sent i b0 b1 → (x : View) → x ≡ F (getD (w .k) i 0)
-      → (cce : Cce) → cce .0 ≡ cceOf x → (at : Mapped) → at ≡ resourceOf s n i (cce .0) → (a : Answer) → a ≡ replyOn 2 at b0 b1
+      → (at : Mapped) → at ≡ carrierOf s n i x → (a : Answer) → a ≡ replyOn 2 at b0 b1
       → a ≡ multiplexedAnswer s n F (windowOf (s .config) n)
   unfolding multiplexedAnswer symbolAnswer
-  symbol-sent i b0 b1 e x ex cce ec at em a ea =
-      rw (symbol-read ∙ e, ← k-read (s .config) n w read i, ← ex, ← ec, ← em) ea
+  symbol-sent i b0 b1 e x ex at em a ea = rw (symbol-read ∙ e, ← k-read (s .config) n w read i, ← ex, ← em) ea

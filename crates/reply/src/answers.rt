@@ -1,4 +1,4 @@
-// The reply of a window (document 01, "The bundled reply" and "The multiplexed reply").
+// The reply of a window (document 01, "The bundled reply" and "The multiplexed reply"; document 02, U1).
 use crate::Answer;
 use crate::Reply;
 use fold::Seen;
@@ -10,16 +10,19 @@ use heard::View;
 use heard::view_in;
 use resource::Cce;
 use resource::Mapped;
+use resource::Resource;
 use symbols::Symbol;
 ghost use mathlib.Core.Path.{_≡_};
 ghost use Prim.Native.Nat.{_≤_};
 ghost use lib.ListN.{length};
 ghost use Rattle.frame.specs.Coded.{codedWindow};
 ghost use Rattle.frame.specs.Table.{windowOf};
+ghost use mathlib.Core.Bool.{cond, _&&_};
+ghost use Rattle.symbols.specs.declared.State.the-variants.{Ack, Nack};
 ghost use Rattle.symbols.specs.Coded.{stateDigit, codeOf};
 ghost use Rattle.heard.specs.Memory.{viewAgo};
-ghost use Rattle.reply.specs.Replies.{replyOn, missShown, secondBit, bundledAnswer};
-ghost use Rattle.reply.specs.Replies.{stateOf, cceOf, windowState, multiplexedAnswer, windowAnswer};
+ghost use Rattle.reply.specs.Replies.{replyOn, missShown, secondBit, onScheduled, loneAnswer, bundledAnswer};
+ghost use Rattle.reply.specs.Replies.{stateOf, carrierOf, windowState, multiplexedAnswer, windowAnswer};
 
 fn reply_on(kind: u16, mapped: Mapped, b0: u16, b1: u16) -> Answer
     ensures { λ r. ⌜ r ≡ replyOn kind mapped b0 b1 ⌝ }
@@ -35,7 +38,7 @@ fn reply_on(kind: u16, mapped: Mapped, b0: u16, b1: u16) -> Answer
     }
 }
 
-// A miss is shown by V: it is not the DAI that the last of U grants has where none was missed.
+// A miss is shown by V: it is not the DAI that the last of U PDCCHs has where none was missed.
 fn miss_shown(s: Settings, seen: Seen) -> bool
     requires { ⌜ 1 ≤ seen .u ⌝ }
     ensures { λ r. ⌜ r ≡ missShown s seen ⌝ }
@@ -55,13 +58,32 @@ fn second_bit(s: Settings, seen: Seen) -> u16
     0
 }
 
+// The resource configured for scheduled blocks.
+fn on_scheduled(s: Settings) -> Mapped
+    ensures { λ r. ⌜ r ≡ onScheduled s ⌝ }
+{
+    Mapped::At(Resource::new(s.scheduled))
+}
+
+// The bundled reply where no PDCCH was heard: that of a lone scheduled block, or silence.
+fn lone_answer(s: Settings, seen: Seen) -> Answer
+    ensures { λ r. ⌜ r ≡ loneAnswer s seen ⌝ }
+{
+    if seen.scheduled {
+        let b0 = seen.first as u16;
+        let b1 = second_bit(s, seen);
+        return reply_on(1, on_scheduled(s), b0, b1);
+    }
+    Answer::Silent
+}
+
 // The bundled reply, from what the fold over the window found.
 fn bundled_answer(s: Settings, n: u16, size: u16, seen: Seen) -> Answer
     requires { ⌜ size ≡ length (windowOf (s .config) n) ⌝ }
     ensures { λ r. ⌜ r ≡ bundledAnswer s n seen ⌝ }
 {
     if seen.u == 0 {
-        return Answer::Silent;
+        return lone_answer(s, seen);
     }
     if miss_shown(s, seen) {
         return Answer::Silent;
@@ -73,29 +95,42 @@ fn bundled_answer(s: Settings, n: u16, size: u16, seen: Seen) -> Answer
     reply_on(1, mapped, b0, b1)
 }
 
+// The digit of a heard position's state: 0 for A, 1 for N.
+fn heard_digit(first: bool, second: bool) -> u16
+    ensures { λ r. ⌜ r ≡ stateDigit (cond (first && second) Ack Nack) ⌝ }
+{
+    if first {
+        if second {
+            return 0;
+        }
+    }
+    1
+}
+
 // The digit of a position's state: 0 for A, 1 for N, 2 for D.
 fn digit_of(x: View) -> u16
     ensures { λ r. ⌜ r ≡ stateDigit (stateOf x) ⌝ }
 {
     match x {
         View::Unheard => 2,
-        View::Pdcch(g) => {
-            if g.first {
-                if g.second {
-                    return 0;
-                }
-            }
-            1
-        }
+        View::Pdcch(g) => heard_digit(g.first, g.second),
+        View::Block(b) => heard_digit(b.first, b.second),
     }
 }
 
-fn cce_of(x: View) -> Cce
-    ensures { λ r. ⌜ r .0 ≡ cceOf x ⌝ }
+// The resource of position m, in the window of n, which has `size` positions: that of a PDCCH's first CCE, or the one configured for
+// scheduled blocks.
+fn carrier_of(s: Settings, n: u16, size: u16, m: u16, x: View) -> Mapped
+    requires { ⌜ size ≡ length (windowOf (s .config) n) ⌝ }
+    ensures { λ r. ⌜ r ≡ carrierOf s n m x ⌝ }
 {
     match x {
-        View::Unheard => Cce::new(0),
-        View::Pdcch(g) => g.cce,
+        View::Unheard => resource::resource_sized(s, size, m, Cce::new(0)),
+        View::Pdcch(g) => {
+            let cce = g.cce;
+            resource::resource_sized(s, size, m, cce)
+        }
+        View::Block(_) => on_scheduled(s),
     }
 }
 
@@ -128,7 +163,7 @@ fn multiplexed_answer(s: Settings, n: u16, past: [Slot; 13], w: Window) -> Answe
         Symbol::Sent(i, b0, b1) => {
             let k = w.k;
             let t = past[(k[i as usize] - 1) as usize];
-            let mapped = resource::resource_sized(s, w.size, i, cce_of(view_in(t)));
+            let mapped = carrier_of(s, n, w.size, i, view_in(t));
             reply_on(2, mapped, b0, b1)
         }
     }

@@ -1,4 +1,4 @@
-// The reply of a window (document 01, "The bundled reply" and "The multiplexed reply").
+// The reply of a window (document 01, "The bundled reply" and "The multiplexed reply"; document 02, U1).
 mod answers;
 
 pub use answers::answer_in;

@@ -12,15 +12,15 @@ use Rattle.reply.specs.declared.Answer.{Answer}
 use Rattle.reply.specs.declared.Answer.the-variants.{Silent}
 use Rattle.fold.specs.declared.Seen.{Seen}
 use Rattle.heard.specs.Memory.{bit}
-use Rattle.reply.specs.Replies.{replyOn, missShown, secondBit, bundledAnswer}
+use Rattle.reply.specs.Replies.{replyOn, missShown, secondBit, loneAnswer, bundledAnswer}
 use Rattle.reply.proofs.Bits.{cast-bit}
 use Rattle.reply.proofs.answers.bundled_answer.Statement.{statement}
 use Rattle.reply.proofs.answers.bundled_answer.Tie as tie
 
 module _ (s : Settings) (n : ℕ) (seen : Seen) where
-  unheard : seen .u ≡ 0 → Silent ≡ bundledAnswer s n seen
+  unheard : seen .u ≡ 0 → (a : Answer) → a ≡ loneAnswer s seen → a ≡ bundledAnswer s n seen
   unfolding bundledAnswer
-  unheard e = rw (eq-eqb (seen .u) 0 e)
+  unheard e a made = rw (eq-eqb (seen .u) 0 e) made
 
   missed : (seen .u ≡ 0 → ⊥) → missShown s seen ≡ true → Silent ≡ bundledAnswer s n seen
   unfolding bundledAnswer
@@ -32,8 +32,11 @@ module _ (s : Settings) (n : ℕ) (seen : Seen) where
   unfolding bundledAnswer
   sent h e at mapped b0 first b1 second a made = rw (ne-eqb (seen .u) 0 h, e, ← mapped, ← first, ← second) made
 
+lone-answer-requires : tie.Need-lone-answer-requires
+lone-answer-requires c κs = search needs
+
 returns : tie.Need-returns
-returns c = unheard _ _ _ (c .if1 .taken)
+returns c = unheard _ _ _ (c .before .if1 .taken) _ (c .lone-answer .ensures)
 
 miss-shown-requires : tie.Need-miss-shown-requires
 miss-shown-requires c κs = search needs
@@ -65,6 +68,7 @@ pub bundled-answer-spec : {M : Type 1} → statement M
 bundled-answer-spec =
     tie.close
     (tie.spec
+    lone-answer-requires
     returns
     miss-shown-requires
     returns-2

@@ -1,11 +1,8 @@
 -- `reply::answers::multiplexed_answer` meets its contract. Assumes nothing.
 use Prim.Native.Nat.{_<_}
-use mathlib.Core.Path.{ap, _∙_}
 use native.Mathlib.Omega.{arith}
 use borrow.Author.Needs.{needs}
-use Rattle.frame.specs.declared.Window.{Window}
-use Rattle.resource.proofs.Sized.{resource-told}
-use Rattle.fold.proofs.Folding.{size-small, view-read}
+use Rattle.fold.proofs.Folding.{size-read, size-small, view-read}
 use Rattle.reply.proofs.Multiplexing.{k-range, index-small, symbol-silent, symbol-sent}
 use Rattle.reply.proofs.answers.multiplexed_answer.Statement.{statement}
 use Rattle.reply.proofs.answers.multiplexed_answer.Tie as tie
@@ -54,11 +51,8 @@ array-copy-out-t c = omega (arith, k-range _ _ _ (c .before .before .before .bef
 view-in-requires : tie.Need-view-in-requires
 view-in-requires c κs = search needs
 
-cce-of-requires : tie.Need-cce-of-requires
-cce-of-requires c κs = search needs
-
-resource-sized-requires : tie.Need-resource-sized-requires
-resource-sized-requires c κs = search needs
+carrier-of-requires : tie.Need-carrier-of-requires
+carrier-of-requires c κs = size-read _ _ _ (c .before .before .before .before .before .before .before .before .pre)
 
 reply-on-requires : tie.Need-reply-on-requires
 reply-on-requires c κs = search needs
@@ -70,10 +64,10 @@ returns c =
 
 returns-2 : tie.Need-returns-2
 returns-2 c =
-    let heard = c .before .before .before in
+    let heard = c .before .before in
     let arm = heard .before .before .before .before in
     symbol-sent _ _ _ _ (arm .before .before .before .before .pre) _ (arm .before .before .before .code-of .ensures) _ (arm .before .before .symbol-of .ensures) _ _ _
-    (arm .y .given .1) _ (view-read _ _ _ (heard .view-in .ensures)) _ (c .before .before .cce-of .ensures) _ (c .before .resource-sized .ensures ∙ resource-told _ _ _ (ap (λ (w : Window). w .size) (arm .before .before .before .before .pre)) _ _) _ (c .reply-on .ensures)
+    (arm .y .given .1) _ (view-read _ _ _ (heard .view-in .ensures)) _ (c .before .carrier-of .ensures) _ (c .reply-on .ensures)
 
 pub multiplexed-answer-spec : {M : Type 1} → statement M
 multiplexed-answer-spec =
@@ -91,8 +85,7 @@ multiplexed-answer-spec =
     mul-t-2
     array-copy-out-t
     view-in-requires
-    cce-of-requires
-    resource-sized-requires
+    carrier-of-requires
     reply-on-requires
     returns
     returns-2)
