@@ -318,18 +318,19 @@ pub extern "C" fn feedback_inverse(settings: Settings, n: u16, resource: u16) ->
     inverse_numbers(resource::inverse_of(settings, n, Resource::new(resource)))
 }
 
+// `position` is that of the scheduled block that was sent in the window, 65535 where none was.
 #[no_mangle]
 pub extern "C" fn feedback_reading(
     settings: Settings,
     n: u16,
-    scheduled_position: u16,
+    position: u16,
     resource: u16,
     b0: u16,
     b1: u16,
 ) -> ReadingAnswer
-    ensures { λ r. ⌜ r ≡ readingAnswer (readOf settings n (toldPosition scheduled_position) resource b0 b1) ⌝ }
+    ensures { λ r. ⌜ r ≡ readingAnswer (readOf settings n (toldPosition position) resource b0 b1) ⌝ }
 {
-    let told = told_position(scheduled_position);
+    let told = told_position(position);
     reading_numbers(station::read(settings, n, told, Resource::new(resource), b0, b1))
 }
 
