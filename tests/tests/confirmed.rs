@@ -10,7 +10,9 @@ use feedback_tests::compare::WINDOWS;
 use feedback_tests::every;
 use feedback_tests::model::{bundles, edge, Model, Window};
 use feedback_tests::random::Random;
-use feedback_tests::{feed, make, reading, resource, Fed, Grant, Handset, ReadingAnswer, Settings};
+use feedback_tests::{
+    feed, make, reading, resource, Fed, Grant, Handset, ReadingAnswer, Settings, NOT_TOLD,
+};
 use std::cmp::Reverse;
 use std::collections::HashMap;
 
@@ -222,7 +224,8 @@ impl<'a> Cell<'a> {
         let fed = feed(handset, None);
         let is_reply = [Fed::BUNDLED, Fed::MULTIPLEXED].contains(&fed.kind);
         assert!(is_reply || fed.kind == Fed::SILENT, "{settings:?}, {window:?}: {fed:?}");
-        let read = is_reply.then(|| reading(settings, window.n, fed.resource, fed.b0, fed.b1));
+        let read =
+            is_reply.then(|| reading(settings, window.n, NOT_TOLD, fed.resource, fed.b0, fed.b1));
         Outcome { sent, fed, read, decoded }
     }
 
@@ -241,7 +244,7 @@ impl<'a> Cell<'a> {
                 let there = resource(settings, window.n, m as u16, cce);
                 assert_eq!(there.refusal, 0, "{settings:?}, {window:?}, {m}, {cce}");
                 for (b0, b1) in [(0, 0), (0, 1), (1, 0), (1, 1)] {
-                    let read = reading(settings, window.n, there.resource, b0, b1);
+                    let read = reading(settings, window.n, NOT_TOLD, there.resource, b0, b1);
                     if read.refusal == 0 {
                         assert_eq!((read.position, read.cce), (m as u16, cce));
                         all.push(read);

@@ -13,7 +13,9 @@ use feedback_tests::plain::{
     plain_answered, plain_inverse, plain_make, plain_reading, plain_resource, plain_window,
 };
 use feedback_tests::random::Random;
-use feedback_tests::{answered, feed, inverse, make, reading, resource, window, Handset, Settings};
+use feedback_tests::{
+    answered, feed, inverse, make, reading, resource, window, Handset, Settings, NOT_TOLD,
+};
 use std::env;
 
 const WINDOW_CALLS: u64 = 2_000_000;
@@ -190,15 +192,15 @@ fn readings() {
         let resource = settings.n1.wrapping_add(place);
         let [b0, b1] =
             [0; 2].map(|_| if random.once_in(16) { random.any() } else { random.below16(2) });
-        let given = reading(settings, n, resource, b0, b1);
-        let plain = plain_reading(settings, n, resource, b0, b1);
+        let given = reading(settings, n, NOT_TOLD, resource, b0, b1);
+        let plain = plain_reading(settings, n, NOT_TOLD, resource, b0, b1);
         assert!(
             given == plain,
             "feedback_reading({settings:?}, n {n}, resource {resource}, b0 {b0}, b1 {b1}): the \
              engine gives {given:?}, the plain implementation {plain:?}"
         );
         if ask_model {
-            comparison.reading(settings, n, resource, b0, b1);
+            comparison.reading(settings, n, NOT_TOLD, resource, b0, b1);
         }
         1
     });

@@ -4,7 +4,7 @@
 use feedback_tests::{
     answered, claims, feed_grant, feed_nothing, inverse, make, reading, resource, window,
     AnsweredAnswer, ClaimsAnswer, Fed, Grant, Handset, InverseAnswer, Made, ReadingAnswer,
-    ResourceAnswer, Settings, Slot, WindowAnswer,
+    ResourceAnswer, Settings, Slot, WindowAnswer, NOT_TOLD,
 };
 use std::fmt::Debug;
 
@@ -54,7 +54,7 @@ impl Count {
 
     fn reading(&mut self, number: u16, settings: Settings, n: u16, reply: (u16, u16, u16)) {
         let (resource, b0, b1) = reply;
-        let given = reading(settings, n, resource, b0, b1);
+        let given = reading(settings, n, NOT_TOLD, resource, b0, b1);
         self.due(number, given, ReadingAnswer::refused(number));
     }
 

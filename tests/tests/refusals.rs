@@ -5,7 +5,7 @@ use feedback_tests::compare::{Comparison, Lent};
 use feedback_tests::model::Model;
 use feedback_tests::{
     answered, claims, inverse, make, reading, resource, window, AnsweredAnswer, ClaimsAnswer,
-    Handset, InverseAnswer, ReadingAnswer, ResourceAnswer, Settings, WindowAnswer,
+    Handset, InverseAnswer, ReadingAnswer, ResourceAnswer, Settings, WindowAnswer, NOT_TOLD,
 };
 
 /// The settings' special values: 0, each limit, one past it, 65535, and numbers
@@ -88,7 +88,8 @@ fn compare_inverse(comparison: &mut Comparison, arguments: [u16; 7]) {
 
 fn compare_reading(comparison: &mut Comparison, arguments: [u16; 9]) {
     let [config, nrb, n1, mode, blocks, n, resource, b0, b1] = arguments;
-    comparison.reading(Settings::plain(config, nrb, n1, mode, blocks), n, resource, b0, b1);
+    let settings = Settings::plain(config, nrb, n1, mode, blocks);
+    comparison.reading(settings, n, NOT_TOLD, resource, b0, b1);
 }
 
 fn compare_claims(comparison: &mut Comparison, lent: &mut Lent, arguments: [u16; 8]) {
@@ -376,7 +377,11 @@ fn lowest_number_first() {
         assert_eq!(inverse(settings, n, 2046), other, "{settings:?}, n {n}, resource 2046");
 
         let read = ReadingAnswer::refused(last(13));
-        assert_eq!(reading(settings, n, 2046, 2, 2), read, "{settings:?}, n {n}, resource 2046");
+        assert_eq!(
+            reading(settings, n, NOT_TOLD, 2046, 2, 2),
+            read,
+            "{settings:?}, n {n}, resource 2046"
+        );
         let judged = ClaimsAnswer::refused(last(15), 0);
         let mut scratch = [3; 5];
         assert_eq!(claims(settings, n, &[65535], &mut scratch), judged, "{settings:?}, n {n}");
@@ -387,9 +392,9 @@ fn lowest_number_first() {
     }
     // The last causes of the two longer calls: 14 after 13, and 16 after 15.
     let settings = Settings::plain(5, 6, 2047, 0, 1);
-    assert_eq!(reading(settings, 2, 2047, 2, 2), ReadingAnswer::refused(14));
-    assert_eq!(reading(settings, 2, 2047, 0, 1), ReadingAnswer::refused(14));
-    assert_eq!(reading(settings, 2, 2047, 1, 0), ReadingAnswer::bundled(0, 0, 1, 0));
+    assert_eq!(reading(settings, 2, NOT_TOLD, 2047, 2, 2), ReadingAnswer::refused(14));
+    assert_eq!(reading(settings, 2, NOT_TOLD, 2047, 0, 1), ReadingAnswer::refused(14));
+    assert_eq!(reading(settings, 2, NOT_TOLD, 2047, 1, 0), ReadingAnswer::bundled(0, 0, 1, 0));
     let mut scratch = [3; 9 * 7];
     assert_eq!(claims(settings, 2, &[0, 0, 7], &mut scratch), ClaimsAnswer::refused(16, 2));
     assert_eq!(scratch, [3; 9 * 7]);

@@ -16,7 +16,9 @@ use feedback_tests::plain::{
     plain_reading, plain_resource, plain_window,
 };
 use feedback_tests::random::Random;
-use feedback_tests::{AnsweredAnswer, ClaimsAnswer, Fed, Grant, Handset, Settings, WindowAnswer};
+use feedback_tests::{
+    AnsweredAnswer, ClaimsAnswer, Fed, Grant, Handset, Settings, WindowAnswer, NOT_TOLD,
+};
 use std::hint::black_box;
 use std::time::Instant;
 
@@ -120,7 +122,7 @@ fn input(model: &Model, random: &mut Random, fits: impl Fn(&Input) -> bool) -> I
         let bits = (random.below16(2), random.below16(2));
         let subframe = (window.n + 20 - window.k[usize::from(position)]) % 10;
         let input = Input { settings, n: window.n, subframe, position, cce, resource, bits };
-        let read = model.reading(settings, window.n, resource, bits.0, bits.1);
+        let read = model.reading(settings, window.n, NOT_TOLD, resource, bits.0, bits.1);
         if read.refusal == 0 && fits(&input) {
             return input;
         }
@@ -331,13 +333,14 @@ fn plain_rust_inverse(input: &Input) -> u64 {
 fn engine_reading(input: &Input) -> u64 {
     let (b0, b1) = input.bits;
     // SAFETY: the call takes numbers and gives numbers, and is lent no memory.
-    let answer = unsafe { feedback_reading(input.settings, input.n, input.resource, b0, b1) };
+    let answer =
+        unsafe { feedback_reading(input.settings, input.n, NOT_TOLD, input.resource, b0, b1) };
     u64::from(answer.delivered) << 16 | u64::from(answer.cce)
 }
 
 fn plain_rust_reading(input: &Input) -> u64 {
     let (b0, b1) = input.bits;
-    let answer = plain_reading(input.settings, input.n, input.resource, b0, b1);
+    let answer = plain_reading(input.settings, input.n, NOT_TOLD, input.resource, b0, b1);
     u64::from(answer.delivered) << 16 | u64::from(answer.cce)
 }
 
