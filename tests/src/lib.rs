@@ -15,6 +15,7 @@ pub mod model;
 pub mod plain;
 pub mod random;
 pub mod types;
+pub mod vectors;
 
 pub use types::{
     AnsweredAnswer, Block, ClaimsAnswer, Fed, Grant, Handset, Heard, InverseAnswer, Made,
