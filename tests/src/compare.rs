@@ -9,7 +9,7 @@ use crate::plain::{
 };
 use crate::{
     answered, claims, feed, inverse, make, reading, resource, window, Block, ClaimsAnswer, Fed,
-    Grant, Handset, Heard, Release, Settings,
+    Grant, Handset, Heard, ReadingAnswer, Release, Settings,
 };
 use std::fmt;
 
@@ -104,7 +104,7 @@ impl<'a> Comparison<'a> {
         resource: u16,
         b0: u16,
         b1: u16,
-    ) {
+    ) -> ReadingAnswer {
         let due = self.model.reading(settings, n, told, resource, b0, b1);
         let given = reading(settings, n, told, resource, b0, b1);
         let plain = plain_reading(settings, n, told, resource, b0, b1);
@@ -116,6 +116,7 @@ impl<'a> Comparison<'a> {
         );
         self.counts[usize::from(due.refusal)] += 1;
         self.kinds[usize::from(due.kind)] += 1;
+        given
     }
 
     /// Two comparisons: list and scratch lie flush with a guard, once at their
