@@ -139,7 +139,7 @@ pub extern "C" fn plain_feed_scheduled(
     let Some(limits) = limits_of_good(&handset) else {
         return Fed::refused(8, handset);
     };
-    if let Err(refusal) = limits.check_block(handset.next, 0, blocks) {
+    if let Err(refusal) = limits.check_block(handset.next, blocks) {
         return Fed::refused(refusal, handset);
     }
     let results = results(blocks, first, second);
@@ -177,10 +177,9 @@ impl Limits {
         self.check_pdcch(cce, dai)
     }
 
-    /// A scheduled block, `age` subframes before the next.
-    fn check_block(&self, subframe: u16, age: usize, blocks: u16) -> Result<(), u16> {
+    fn check_block(&self, subframe: u16, blocks: u16) -> Result<(), u16> {
         self.check_carried(subframe, blocks)?;
-        if !self.scheduled || self.taken & self.window_of(subframe, age) != 0 {
+        if !self.scheduled || self.taken & self.window_of(subframe, 0) != 0 {
             return Err(18);
         }
         Ok(())
@@ -206,9 +205,20 @@ impl Limits {
         }
     }
 
+    /// Whether what a slot remembers is bad by itself. The kinds are tested without
+    /// a jump, since what a handset heard cannot be foretold.
+    fn is_bad(&self, subframe: u16, slot: &Slot) -> bool {
+        let is_pdcch = slot.kind & 1 == 1;
+        let carries_two = (slot.results & 4 != 0) & (slot.kind != Slot::RELEASE);
+        (slot.kind > Slot::RELEASE)
+            | !self.is_downlink(subframe)
+            | (is_pdcch & ((u16::from(slot.cce) >= self.cces) | (slot.dai.wrapping_sub(1) > 3)))
+            | (carries_two & (self.blocks == 1))
+    }
+
     /// The bit of the window that a subframe is in, `age` before the next.
-    fn window_of(&self, subframe: u16, age: usize) -> u32 {
-        1 << (13 + usize::from(self.distances[usize::from(subframe)]) - age)
+    fn window_of(&self, subframe: u16, age: u16) -> u32 {
+        1 << (13 + u16::from(self.distances[usize::from(subframe)]) - age)
     }
 }
 
@@ -228,23 +238,38 @@ fn limits_of_good(handset: &Handset) -> Option<Limits> {
         scheduled: settings.scheduled != NONE,
         taken: 0,
     };
+    let mut any_block = false;
+    let mut subframe = handset.next;
+    for slot in &handset.past {
+        subframe = if subframe == 0 { 9 } else { subframe - 1 };
+        if slot.kind != 0 {
+            if limits.is_bad(subframe, slot) {
+                return None;
+            }
+            any_block |= slot.kind == Slot::BLOCK;
+        }
+    }
+    if any_block {
+        limits.taken = windows_with_blocks(&limits, handset)?;
+    }
+    Some(limits)
+}
+
+/// The windows that have a scheduled block, unless one has two or no resource is set.
+fn windows_with_blocks(limits: &Limits, handset: &Handset) -> Option<u32> {
+    let mut taken = 0;
     let mut subframe = handset.next;
     for (slot, age) in handset.past.iter().zip(1..) {
         subframe = if subframe == 0 { 9 } else { subframe - 1 };
-        let blocks = u16::from(1 + (slot.results >> 2 & 1));
-        let (cce, dai) = (slot.cce.into(), slot.dai.into());
-        match slot.kind {
-            0 => {}
-            Slot::GRANT => limits.check_grant(subframe, blocks, cce, dai).ok()?,
-            Slot::BLOCK => {
-                limits.check_block(subframe, age, blocks).ok()?;
-                limits.taken |= limits.window_of(subframe, age);
+        if slot.kind == Slot::BLOCK {
+            let window = limits.window_of(subframe, age);
+            if !limits.scheduled || taken & window != 0 {
+                return None;
             }
-            Slot::RELEASE => limits.check_release(subframe, cce, dai).ok()?,
-            _ => return None,
+            taken |= window;
         }
     }
-    Some(limits)
+    Some(taken)
 }
 
 fn results(blocks: u16, first: u16, second: u16) -> u8 {
@@ -343,16 +368,15 @@ fn symbol(states: &[State]) -> Option<(usize, (u16, u16))> {
     })
 }
 
-/// The ACK bits of a remembered subframe, bit 0 for the first block: all where no
-/// block was carried, and the result of a sole block stands for both.
+/// The ACK bits of a remembered subframe, bit 0 for the first block.
 fn acks_of(slot: &Slot) -> u16 {
-    let results = u16::from(slot.results);
-    match slot.kind {
-        Slot::GRANT | Slot::BLOCK if results & 0b100 != 0 => results & 0b11,
-        Slot::GRANT | Slot::BLOCK => (results & 1) * 0b11,
-        _ => 0b11,
-    }
+    ACKS[usize::from(slot.kind & 3)][usize::from(slot.results & 7)].into()
 }
+
+/// By kind and results: all where no block was carried, and the result of a sole
+/// block stands for both.
+const ACKS: [[u8; 8]; 4] = [[3; 8], CARRIED, CARRIED, [3; 8]];
+const CARRIED: [u8; 8] = [0, 3, 0, 3, 0, 1, 2, 3];
 
 /// The resource of a remembered PDCCH, whose CCE has been checked.
 fn resource_of(settings: &Settings, size: usize, position: usize, slot: &Slot) -> u16 {
