@@ -6,7 +6,7 @@
 //! third, made to be fast, the measure in the benchmark and in the fuzzing.
 //! [`compare`] holds the engine to the model, answer by answer, on inputs in every
 //! combination ([`every`]) or at random ([`random`]), and on memory that is lent
-//! from [`guarded`].
+//! from [`guarded`]. [`vectors`] reads the cases that come with the requests.
 
 pub mod compare;
 pub mod every;

@@ -203,7 +203,7 @@ pub fn bundles(settings: Settings, size: u16) -> bool {
 
 /// The first among the causes that the settings meet.
 fn settings_refusal(settings: Settings) -> Option<u16> {
-    let Settings { config, nrb, n1, mode, blocks, scheduled } = settings;
+    let Settings { config, nrb, n1, mode, blocks, scheduled, .. } = settings;
     first_met([
         (1, config > 6),
         (2, !NRB.contains(&nrb)),

@@ -93,7 +93,7 @@ impl Random {
             true => self.settings(),
             false => self.scheduled_settings(),
         };
-        let Settings { config, nrb, n1, mode, blocks, scheduled } = settings;
+        let Settings { config, nrb, n1, mode, blocks, scheduled, .. } = settings;
         let config = self.unless_once_in(times, config);
         let nrb = self.unless_once_in(times, nrb);
         let n1 = self.unless_once_in(times, n1);
@@ -104,7 +104,7 @@ impl Random {
             true => self.near_n1(n1),
             false => scheduled,
         };
-        Settings { config, nrb, n1, mode, blocks, scheduled }
+        Settings::plain(config, nrb, n1, mode, blocks).with_scheduled(scheduled)
     }
 
     /// A number around N1, or any.

@@ -75,14 +75,9 @@ impl<'a> Case<'a> {
         for (name, neutral) in LATER {
             assert_eq!(number(name), neutral, "{self}: {name} is not there yet");
         }
-        Settings {
-            config: number("configuration"),
-            nrb: number("N_RB"),
-            n1: number("N1"),
-            mode: number("mode"),
-            blocks: number("blocks"),
-            scheduled: number("scheduled"),
-        }
+        let [config, nrb, n1, mode, blocks, scheduled] =
+            ["configuration", "N_RB", "N1", "mode", "blocks", "scheduled"].map(number);
+        Settings::plain(config, nrb, n1, mode, blocks).with_scheduled(scheduled)
     }
 
     /// The lent handset: its settings, the subframe expected, and seven numbers for

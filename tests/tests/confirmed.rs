@@ -88,12 +88,10 @@ const RULE: Rule = Rule {
 };
 
 impl Rule {
-    /// Nothing is confirmed where what the reading names was not sent. Bundled: where
-    /// it names the scheduled block, that block and nothing else; else, if at most
-    /// four PDCCHs of the window were sent up to and with the named one, each of them
-    /// is confirmed, and if more were, the named one alone. Of a sole block either bit
-    /// is ACK, of two the first by the first bit and the second by the second; a
-    /// release has none. Multiplexed: all that was sent at a delivered position.
+    /// Nothing is confirmed where what the reading names was not sent. Multiplexed:
+    /// all that was sent at a delivered position. Bundled: a sole block by either bit,
+    /// and of two the first by the first bit and the second by the second; a release
+    /// has none.
     fn confirms(self, window: &Window, sent: &[Option<Sent>], read: ReadingAnswer) -> Blocks {
         let named = usize::from(read.position);
         if read.refusal != 0 || !sent[named].is_some_and(|sent| self.is_named(sent, read)) {
@@ -109,20 +107,31 @@ impl Rule {
             1 => (ack0 || ack1, false),
             _ => (ack0, ack1),
         };
-        if read.scheduled == 1 {
-            return together(sent, |m| m == named, acked);
+        match read.scheduled {
+            1 => together(sent, |m| m == named, acked),
+            _ => together(sent, self.spoken_of(window, sent, named), acked),
         }
-        let not_after = |m: usize| match self.by_time {
+    }
+
+    /// The positions that a bundled reply for a PDCCH speaks of: if at most four PDCCHs
+    /// of the window were sent up to and with the named one, all of these, and if more
+    /// were, the named one alone. It does not speak of the scheduled block.
+    fn spoken_of<'a>(
+        self,
+        window: &'a Window,
+        sent: &'a [Option<Sent>],
+        named: usize,
+    ) -> impl Fn(usize) -> bool + 'a {
+        let not_after = move |m: usize| match self.by_time {
             true => window.k[m] >= window.k[named],
             false => m <= named,
         };
         let counted = |m: &usize| sent[*m].is_some_and(|sent| self.is_counted(sent));
         let all = (0..sent.len()).filter(|m| not_after(*m)).filter(counted).count() <= self.most;
-        let chosen = |m: usize| match sent[m] {
+        move |m| match sent[m] {
             Some(Sent::Block { .. }) => !self.blocks_apart,
             _ => m == named || (all && not_after(m)),
-        };
-        together(sent, chosen, acked)
+        }
     }
 
     fn is_named(self, sent: Sent, read: ReadingAnswer) -> bool {
@@ -874,7 +883,7 @@ fn a_block_is_confirmed_apart() {
     let model = Model::new();
     let rule = Rule { blocks_apart: false, ..RULE };
     for cell in cells(&model, &[50], SCHEDULED, 1, 4).iter().filter(|cell| is_bundled(cell)) {
-        let found = Found::of_fates(cell, rule, &fates(cell.settings), &BLOCKS_OF_ONE);
+        let found = Found::of_fates(cell, rule, fates(cell.settings), &BLOCKS_OF_ONE);
         assert_eq!(found.wrong > 0, cell.window.size() > 1, "{:?}", cell.window);
     }
 }

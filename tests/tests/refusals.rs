@@ -435,7 +435,7 @@ const CALLS: u64 = 6;
 /// where settings and subframe are.
 fn compare_all(comparison: &mut Comparison, arguments: [u16; 7]) {
     let [config, nrb, n1, mode, blocks, scheduled, n] = arguments;
-    let settings = Settings { config, nrb, n1, mode, blocks, scheduled };
+    let settings = Settings::plain(config, nrb, n1, mode, blocks).with_scheduled(scheduled);
     comparison.window(settings, n);
     comparison.answered(settings, n);
     comparison.resource(settings, n, 0, 0);
@@ -446,7 +446,7 @@ fn compare_all(comparison: &mut Comparison, arguments: [u16; 7]) {
 
 fn compare_told(comparison: &mut Comparison, arguments: [u16; 11]) {
     let [config, nrb, n1, mode, blocks, scheduled, n, told, resource, b0, b1] = arguments;
-    let settings = Settings { config, nrb, n1, mode, blocks, scheduled };
+    let settings = Settings::plain(config, nrb, n1, mode, blocks).with_scheduled(scheduled);
     comparison.reading(settings, n, told, resource, b0, b1);
 }
 
@@ -484,7 +484,8 @@ fn claims_with_a_scheduled_resource() {
         let around = [n1.saturating_sub(1), n1, n1 + 1];
         for scheduled in SCHEDULED.iter().copied().chain(around) {
             for (n1, n) in [(n1, n), (n1, 10), (2048, n)] {
-                let settings = Settings { config, nrb, n1, mode, blocks, scheduled };
+                let settings = Settings::plain(config, nrb, n1, mode, blocks);
+                let settings = settings.with_scheduled(scheduled);
                 let scratch = vec![7; room.into()];
                 comparison.claims(&mut lent, settings, n, &[5, claim, 5], &scratch);
                 comparison.claims(&mut lent, settings, n, &[65535], &[]);
@@ -519,15 +520,25 @@ fn told_reading_with_all_arguments_special() {
     let call = [config, nrb, n1, mode, blocks, scheduled, n, TOLD, resource, bit, bit];
     all_together(call, |arguments| compare_told(&mut comparison, arguments));
     let refusals = [0, 1, 2, 3, 4, 5, 6, 7, 11, 13, 14, 17, 18];
-    let compared = 3 * 2 * 3 * 3 * 3 * 5 * 3 * 8 * 6 * 3 * 3;
+    let replies = 6 * 3 * 3;
+    let compared = 3 * 2 * 3 * 3 * 3 * 5 * 3 * 8 * replies;
     comparison.finish_with(compared, &refusals, &[0, 1, 2]);
+    // Three pairs of configuration and mode and two numbers of blocks pass. Where N1
+    // is 0 four scheduled resources are not below it, where it is 10 two are not; what
+    // is left is none, or 0, 9 and none.
+    assert_eq!(comparison.refused(17), 3 * 2 * (4 + 2) * 3 * 8 * replies);
+    // Configuration 1 has windows of M = 2 and M = 1 here, in both modes, and 5 one of
+    // 9: not below M are five, six and three of the told positions, below it two, one
+    // and four.
+    assert_eq!(comparison.refused(11), 2 * (1 + 3) * (2 * (5 + 6) + 3) * replies);
+    assert_eq!(comparison.refused(18), 2 * (1 + 1) * (2 * (2 + 1) + 4) * replies);
 }
 
 /// The order with 17 directly behind 6 and 18 directly behind 12, written out by
 /// hand: of a reading all causes are met, and one after another is put right.
 #[test]
 fn later_numbers_in_their_place() {
-    let all = Settings { config: 7, nrb: 5, n1: 2048, mode: 2, blocks: 0, scheduled: 65534 };
+    let all = Settings::plain(7, 5, 2048, 2, 0).with_scheduled(65534);
     let nrb = Settings { config: 5, ..all };
     let n1 = Settings { nrb: 6, ..nrb };
     let mode = Settings { n1: 2047, ..n1 };
