@@ -1,7 +1,7 @@
 /*
- * A worked cell in three parts: a station that sends grants and reads the replies, a radio that
- * loses grants on the way to the handset, and a check that sees both. A line for each window; it
- * fails if a block leaves the station's retransmission buffer undecoded.
+ * A worked cell in three parts: a station that sends grants, scheduled blocks and releases and
+ * reads the replies, a radio that loses some on the way to the handset, and a check that sees both.
+ * A line for each window; it fails if a block leaves the station's retransmission buffer undecoded.
  *   cc -std=c11 -I include -o cell examples/cell.c target/staticlib/libfeedback.a
  *   ./cell 5 0 40 50 7   configuration 5, mode 0 (bundling), 40 frames, 50 % lost, seed 7
  */
@@ -13,10 +13,10 @@
 /* The runs: each configuration in each mode it has. Arguments replace the numbers of the first. */
 enum { CONFIG, MODE, FRAMES, LOSS, SEED, ARGUMENTS };
 static uint16_t runs[][ARGUMENTS] = {
-    {0, 0, 2, 30, 689},  {0, 1, 2, 30, 689},  {1, 0, 2, 30, 802},     {1, 1, 2, 30, 802},
-    {2, 0, 4, 30, 257},  {2, 1, 4, 30, 257},  {3, 0, 3, 30, 105},     {3, 1, 3, 30, 105},
-    {4, 0, 4, 30, 1068}, {4, 1, 4, 30, 1068}, {5, 0, 10, 50, 33323},
-    {6, 0, 2, 30, 1276}, {6, 1, 2, 30, 1276},
+    {0, 0, 2, 30, 230},  {0, 1, 2, 30, 230},  {1, 0, 2, 30, 16},      {1, 1, 2, 30, 16},
+    {2, 0, 4, 30, 1021}, {2, 1, 4, 30, 1021}, {3, 0, 3, 30, 102},     {3, 1, 3, 30, 102},
+    {4, 0, 4, 30, 372},  {4, 1, 4, 30, 372},  {5, 0, 10, 50, 17369},
+    {6, 0, 2, 30, 657},  {6, 1, 2, 30, 657},
 };
 
 /* A number below the limit; the same seed gives the same numbers. */
@@ -37,13 +37,16 @@ static void accepted(uint16_t refusal)
 
 /* ==== The station. It knows what it sent and what it reads, and nothing of what was heard. ==== */
 
-struct grant {
-    uint16_t blocks, cce, dai; /* transport blocks carried, 0 for no grant; first CCE; DAI */
+/* What is sent in a subframe. A scheduled block has no CCE and no DAI, a release has no blocks. */
+struct sent {
+    uint16_t kind;             /* one of enum feedback_slot_kind */
+    uint16_t blocks, cce, dai; /* transport blocks carried; first CCE; DAI */
 };
 
 struct window {
-    struct feedback_window_answer table;     /* M, K and the time order of K */
-    struct grant sent[FEEDBACK_WINDOW_MOST]; /* by position */
+    struct feedback_window_answer table;    /* M, K and the time order of K */
+    struct sent sent[FEEDBACK_WINDOW_MOST]; /* by position */
+    uint16_t scheduled;                     /* the scheduled block's position, or FEEDBACK_NONE */
     unsigned held; /* bit m: at position m a grant of the second handset was held back */
 };
 
@@ -52,6 +55,11 @@ struct station {
     uint32_t random;
     struct window window[16]; /* the one answered in subframe s of the run is window[s % 16] */
 };
+
+static bool is_pdcch(struct sent sent)
+{
+    return sent.kind == FEEDBACK_SLOT_GRANT || sent.kind == FEEDBACK_SLOT_RELEASE;
+}
 
 /* Holds grants back until no two share a PUCCH resource. Bit m of the answer: one at position m. */
 static unsigned hold_back(const struct station *station, uint16_t n, uint16_t *claims, size_t count)
@@ -69,24 +77,33 @@ static unsigned hold_back(const struct station *station, uint16_t n, uint16_t *c
 }
 
 /*
- * The grants of the window answered in n, checked before any of them is sent. There is a second
- * handset, of which only the grants count here. They come last in the list of claims, so it is
- * they that are held back. A PDCCH has four CCEs; with 50 resource blocks there are 61.
+ * What is sent in the window answered in n, checked before any of it is sent. All is drawn by lot,
+ * a scheduled block, which has no DAI and no claim, and releases too. There is a second handset, of
+ * which only the grants count here. They come last in the list of claims, so it is they that are
+ * held back. A PDCCH has four CCEs; with 50 resource blocks there are 61.
  */
 static struct window plan(struct station *station, uint16_t n)
 {
     struct window window = {.table = feedback_window(station->settings, n)};
     accepted(window.table.refusal);
-    uint16_t claims[2 * FEEDBACK_WINDOW_MOST];
+    uint16_t claims[2 * FEEDBACK_WINDOW_MOST], due = draw(&station->random, 2u * window.table.size);
     size_t count = 0;
+    window.scheduled = due < window.table.size ? due : FEEDBACK_NONE;
     for (unsigned i = 0; i < window.table.size; i++) {
-        unsigned m = window.table.order[i];
-        if (draw(&station->random, 100) < 25)
-            continue; /* no grant there */
-        window.sent[m].blocks = (uint16_t)(1 + draw(&station->random, 2));
-        window.sent[m].cce = (uint16_t)(4 * draw(&station->random, 16));
-        window.sent[m].dai = (uint16_t)(count % 4 + 1); /* count grants came before */
-        claims[count++] = FEEDBACK_CLAIM(m, window.sent[m].cce);
+        unsigned m = window.table.order[i], lot = draw(&station->random, 8);
+        struct sent *sent = &window.sent[m];
+        uint16_t blocks = (uint16_t)(1 + draw(&station->random, 2));
+        if (m == window.scheduled)
+            *sent = (struct sent){.kind = FEEDBACK_SLOT_SCHEDULED, .blocks = blocks};
+        else if (lot < 5)
+            *sent = (struct sent){.kind = FEEDBACK_SLOT_GRANT, .blocks = blocks};
+        else if (lot == 5)
+            *sent = (struct sent){.kind = FEEDBACK_SLOT_RELEASE};
+        if (!is_pdcch(*sent))
+            continue; /* no PDCCH there */
+        sent->cce = (uint16_t)(4 * draw(&station->random, 16));
+        sent->dai = (uint16_t)(count % 4 + 1); /* count PDCCHs came before */
+        claims[count++] = FEEDBACK_CLAIM(m, sent->cce);
     }
     for (unsigned m = 0; m < window.table.size; m++)
         if (draw(&station->random, 100) < 50)
@@ -96,11 +113,11 @@ static struct window plan(struct station *station, uint16_t n)
 }
 
 /* What the station sends in subframe s. A window is planned whole in its first subframe. */
-static struct grant send_in(struct station *station, unsigned s)
+static struct sent send_in(struct station *station, unsigned s)
 {
     struct feedback_answered_answer by = feedback_answered(station->settings, (uint16_t)(s % 10));
     if (by.refusal == FEEDBACK_REFUSED_SUBFRAME)
-        return (struct grant){0}; /* an uplink subframe */
+        return (struct sent){0}; /* an uplink subframe */
     accepted(by.refusal);
     struct window *window = &station->window[(s + by.k) % 16];
     if (feedback_window(station->settings, by.n).order[0] == by.position)
@@ -108,42 +125,41 @@ static struct grant send_in(struct station *station, unsigned s)
     return window->sent[by.position];
 }
 
-/* The station's reading of a reply in subframe s. */
-static struct feedback_reading_answer read_in(const struct station *station, unsigned s,
-                                              uint16_t resource, uint16_t b0, uint16_t b1)
-{
-    return feedback_reading(station->settings, (uint16_t)(s % 10), resource, b0, b1);
-}
-
-/* How many grants were sent in the window up to and with position m; time order is k falling. */
+/* How many PDCCHs were sent in the window up to and with position m; time order is k falling. */
 static unsigned sent_up_to(const struct window *window, unsigned m)
 {
-    unsigned grants = 0;
+    unsigned pdcchs = 0;
     for (unsigned i = 0; i < window->table.size; i++)
-        grants += window->table.k[i] >= window->table.k[m] && window->sent[i].blocks > 0;
-    return grants;
+        pdcchs += window->table.k[i] >= window->table.k[m] && is_pdcch(window->sent[i]);
+    return pdcchs;
 }
 
 /*
  * Whether block 0 or 1 at position m leaves the retransmission buffer: `confirmed` of
  * crates/confirmation/specs/Confirmed.antt. It is proved that each such block was decoded.
- * Nothing leaves where what the reading names was not sent. A bundled ACK speaks of the grants
- * HEARD and names the last of them. If at most four were sent up to and with it, none of these
- * was lost: the DAI would have shown it and the handset kept silent. If more were sent, four or
- * eight may be lost unnoticed, where the DAI comes round to the same value; then the ACK is sure
- * for the named one alone. A sole block counts for both bits, so either will do.
+ * Nothing leaves where what the reading names was not sent. A bundled ACK speaks of what was
+ * HEARD and names the last PDCCH of it. If at most four were sent up to and with that one,
+ * releases counted, none of these was lost: the DAI would have shown it and the handset kept
+ * silent. If more were sent, four or eight may be lost unnoticed, where the DAI comes round to the
+ * same value; then the ACK is sure for the named one alone. No DAI counts a scheduled block, so it
+ * may be lost unnoticed: the ACK is sure for it only where it is named itself, and then nothing
+ * else was heard. A sole block counts for both bits, so either will do.
  */
 static bool leaves(const struct window *window, struct feedback_reading_answer reading, unsigned m,
                    unsigned block)
 {
     const uint16_t named = reading.position, *k = window->table.k;
-    const struct grant *sent = window->sent;
-    if (reading.refusal != 0 || sent[named].blocks == 0 || sent[named].cce != reading.cce)
-        return false; /* nothing like that was sent */
+    const struct sent *sent = window->sent;
+    bool was_sent = reading.scheduled ? named == window->scheduled
+                                      : is_pdcch(sent[named]) && sent[named].cce == reading.cce;
+    if (reading.refusal != 0 || !was_sent)
+        return false;
     if (block >= sent[m].blocks)
         return false; /* no such block */
     if (reading.kind == FEEDBACK_KIND_MULTIPLEXED)
         return reading.delivered >> m & 1;
+    if (m != named && (reading.scheduled || m == window->scheduled))
+        return false; /* a scheduled block goes by itself */
     if (m != named && (k[m] < k[named] || sent_up_to(window, named) > 4))
         return false; /* sent later, or not surely heard */
     if (sent[m].blocks == 1)
@@ -151,30 +167,60 @@ static bool leaves(const struct window *window, struct feedback_reading_answer r
     return block == 0 ? reading.b0 : reading.b1;
 }
 
+/* What the station makes of a reply: its reading, and the blocks that leave the buffer. */
+struct verdict {
+    struct feedback_reading_answer reading;
+    unsigned left[2]; /* bit m of left[0]: the first block at position m; of left[1]: the second */
+};
+
+/* A reply in subframe s is read; the call is told where a scheduled block was sent. */
+static struct verdict conclude(const struct station *station, unsigned s, uint16_t resource,
+                               uint16_t b0, uint16_t b1)
+{
+    const struct window *window = &station->window[s % 16];
+    struct verdict verdict = {.reading = feedback_reading(station->settings, (uint16_t)(s % 10),
+                                                          window->scheduled, resource, b0, b1)};
+    accepted(verdict.reading.refusal);
+    for (unsigned i = 0; i < 2u * window->table.size; i++)
+        verdict.left[i % 2] |= (unsigned)leaves(window, verdict.reading, i / 2, i % 2) << i / 2;
+    return verdict;
+}
+
 /* ==== The radio and the handset. What was lost and what was decoded is known here alone. ==== */
 
 struct radio {
     struct feedback_handset handset;
     uint32_t random;
-    unsigned loss;     /* per cent of the grants */
+    unsigned loss;     /* per cent of what is sent */
     char marks[16][3]; /* of the blocks sent in s, at s % 16: ? lost, x undecoded, + decoded */
 };
 
 /* The handset in subframe s: it takes what it hears, or says what it sends. */
-static struct feedback_fed receive_in(struct radio *radio, unsigned s, struct grant grant)
+static struct feedback_fed receive_in(struct radio *radio, unsigned s, struct sent sent)
 {
     char *marks = radio->marks[s % 16];
     bool lost = draw(&radio->random, 100) < radio->loss;
     for (unsigned i = 0; i < 2; i++) {
         bool failed = draw(&radio->random, 100) < 15;
-        marks[i] = i >= grant.blocks ? '\0' : lost ? '?' : failed ? 'x' : '+';
+        marks[i] = i >= sent.blocks ? '\0' : lost ? '?' : failed ? 'x' : '+';
     }
+    if (sent.kind == FEEDBACK_SLOT_RELEASE && lost)
+        marks[0] = '?';
+    uint16_t first = marks[0] == '+', second = marks[1] == '+';
     struct feedback_fed fed;
-    if (lost || grant.blocks == 0)
+    switch (lost ? FEEDBACK_SLOT_NOTHING : sent.kind) {
+    case FEEDBACK_SLOT_GRANT:
+        fed = feedback_feed_grant(radio->handset, sent.blocks, first, second, sent.cce, sent.dai);
+        break;
+    case FEEDBACK_SLOT_SCHEDULED:
+        fed = feedback_feed_scheduled(radio->handset, sent.blocks, first, second);
+        break;
+    case FEEDBACK_SLOT_RELEASE:
+        fed = feedback_feed_release(radio->handset, sent.cce, sent.dai);
+        break;
+    default:
         fed = feedback_feed_nothing(radio->handset);
-    else
-        fed = feedback_feed_grant(radio->handset, grant.blocks, marks[0] == '+', marks[1] == '+',
-                                  grant.cce, grant.dai);
+    }
     accepted(fed.refusal);
     radio->handset = fed.handset;
     return fed;
@@ -186,34 +232,37 @@ struct tally {
     unsigned sent, left, undecoded; /* blocks */
 };
 
-static void check(struct tally *tally, const struct station *station, const struct radio *radio,
-                  unsigned s, struct feedback_fed fed, int width)
+static void check(struct tally *tally, const struct window *window, const struct radio *radio,
+                  unsigned s, struct feedback_fed fed, struct verdict verdict, int width)
 {
     static const char *const acks[] = {"NACK NACK", "NACK ACK", "ACK NACK", "ACK ACK"};
-    const struct window *window = &station->window[s % 16];
+    static const char *const kinds[] = {"-", "", "s", "r"}; /* by enum feedback_slot_kind */
     const struct feedback_window_answer *table = &window->table;
+    const struct feedback_reading_answer reading = verdict.reading;
     printf("%5u.%u |", s / 10, s % 10);
     for (unsigned i = 0; i < table->size; i++) {
         unsigned m = table->order[i], at = s - table->k[m];
-        width -= printf(" %u%c%-3s", at % 10, window->held >> m & 1 ? '!' : ':',
-                        window->sent[m].blocks > 0 ? radio->marks[at % 16] : "-");
+        const char *kind = kinds[window->sent[m].kind];
+        width -= printf(" %u%c%s%-*s", at % 10, window->held >> m & 1 ? '!' : ':', kind,
+                        *kind == '\0' ? 3 : 2, radio->marks[at % 16]);
         tally->sent += window->sent[m].blocks;
     }
     if (fed.kind == FEEDBACK_KIND_SILENT) {
         printf("%*s| silent\n", width, "");
         return;
     }
-    struct feedback_reading_answer reading = read_in(station, s, fed.resource, fed.b0, fed.b1);
-    accepted(reading.refusal);
-    printf("%*s| bits %u%u on %-3u | %u CCE %-2u %-9s |", width, "", fed.b0, fed.b1, fed.resource,
-           (s - table->k[reading.position]) % 10, reading.cce,
+    char name[12] = "block";
+    if (!reading.scheduled)
+        snprintf(name, sizeof name, "CCE %u", reading.cce);
+    printf("%*s| bits %u%u on %-3u | %u %-6s %-9s |", width, "", fed.b0, fed.b1, fed.resource,
+           (s - table->k[reading.position]) % 10, name,
            reading.kind == FEEDBACK_KIND_BUNDLED ? acks[2 * reading.b0 + reading.b1]
            : reading.delivered != 0              ? "delivered"
                                                  : "none");
     for (unsigned i = 0; i < 2u * table->size; i++) {
         unsigned m = table->order[i / 2], at = s - table->k[m], block = i % 2;
         bool decoded = radio->marks[at % 16][block] == '+';
-        if (!leaves(window, reading, m, block))
+        if (!(verdict.left[block] >> m & 1))
             continue;
         printf(" %u%c%s", at % 10, "ab"[block], decoded ? "" : " UNDECODED");
         tally->left++;
@@ -226,21 +275,26 @@ static void check(struct tally *tally, const struct station *station, const stru
 static int run(const uint16_t number[ARGUMENTS])
 {
     struct feedback_settings settings = FEEDBACK_SETTINGS(number[CONFIG], 50, 10, number[MODE], 2);
+    settings.scheduled = 7; /* for the scheduled block, below N1 */
     struct feedback_made made = feedback_make(settings);
     accepted(made.refusal);
     struct station station = {.settings = settings, .random = number[SEED]};
     struct radio radio = {.handset = made.handset, .random = ~station.random, .loss = number[LOSS]};
     struct tally tally = {0};
     int width = number[CONFIG] == 5 ? 55 : 25; /* of nine subframes, or four */
-    printf("\nconfiguration %u, %s, %u frames, %u %% of the grants lost, seed %u\n"
+    printf("\nconfiguration %u, %s, %u frames, %u %% lost, seed %u\n"
            "frame.n |%-*s| reply          | reading            | blocks that leave the buffer\n",
            number[CONFIG], number[MODE] == 0 ? "bundling" : "multiplexing", number[FRAMES],
            number[LOSS], number[SEED], width, " subframes in time order");
     for (unsigned s = 0; s < number[FRAMES] * 10u; s++) {
         struct feedback_fed fed = receive_in(&radio, s, send_in(&station, s));
-        bool answers = fed.kind != FEEDBACK_KIND_TAKEN && fed.kind != FEEDBACK_KIND_NO_WINDOW;
-        if (answers && station.window[s % 16].table.size > 0) /* else begun before the run */
-            check(&tally, &station, &radio, s, fed, width);
+        struct verdict verdict = {0};
+        if (fed.kind == FEEDBACK_KIND_TAKEN || fed.kind == FEEDBACK_KIND_NO_WINDOW ||
+            station.window[s % 16].table.size == 0) /* a window that began before the run */
+            continue;
+        if (fed.kind != FEEDBACK_KIND_SILENT) /* the reply comes in at the station */
+            verdict = conclude(&station, s, fed.resource, fed.b0, fed.b1);
+        check(&tally, &station.window[s % 16], &radio, s, fed, verdict, width);
     }
     printf("of %u blocks %u left the buffer, %u of them undecoded\n", tally.sent, tally.left,
            tally.undecoded);
@@ -260,9 +314,10 @@ int main(int argc, char **argv)
         }
         runs[0][i - 1] = (uint16_t)value;
     }
-    puts("Blocks a and b of a subframe: + decoded, x heard but not decoded, ? lost; - no grant.\n"
+    puts("Blocks a and b of a subframe: + decoded, x heard but not decoded, ? lost; - none sent.\n"
+         "s: they are scheduled, with no PDCCH. r: a release, which has no blocks; r? lost.\n"
          "! a grant of the second handset was held back: it would have shared the resource.\n"
-         "Reply: bits on a PUCCH resource. Reading: the grant named, by subframe and first CCE.");
+         "Reply: bits on a PUCCH resource. Reading: the PDCCH named, or the scheduled block.");
     int status = 0;
     for (size_t i = 0; i < (argc > 1 ? 1 : sizeof runs / sizeof *runs); i++)
         status |= run(runs[i]);

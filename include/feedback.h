@@ -1,18 +1,20 @@
 /*
  * feedback.h: HARQ-ACK feedback for TDD LTE on PUCCH, both ends
  *
- * The handset end hears grants and says what to send on PUCCH. The station end
- * reads what came in on PUCCH and says which grants are acknowledged. The rules
- * are those of 3GPP TS 36.213 version 9.3.0 (Release 9), sections 7.3 and 10.1,
- * for one serving cell with normal dynamic grants and PUCCH formats 1a, 1b and
- * 1b with channel selection. Link with libfeedback.a, which is built for x86-64
- * with the System V calling convention. For C99 and C++98 and all later.
+ * The handset end hears grants, scheduled blocks and releases and says what to
+ * send on PUCCH. The station end reads what came in on PUCCH and says what is
+ * acknowledged. The rules are those of 3GPP TS 36.213 version 9.3.0 (Release 9),
+ * sections 7.3 and 10.1, for one serving cell with dynamic grants and
+ * semi-persistent scheduling, and PUCCH formats 1a, 1b and 1b with channel
+ * selection. Link with libfeedback.a, which is built for x86-64 with the System V
+ * calling convention. For C99 and C++98 and all later.
  *
  *   calls of both ends      feedback_window, feedback_answered
  *   calls of the station    feedback_resource, feedback_inverse,
  *                           feedback_reading, feedback_claims
  *   calls of the handset    feedback_make, feedback_feed_nothing,
- *                           feedback_feed_grant
+ *                           feedback_feed_grant, feedback_feed_scheduled,
+ *                           feedback_feed_release
  *
  * feedback_text.h has the refusals and the kinds as sentences for a log.
  * examples/cell.c runs both ends against each other.
@@ -25,6 +27,13 @@
  *             which the reply is sent.
  * grant       a PDCCH that schedules one or two transport blocks in its own
  *             subframe. Its first CCE and its DAI come with it.
+ * scheduled   one or two transport blocks that come on a schedule (semi-persistent
+ * block       scheduling) with no PDCCH, so with no first CCE and no DAI. A station
+ *             sends a handset at most one scheduled block in a window.
+ * release     a PDCCH that releases the schedule. It has a first CCE and a DAI, and
+ *             carries no transport block. A release that is heard counts as a grant
+ *             that decoded everything.
+ * PDCCH       from here on, a grant or a release.
  * window      the M downlink subframes n - k_0, n - k_1, .. that are answered in
  *             n, modulo 10 in the frame. K = k_0, k_1, .. is printed in Table
  *             10.1-1; an uplink subframe that is not in it has no window. Each
@@ -45,30 +54,39 @@
  *             position need not be the latest subframe. In 8,7,4,6 the latest is
  *             m = 2. Time order inside a window is k falling; feedback_window
  *             gives it too.
- * first CCE   the number of the first CCE of the PDCCH that carried the grant,
- *             0 to N_4 - 1.
+ * first CCE   the number of the first CCE of a PDCCH, 0 to N_4 - 1.
  * N_p         max(0, floor(N_RB * (12 * p - 4) / 36)), p 0 to 4. A first CCE c
  *             is in the region p with N_p <= c < N_(p+1).
- * resource    the number of the PUCCH resource on which a reply is sent:
- *             (M - m - 1) * N_p + m * N_(p+1) + c + N1. In each window the pairs
- *             of position and first CCE and the resources N1 to
- *             N1 + M * N_4 - 1 belong to each other one to one.
- * DAI         1 to 4, counts the grants of a window: the j-th grant that the
+ * resource    the number of the PUCCH resource on which a reply is sent. That of a
+ *             PDCCH is (M - m - 1) * N_p + m * N_(p+1) + c + N1. In each window
+ *             the pairs of position and first CCE and the resources N1 to
+ *             N1 + M * N_4 - 1 belong to each other one to one. That of a
+ *             scheduled block is the setting scheduled, below N1, which is no
+ *             PDCCH's.
+ * DAI         1 to 4, counts the PDCCHs of a window: the j-th PDCCH that the
  *             station sends in a window, in time order, carries
- *             ((j - 1) mod 4) + 1. Grants that get lost are counted too.
+ *             ((j - 1) mod 4) + 1. Those that get lost are counted too; a
+ *             scheduled block is not.
  * bundled     one reply for the window, in mode 0, and in mode 1 where M = 1.
- *             The handset is silent if it heard no grant. In configurations 1 to
- *             6 it is silent too if the DAI of the last grant heard, V, shows a
- *             miss: V is not ((U - 1) mod 4) + 1, where U grants were heard.
- *             Else a block's bit is ACK (1) if every grant heard decoded that
- *             block, and the resource is that of the last grant heard, last in
- *             time. One bit (format 1a) where the setting blocks is 1, two (1b)
- *             where it is 2. There a grant with one block answers for both bits.
+ *             The handset is silent if it heard nothing. In configurations 1 to
+ *             6 it is silent too if the DAI of the last PDCCH heard, V, shows a
+ *             miss: V is not ((U - 1) mod 4) + 1, where U PDCCHs were heard. A
+ *             scheduled block counts neither in U nor in V; where a miss is
+ *             shown, it goes unanswered too. Else a block's bit is ACK (1) if
+ *             every grant heard, and the scheduled block if heard, decoded that
+ *             block; a release counts as decoded. The resource is that of the
+ *             last PDCCH heard, last in time, though the scheduled block may be
+ *             later. Where the scheduled block is the only thing heard, however
+ *             many PDCCHs were lost, it is answered on its own resource. One bit
+ *             (format 1a) where the setting blocks is 1, two (1b) where it is 2.
+ *             There a grant or scheduled block with one block answers for both
+ *             bits.
  * multiplexed in mode 1 where M is 2 to 4. Each position is A (heard, every
- *             block carried was decoded), N (heard, not so) or D (not heard).
- *             Tables 10.1-2 to 10.1-4 give a position i and two bits for the
- *             states of the M positions; the reply is sent on the resource of
- *             position i, which was always heard. All D is silent.
+ *             block carried was decoded; a release is A), N (heard, not so) or D
+ *             (not heard). Tables 10.1-2 to 10.1-4 give a position i and two bits
+ *             for the states of the M positions; the reply is sent on the resource
+ *             of position i, which was always heard: that of its PDCCH or of its
+ *             scheduled block. All D is silent.
  *
  *
  * NUMBERS
@@ -100,6 +118,8 @@
  *             feedback_make           64
  *             feedback_feed_nothing   4096
  *             feedback_feed_grant     1024
+ *             feedback_feed_scheduled 1024
+ *             feedback_feed_release   1024
  *
  * Of the C library the calls use memset and nothing else.
  */
@@ -114,14 +134,20 @@
 #include <stdint.h>
 
 /* This header's version: major * 10000 + minor * 100 + patch, and the same as text. */
-#define FEEDBACK_VERSION 10000
-#define FEEDBACK_VERSION_TEXT "1.0.0"
+#define FEEDBACK_VERSION 20000
+#define FEEDBACK_VERSION_TEXT "2.0.0"
 
 #define FEEDBACK_WINDOW_MOST 9     /* the most subframes of a window: M in configuration 5 */
 #define FEEDBACK_MEMORY 13         /* the subframes that a handset remembers: the greatest k */
 #define FEEDBACK_SCRATCH_MOST 1206 /* the most scratch that feedback_claims needs: 9 * 134 */
 
-/* Before a call whose answer must not be dropped: with a feed's the grant would be lost. */
+/*
+ * None: as the setting scheduled, that no resource is set for scheduled blocks; as the
+ * scheduled position of feedback_reading, that no scheduled block was sent.
+ */
+#define FEEDBACK_NONE 65535
+
+/* Before a call whose answer must not be dropped: a feed's has the next handset. */
 #if defined(__cplusplus) && __cplusplus >= 201703L
 #define FEEDBACK_MUST_USE [[nodiscard]]
 #elif defined(__STDC_VERSION__) && __STDC_VERSION__ >= 202311L
@@ -138,11 +164,11 @@ extern "C" {
 
 /*
  * Why a call refuses: the value of refusal in every answer, 0 for no refusal. Each
- * call names the refusals it can give. Where several causes are met, the lowest
- * number is given. A refused call changes nothing: no buffer is written, no state
- * moves on, nothing is made. Beside a refusal every other number of the answer is
- * 0, with two exceptions: a feed gives back the handset as it was, and 16 comes
- * with an index.
+ * call names the refusals it can give. Where several causes are met, the first in
+ * this order is given: 1 to 6, 17, 7, 8, 9, 10, 11, 12, 18, 13, 14, 15, 16. A refused
+ * call changes nothing: no buffer is written, no state moves on, nothing is made.
+ * Beside a refusal every other number of the answer is 0, with two exceptions: a feed
+ * gives back the handset as it was, and 16 comes with an index.
  */
 enum feedback_refusal {
     FEEDBACK_NOT_REFUSED = 0,
@@ -155,20 +181,28 @@ enum feedback_refusal {
     FEEDBACK_REFUSED_SUBFRAME = 7,      /* subframe over 9 or without a window; in
                                            feedback_answered an uplink subframe, which lies in no
                                            window, or one over 9 */
-    FEEDBACK_REFUSED_STATE = 8,         /* lent state fails 1 to 6, expects a subframe over 9, or
-                                           remembers a grant failing 9 to 12 there, in the
-                                           subframe that brought it; also a remembered kind that
-                                           is not in enum feedback_slot_kind */
-    FEEDBACK_REFUSED_UPLINK = 9,        /* grant in an uplink subframe */
+    FEEDBACK_REFUSED_STATE = 8,         /* lent state fails 1 to 6 or 17, expects a subframe over
+                                           9, or remembers what fails 9 to 12 or 18 there, in the
+                                           subframe that brought it (so two scheduled blocks of
+                                           one window too); also a remembered kind that is not in
+                                           enum feedback_slot_kind */
+    FEEDBACK_REFUSED_UPLINK = 9,        /* grant, scheduled block or release in an uplink
+                                           subframe */
     FEEDBACK_REFUSED_CARRIED = 10,      /* blocks carried 0 or over the setting */
     FEEDBACK_REFUSED_CCE = 11,          /* first CCE not below N_4 (also position not below M, in
-                                           feedback_resource) */
+                                           feedback_resource and told to feedback_reading) */
     FEEDBACK_REFUSED_DAI = 12,          /* DAI not 1 to 4 */
-    FEEDBACK_REFUSED_RESOURCE = 13,     /* resource below N1 or above N1 + M * N_4 - 1 */
+    FEEDBACK_REFUSED_RESOURCE = 13,     /* resource below N1 or above N1 + M * N_4 - 1 (but not
+                                           the scheduled resource, in feedback_reading where a
+                                           scheduled position is told) */
     FEEDBACK_REFUSED_BITS = 14,         /* bit over 1, second bit set in a one-bit reply, or a
                                            symbol in no row of Tables 10.1-2 to 10.1-4 */
     FEEDBACK_REFUSED_SCRATCH = 15,      /* scratch shorter than M * N_4 */
-    FEEDBACK_REFUSED_CLAIM = 16         /* claim with m not below M or CCE not below N_4 */
+    FEEDBACK_REFUSED_CLAIM = 16,        /* claim with m not below M or CCE not below N_4 */
+    FEEDBACK_REFUSED_SCHEDULED_RESOURCE = 17, /* scheduled resource set and not below N1 */
+    FEEDBACK_REFUSED_SCHEDULED = 18     /* scheduled block with no scheduled resource set, or a
+                                           second one heard in one window; in feedback_reading a
+                                           scheduled position told with no resource set */
 };
 
 /* The kind of a feed's answer, and of a reading (there 0, 1 or 2). */
@@ -197,35 +231,42 @@ enum feedback_mode {
 /* What a remembered subframe brought, as in feedback_slot: the kinds, and the bits of results. */
 enum feedback_slot_kind {
     FEEDBACK_SLOT_NOTHING = 0,
-    FEEDBACK_SLOT_GRANT = 1
+    FEEDBACK_SLOT_GRANT = 1,
+    FEEDBACK_SLOT_SCHEDULED = 2, /* a scheduled block */
+    FEEDBACK_SLOT_RELEASE = 3
 };
 enum feedback_slot_results {
     FEEDBACK_FIRST_DECODED = 1,  /* the first block, or the only one, was decoded */
     FEEDBACK_SECOND_DECODED = 2, /* the second block was decoded */
-    FEEDBACK_TWO_CARRIED = 4     /* the grant carried two blocks, else one */
+    FEEDBACK_TWO_CARRIED = 4     /* two blocks were carried, else one */
 };
 
 /*
- * The settings of a handset in a cell. 10 bytes. config, nrb and n1 are the cell's,
- * the same for all its handsets; mode and blocks are the handset's own, set by
- * higher layers for each, and its replies are read with them. Every call that takes
- * settings refuses 1 to 6 for them; feedback_window, feedback_answered,
- * feedback_resource, feedback_inverse and feedback_claims ask no more of mode and
- * blocks than that, and answer alike for all handsets of a cell.
+ * The settings of a handset in a cell. 12 bytes. config, nrb and n1 are the cell's,
+ * the same for all its handsets; mode, blocks and scheduled are the handset's own,
+ * set by higher layers for each, and its replies are read with them. Every call that
+ * takes settings refuses 1 to 6 and 17 for them; feedback_window, feedback_answered,
+ * feedback_resource, feedback_inverse and feedback_claims ask no more of mode, blocks
+ * and scheduled than that, and answer alike for all handsets of a cell.
  *
- * FEEDBACK_SETTINGS, below, fills these fields and those that a later version adds.
+ * FEEDBACK_SETTINGS, below, fills the first five and sets scheduled to FEEDBACK_NONE;
+ * where a scheduled resource is configured, write it into the field afterwards. Those
+ * that a later version adds it fills too.
  */
 struct feedback_settings {
-    uint16_t config; /* uplink-downlink configuration, 0 to 6 */
-    uint16_t nrb;    /* bandwidth N_RB in resource blocks, 6 to 110 */
-    uint16_t n1;     /* N1, the higher-layer N_PUCCH^(1), 0 to 2047 */
-    uint16_t mode;   /* 0 bundling, 1 multiplexing; configuration 5 has no multiplexing */
-    uint16_t blocks; /* the most transport blocks one grant may carry, 1 or 2 */
+    uint16_t config;    /* uplink-downlink configuration, 0 to 6 */
+    uint16_t nrb;       /* bandwidth N_RB in resource blocks, 6 to 110 */
+    uint16_t n1;        /* N1, the higher-layer N_PUCCH^(1), 0 to 2047 */
+    uint16_t mode;      /* 0 bundling, 1 multiplexing; configuration 5 has no multiplexing */
+    uint16_t blocks;    /* the most transport blocks of one grant or scheduled block, 1 or 2 */
+    uint16_t scheduled; /* the PUCCH resource that higher layers configure for scheduled blocks,
+                           below N1, or FEEDBACK_NONE: none is set. A field left 0 is resource 0,
+                           and not "none"; where N1 is 0 it is refused 17 */
 };
 
 /* The answer of feedback_window. 40 bytes. */
 struct feedback_window_answer {
-    uint16_t refusal;                     /* 0, or 1 to 7 */
+    uint16_t refusal;                     /* 0, or 1 to 7 or 17 */
     uint16_t size;                        /* M, 1 to 9; 0 if refused */
     uint16_t k[FEEDBACK_WINDOW_MOST];     /* k_0 to k_(M-1), K as printed; 0 from M on */
     uint16_t order[FEEDBACK_WINDOW_MOST]; /* the positions 0 to M - 1 in time order, the earliest
@@ -234,7 +275,7 @@ struct feedback_window_answer {
 
 /* The answer of feedback_answered. 8 bytes. */
 struct feedback_answered_answer {
-    uint16_t refusal;  /* 0, or 1 to 7 */
+    uint16_t refusal;  /* 0, or 1 to 7 or 17 */
     uint16_t n;        /* the uplink subframe that answers; 0 if refused */
     uint16_t k;        /* how many subframes later that is, 4 to 13; 0 if refused */
     uint16_t position; /* the position m in the window of n, 0 to M - 1; 0 if refused */
@@ -242,33 +283,36 @@ struct feedback_answered_answer {
 
 /* The answer of feedback_resource. 4 bytes. */
 struct feedback_resource_answer {
-    uint16_t refusal;  /* 0, or 1 to 7 or 11 */
+    uint16_t refusal;  /* 0, or 1 to 7, 11 or 17 */
     uint16_t resource; /* the PUCCH resource, N1 to N1 + M * N_4 - 1; 0 if refused */
 };
 
 /* The answer of feedback_inverse. 6 bytes. */
 struct feedback_inverse_answer {
-    uint16_t refusal;  /* 0, or 1 to 7 or 13 */
+    uint16_t refusal;  /* 0, or 1 to 7, 13 or 17 */
     uint16_t position; /* the position m in the window, 0 to M - 1; 0 if refused */
     uint16_t cce;      /* the first CCE, 0 to N_4 - 1; 0 if refused */
 };
 
-/* The answer of feedback_reading. 14 bytes. */
+/* The answer of feedback_reading. 16 bytes. */
 struct feedback_reading_answer {
-    uint16_t refusal;   /* 0, or 1 to 7, 13 or 14 */
+    uint16_t refusal;   /* 0, or 1 to 7, 11, 13, 14, 17 or 18 */
     uint16_t kind;      /* FEEDBACK_KIND_BUNDLED or FEEDBACK_KIND_MULTIPLEXED; 0 if refused */
-    uint16_t position;  /* the position m of the grant whose resource this is; 0 if refused */
-    uint16_t cce;       /* the first CCE of that grant; 0 if refused */
+    uint16_t position;  /* the position m of the PDCCH or scheduled block whose resource this is;
+                           0 if refused */
+    uint16_t cce;       /* the first CCE of that PDCCH; 0 if it is a scheduled block, or refused */
     uint16_t b0;        /* bundled: 1 ACK of the first block, 0 NACK; else 0 */
     uint16_t b1;        /* bundled: 1 ACK of the second block, 0 NACK, and 0 in a one-bit
                            reply; else 0 */
     uint16_t delivered; /* multiplexed: bit p (value 1 << p) is 1 if position p is delivered;
                            else 0 */
+    uint16_t scheduled; /* 1 if the reply is read as the scheduled block; 0 if as a PDCCH, or
+                           refused */
 };
 
 /* The answer of feedback_claims. 16 bytes. */
 struct feedback_claims_answer {
-    uint16_t refusal; /* 0, or 1 to 7, 15 or 16 */
+    uint16_t refusal; /* 0, or 1 to 7, 15, 16 or 17 */
     uint16_t kind;    /* FEEDBACK_CLAIMS_CLEAN or FEEDBACK_CLAIMS_CLASH; 0 if refused */
     uint64_t index;   /* clash: the index of the first claim that is equal to an earlier one;
                          refused 16: the index of the first bad claim; else 0 */
@@ -276,21 +320,25 @@ struct feedback_claims_answer {
 
 /* One remembered subframe. 4 bytes. */
 struct feedback_slot {
-    uint8_t kind;    /* FEEDBACK_SLOT_NOTHING or FEEDBACK_SLOT_GRANT */
-    uint8_t cce;     /* grant: its first CCE; nothing: no meaning */
-    uint8_t dai;     /* grant: its DAI, 1 to 4; nothing: no meaning */
-    uint8_t results; /* grant: bits of enum feedback_slot_results, other bits have no meaning;
-                        nothing: no meaning */
+    uint8_t kind;    /* one of enum feedback_slot_kind */
+    uint8_t cce;     /* grant, release: its first CCE; else no meaning */
+    uint8_t dai;     /* grant, release: its DAI, 1 to 4; else no meaning */
+    uint8_t results; /* grant, scheduled block: bits of enum feedback_slot_results, other bits
+                        have no meaning; else no meaning */
 };
 
 /*
- * The state of a handset. 64 bytes without padding.
+ * The state of a handset. 66 bytes without padding.
  *
  * feedback_make makes one, a feed takes one and gives back the next. It is plain
  * bytes: it may be copied, stored, and given back later, as often as you like,
  * on a machine of the same byte order. Other bytes may be given as well: a feed
- * then refuses 8, or answers as for the grants that these bytes say were heard.
- * Bytes and bits of a slot that have no meaning are carried along unchanged.
+ * then refuses 8, or answers as for what these bytes say was heard. Bytes and bits
+ * of a slot that have no meaning are carried along unchanged; a feed puts 0 into such
+ * bytes of the slot that it adds.
+ *
+ * A handset that was stored by a version before 2.0.0 has 64 bytes and another
+ * layout: it cannot be fed to this one. Make a fresh handset.
  */
 struct feedback_handset {
     struct feedback_settings settings;
@@ -298,16 +346,18 @@ struct feedback_handset {
     struct feedback_slot past[FEEDBACK_MEMORY]; /* the last 13 subframes, the newest first */
 };
 
-/* The answer of feedback_make. 66 bytes. */
+/* The answer of feedback_make. 68 bytes. */
 struct feedback_made {
-    uint16_t refusal;                /* 0, or 1 to 6 */
-    struct feedback_handset handset; /* the fresh handset; 64 zero bytes if refused, a state
+    uint16_t refusal;                /* 0, or 1 to 6 or 17 */
+    struct feedback_handset handset; /* the fresh handset; 66 zero bytes if refused, a state
                                         that every feed refuses with 8 */
 };
 
-/* The answer of a feed. 74 bytes. */
+/* The answer of a feed. 76 bytes. */
 struct feedback_fed {
-    uint16_t refusal;  /* 0, or 8 (feedback_feed_nothing), 8 to 12 (feedback_feed_grant) */
+    uint16_t refusal;  /* 0, or 8 (feedback_feed_nothing), 8 to 12 (feedback_feed_grant), 8, 9, 10
+                          or 18 (feedback_feed_scheduled), 8, 9, 11 or 12
+                          (feedback_feed_release) */
     uint16_t kind;     /* one of enum feedback_kind */
     uint16_t resource; /* bundled, multiplexed: the PUCCH resource to send on; else 0 */
     uint16_t b0;       /* bundled: 1 ACK of the first block, 0 NACK; multiplexed: b(0); else 0 */
@@ -325,14 +375,14 @@ struct feedback_fed {
  * Position order[0] has the earliest subframe, order[M - 1] the latest: with w the
  * answer, w.k[w.order[j]] falls as j rises.
  *
- * Refuses 1 to 7.
+ * Refuses 1 to 6, 17 and 7.
  */
 FEEDBACK_MUST_USE
 struct feedback_window_answer feedback_window(struct feedback_settings settings, uint16_t n);
 
 /*
  * The window that a downlink subframe is in: where and when it is answered. That is
- * what a station asks before it sends a grant there.
+ * what a station asks before it sends something there.
  *
  *   settings   the settings of the cell
  *   subframe   the downlink subframe, 0 to 9
@@ -340,37 +390,37 @@ struct feedback_window_answer feedback_window(struct feedback_settings settings,
  * The answer's n is (subframe + k) modulo 10, and the subframe has the answer's
  * position in the window of n. Each downlink subframe is in exactly one window.
  *
- * Refuses 1 to 7; 7 is an uplink subframe here, which lies in no window, or one
- * over 9.
+ * Refuses 1 to 6, 17 and 7; 7 is an uplink subframe here, which lies in no window,
+ * or one over 9.
  */
 FEEDBACK_MUST_USE
 struct feedback_answered_answer feedback_answered(struct feedback_settings settings,
                                                   uint16_t subframe);
 
 /*
- * The PUCCH resource that belongs to a grant.
+ * The PUCCH resource that belongs to a PDCCH, a grant or a release.
  *
  *   settings   the settings of the cell
  *   n          the uplink subframe of the reply, 0 to 9, one with a window
  *   position   the position m in the window of n of the subframe that carried
- *              the grant, 0 to M - 1
- *   cce        the first CCE of the grant, 0 to N_4 - 1
+ *              the PDCCH, 0 to M - 1
+ *   cce        the first CCE of the PDCCH, 0 to N_4 - 1
  *
- * Refuses 1 to 7 and 11.
+ * Refuses 1 to 6, 17, 7 and 11.
  */
 FEEDBACK_MUST_USE
 struct feedback_resource_answer feedback_resource(struct feedback_settings settings, uint16_t n,
                                                   uint16_t position, uint16_t cce);
 
 /*
- * The grant that a PUCCH resource belongs to: the way back from
- * feedback_resource.
+ * The PDCCH that a PUCCH resource belongs to: the way back from feedback_resource.
  *
  *   settings   the settings of the cell
  *   n          the uplink subframe of the reply, 0 to 9, one with a window
  *   resource   the PUCCH resource, N1 to N1 + M * N_4 - 1
  *
- * Refuses 1 to 7 and 13.
+ * Refuses 1 to 6, 17, 7 and 13; 13 also for the resource of scheduled blocks, which
+ * no PDCCH has.
  */
 FEEDBACK_MUST_USE
 struct feedback_inverse_answer feedback_inverse(struct feedback_settings settings, uint16_t n,
@@ -379,60 +429,79 @@ struct feedback_inverse_answer feedback_inverse(struct feedback_settings setting
 /*
  * What a reply on PUCCH says.
  *
- *   settings   the settings of the handset that replied
- *   n          the uplink subframe of the reply, 0 to 9, one with a window
- *   resource   the PUCCH resource on which the reply came
- *   b0, b1     its bits, each 0 or 1; in a one-bit reply (bundled, settings.blocks
- *              1) b1 is 0
+ *   settings             the settings of the handset that replied
+ *   n                    the uplink subframe of the reply, 0 to 9, one with a window
+ *   scheduled_position   the position m of the scheduled block that was SENT to this
+ *                        handset in the window of n, heard or not, 0 to M - 1;
+ *                        FEEDBACK_NONE where none was sent
+ *   resource             the PUCCH resource on which the reply came
+ *   b0, b1               its bits, each 0 or 1; in a one-bit reply (bundled,
+ *                        settings.blocks 1) b1 is 0
  *
- * The answer names a position and a first CCE: the grant whose resource this is.
+ * The answer says what the reply is read as. Where a scheduled position is told and
+ * the reply came on settings.scheduled, that is the scheduled block: scheduled is 1,
+ * position the one told, and cce 0. Else it is the PDCCH whose resource this is, even
+ * one at the position told: scheduled is 0, and the answer names its position and its
+ * first CCE.
  *
- * Bundled: that is the last grant the handset heard. A bit is ACK exactly when
- * every grant that the handset HEARD in this window decoded that block. A grant
- * with one block counts with it for both bits, so either ACK confirms it. With
- * DAIs by the rule above, grants sent before the last one heard can be lost
- * unnoticed, but then four or eight of them in all, where the DAI comes round to
- * the same value. So, if at most four grants of the window were sent up to and
- * with the one named here, all of these were heard and an ACK holds for all of
- * them. If more were sent, it is sure for the named grant alone. Grants sent
- * after it were lost.
+ * Bundled: the PDCCH named is the last one the handset heard; read as the scheduled
+ * block, no PDCCH was heard. A bit is ACK exactly when every grant that the handset
+ * HEARD in this window decoded that block, and the scheduled block too if it was
+ * heard. One that carries one block counts with it for both bits, so either ACK
+ * confirms it. With DAIs by the rule above, PDCCHs sent before the last one heard can
+ * be lost unnoticed, but then four or eight of them in all, where the DAI comes round
+ * to the same value. So, if at most four PDCCHs of the window were sent up to and with
+ * the one named here (releases counted, the scheduled block not), all of these were
+ * heard and an ACK holds for each grant of them. If more were sent, it is sure for the
+ * named one alone. PDCCHs sent after it were lost. Whether the scheduled block was
+ * heard, a reading as a PDCCH does not tell: an ACK is sure for it only where the
+ * reply is read as that block, and then for nothing else.
  *
  * Multiplexed: delivered has the positions that are A (every block carried was
  * decoded) in every state of the window that sends this symbol. Where states
  * share a symbol, a position that is A in only some of them is left out.
  *
  * A reading says what the resource and the bits mean; it does not know what was
- * sent. If the station sent this handset no grant with that first CCE at the
+ * sent. If the station sent this handset no PDCCH with that first CCE at the
  * position named, the reply is not this handset's, but a false alarm of the
  * receiver (or another handset's reply): the station confirms nothing by it, at any
  * position. So a scheduler may conclude this, from the window, what it sent there
- * and the reading alone. A block that it sent is confirmed if the grant named was
- * sent, at that position with that first CCE, and
+ * and the reading alone. A block that it sent is confirmed if what the reading names
+ * was sent, a PDCCH at that position with that first CCE or the scheduled block at
+ * that position, and
  *
- *   bundled       the block's grant is the one named, or was sent before it where
- *                 at most four of the window were sent up to and with the one
- *                 named; and b0 is 1 for a first block, b1 for a second one, either
- *                 of them for an only one
- *   multiplexed   the position of the block's grant is in delivered
+ *   bundled       read as a PDCCH: the block's grant is the one named, or was sent
+ *                 before it where at most four PDCCHs of the window were sent up to
+ *                 and with the one named; read as the scheduled block: the block
+ *                 belongs to that. And b0 is 1 for a first block, b1 for a second
+ *                 one, either of them for an only one
+ *   multiplexed   the position at which the block was sent is in delivered
  *
- * Where nothing was sent there is nothing to confirm, whatever delivered has there.
+ * Where nothing was sent there is nothing to confirm, whatever delivered has there;
+ * nor is there in a release, which carries no block.
  *
  * It is proved that each block confirmed by this rule was heard and decoded by the
- * handset, whatever grants were lost: crates/confirmation/specs/Confirmed.antt has
- * the rule, crates/agreement/proofs/Confirmation.antt the proof. It needs grants with
- * DAIs by the rule above, a handset that is fed, for every subframe, what was sent
- * there or nothing, and its reply as it was sent, read with its own settings.
+ * handset, whatever was lost: crates/confirmation/specs/Confirmed.antt has the rule,
+ * crates/agreement/proofs/Conclusions.antt the proof. It needs PDCCHs with DAIs by
+ * the rule above, at most one scheduled block sent in a window and its position told
+ * here, a handset that is fed, for every subframe, what was sent there or nothing,
+ * and its reply as it was sent, read with its own settings.
  *
- * Refuses 1 to 7, 13 and 14.
+ * Refuses 1 to 6, 17, 7, 11, 18, 13 and 14. 11 is a position told that is not below
+ * M, and 18 one told with no resource set, both whatever resource the reply came on.
+ * 13 is not given for settings.scheduled where a position is told; without one it is.
+ * On that resource 14 goes by the position told.
  */
 FEEDBACK_MUST_USE
 struct feedback_reading_answer feedback_reading(struct feedback_settings settings, uint16_t n,
-                                                uint16_t resource, uint16_t b0, uint16_t b1);
+                                                uint16_t scheduled_position, uint16_t resource,
+                                                uint16_t b0, uint16_t b1);
 
 /*
- * Whether the grants answered in one uplink subframe keep out of each other's
- * PUCCH resources. A claim is one grant: position m * 256 + first CCE, as
- * FEEDBACK_CLAIM makes it.
+ * Whether the PDCCHs answered in one uplink subframe keep out of each other's
+ * PUCCH resources. A claim is one PDCCH, a grant or a release: position m * 256 +
+ * first CCE, as FEEDBACK_CLAIM makes it. A scheduled block makes no claim: its
+ * resource is below N1, where no PDCCH has one.
  *
  *   settings   the settings of the cell
  *   n          the uplink subframe of the replies, 0 to 9, one with a window
@@ -442,7 +511,7 @@ struct feedback_reading_answer feedback_reading(struct feedback_settings setting
  *              are always enough)
  *   room       the number of bytes lent in scratch
  *
- * Clean if no two claims are equal, which is to say that no two grants share a
+ * Clean if no two claims are equal, which is to say that no two PDCCHs share a
  * resource; else a clash, with the index (from 0) of the first claim that is
  * equal to an earlier one. The empty list is clean.
  *
@@ -450,9 +519,9 @@ struct feedback_reading_answer feedback_reading(struct feedback_settings setting
  * of a claim before that index (of any claim, when clean), else 0. Later bytes
  * keep their values. What scratch held before does not matter.
  *
- * Refuses 1 to 7, 15 and 16. If refused, all of scratch is as it was. 16 is given
- * for a bad claim anywhere in the list, even after a clash, with the index of the
- * first bad one.
+ * Refuses 1 to 6, 17, 7, 15 and 16. If refused, all of scratch is as it was. 16 is
+ * given for a bad claim anywhere in the list, even after a clash, with the index of
+ * the first bad one.
  *
  * A count or room of 0 is a list or scratch of length 0, and its pointer may then
  * be NULL; with any other length NULL is an error that no refusal catches, as is
@@ -471,15 +540,15 @@ struct feedback_claims_answer feedback_claims(struct feedback_settings settings,
  *
  *   settings   the settings of the handset
  *
- * Refuses 1 to 6; nothing is made then, and the handset beside the refusal is 64
- * zero bytes.
+ * Refuses 1 to 6 and 17; nothing is made then, and the handset beside the refusal is
+ * 66 zero bytes.
  */
 FEEDBACK_MUST_USE
 struct feedback_made feedback_make(struct feedback_settings settings);
 
 /*
- * The next subframe brought no grant: none was sent, or it was lost, or the
- * subframe is uplink. Call one of the two feeds for every subframe, uplink ones
+ * The next subframe brought nothing: nothing was sent, or it was lost, or the
+ * subframe is uplink. Call one of the four feeds for every subframe, uplink ones
  * too, and use the handset of its answer for the next: after subframe 9 comes 0.
  * For subframes that the radio slept through feed nothing, once for each of them:
  * the handset knows where in the frame it is by counting its feeds. (13 of them
@@ -522,6 +591,50 @@ struct feedback_fed feedback_feed_grant(struct feedback_handset handset, uint16_
                                         uint16_t dai);
 
 /*
+ * The next subframe brought a scheduled block, with no PDCCH. A block that the schedule
+ * has in this subframe and that could not be decoded is fed here too, as not decoded:
+ * then it is answered. After feedback_feed_nothing it is not.
+ *
+ *   handset    the state that the feed before answered, or feedback_make
+ *   blocks     transport blocks carried, 1 to the setting's
+ *   first      the first block, or the only one: decoded unless this is 0
+ *   second     the second block: decoded unless this is 0; without effect on any
+ *              reply if one block was carried
+ *
+ * The kind of the answer is FEEDBACK_KIND_TAKEN: only a downlink subframe can bring
+ * a scheduled block.
+ *
+ * Refuses 8, 9, 10 and 18. 18 is a block with no resource set, or the second one that
+ * the handset heard in one window; one that was lost does not count. The handset of
+ * the answer is then the one given, byte for byte: it still expects the same subframe.
+ */
+FEEDBACK_MUST_USE
+struct feedback_fed feedback_feed_scheduled(struct feedback_handset handset, uint16_t blocks,
+                                            uint16_t first, uint16_t second);
+
+/*
+ * The next subframe brought a release: a PDCCH that releases the schedule. It counts as
+ * a heard grant that decoded everything, its first CCE and its DAI included.
+ *
+ *   handset    the state that the feed before answered, or feedback_make
+ *   cce        the first CCE of the release, 0 to N_4 - 1
+ *   dai        the DAI of the release, 1 to 4 (in configuration 0 too, where no
+ *              reply depends on it)
+ *
+ * The handset keeps no schedule, and a release ends none in it: a scheduled block that
+ * is fed later is not refused.
+ *
+ * The kind of the answer is FEEDBACK_KIND_TAKEN: only a downlink subframe can bring
+ * a release.
+ *
+ * Refuses 8, 9, 11 and 12. The handset of the answer is then the one given, byte for
+ * byte: it still expects the same subframe.
+ */
+FEEDBACK_MUST_USE
+struct feedback_fed feedback_feed_release(struct feedback_handset handset, uint16_t cce,
+                                          uint16_t dai);
+
+/*
  * The number of the layout of the structs above is part of a name in the library,
  * and every object that includes this header refers to that name. So an object that
  * was compiled against another layout does not link: "undefined reference to
@@ -530,11 +643,11 @@ struct feedback_fed feedback_feed_grant(struct feedback_handset handset, uint16_
  * ld --gc-sections by retain, where they have it. With a compiler that has neither,
  * use FEEDBACK_LAYOUT_LINKED once in your code: its value is 1, and it refers to the
  * name in the same way. A program without the library, such as a test of your own,
- * needs a feedback_layout_1 of its own.
+ * needs a feedback_layout_2 of its own.
  */
 FEEDBACK_MUST_USE
-uint16_t feedback_layout_1(void);
-#define FEEDBACK_LAYOUT_LINKED (feedback_layout_1() == 1)
+uint16_t feedback_layout_2(void);
+#define FEEDBACK_LAYOUT_LINKED (feedback_layout_2() == 2)
 
 #if defined(__GNUC__)
 #if defined(__ELF__) && defined(__has_attribute)
@@ -545,7 +658,7 @@ uint16_t feedback_layout_1(void);
 #ifndef FEEDBACK_KEPT
 #define FEEDBACK_KEPT __attribute__((used))
 #endif
-static uint16_t (*const feedback_layout_kept)(void) FEEDBACK_KEPT = feedback_layout_1;
+static uint16_t (*const feedback_layout_kept)(void) FEEDBACK_KEPT = feedback_layout_2;
 #undef FEEDBACK_KEPT
 #endif
 
@@ -562,12 +675,13 @@ static uint16_t (*const feedback_layout_kept)(void) FEEDBACK_KEPT = feedback_lay
 #define FEEDBACK_PLACE(type, field, place) \
     FEEDBACK_HOLDS(type##_has_##field##_at_##place, offsetof(struct type, field) == place)
 
-FEEDBACK_SIZE(feedback_settings, 10)
+FEEDBACK_SIZE(feedback_settings, 12)
 FEEDBACK_PLACE(feedback_settings, config, 0)
 FEEDBACK_PLACE(feedback_settings, nrb, 2)
 FEEDBACK_PLACE(feedback_settings, n1, 4)
 FEEDBACK_PLACE(feedback_settings, mode, 6)
 FEEDBACK_PLACE(feedback_settings, blocks, 8)
+FEEDBACK_PLACE(feedback_settings, scheduled, 10)
 FEEDBACK_SIZE(feedback_window_answer, 40)
 FEEDBACK_PLACE(feedback_window_answer, refusal, 0)
 FEEDBACK_PLACE(feedback_window_answer, size, 2)
@@ -585,7 +699,7 @@ FEEDBACK_SIZE(feedback_inverse_answer, 6)
 FEEDBACK_PLACE(feedback_inverse_answer, refusal, 0)
 FEEDBACK_PLACE(feedback_inverse_answer, position, 2)
 FEEDBACK_PLACE(feedback_inverse_answer, cce, 4)
-FEEDBACK_SIZE(feedback_reading_answer, 14)
+FEEDBACK_SIZE(feedback_reading_answer, 16)
 FEEDBACK_PLACE(feedback_reading_answer, refusal, 0)
 FEEDBACK_PLACE(feedback_reading_answer, kind, 2)
 FEEDBACK_PLACE(feedback_reading_answer, position, 4)
@@ -593,6 +707,7 @@ FEEDBACK_PLACE(feedback_reading_answer, cce, 6)
 FEEDBACK_PLACE(feedback_reading_answer, b0, 8)
 FEEDBACK_PLACE(feedback_reading_answer, b1, 10)
 FEEDBACK_PLACE(feedback_reading_answer, delivered, 12)
+FEEDBACK_PLACE(feedback_reading_answer, scheduled, 14)
 FEEDBACK_SIZE(feedback_claims_answer, 16)
 FEEDBACK_PLACE(feedback_claims_answer, refusal, 0)
 FEEDBACK_PLACE(feedback_claims_answer, kind, 2)
@@ -602,14 +717,14 @@ FEEDBACK_PLACE(feedback_slot, kind, 0)
 FEEDBACK_PLACE(feedback_slot, cce, 1)
 FEEDBACK_PLACE(feedback_slot, dai, 2)
 FEEDBACK_PLACE(feedback_slot, results, 3)
-FEEDBACK_SIZE(feedback_handset, 64)
+FEEDBACK_SIZE(feedback_handset, 66)
 FEEDBACK_PLACE(feedback_handset, settings, 0)
-FEEDBACK_PLACE(feedback_handset, next, 10)
-FEEDBACK_PLACE(feedback_handset, past, 12)
-FEEDBACK_SIZE(feedback_made, 66)
+FEEDBACK_PLACE(feedback_handset, next, 12)
+FEEDBACK_PLACE(feedback_handset, past, 14)
+FEEDBACK_SIZE(feedback_made, 68)
 FEEDBACK_PLACE(feedback_made, refusal, 0)
 FEEDBACK_PLACE(feedback_made, handset, 2)
-FEEDBACK_SIZE(feedback_fed, 74)
+FEEDBACK_SIZE(feedback_fed, 76)
 FEEDBACK_PLACE(feedback_fed, refusal, 0)
 FEEDBACK_PLACE(feedback_fed, kind, 2)
 FEEDBACK_PLACE(feedback_fed, resource, 4)
@@ -629,9 +744,10 @@ FEEDBACK_HOLDS(feedback_size_t_has_8_bytes, sizeof(size_t) == 8)
 /*
  * Settings from their numbers: an expression of type struct feedback_settings. A
  * number over 65535 becomes 65535, which every call refuses as the setting that it
- * is. Where a later version has more settings, this fills them in such a way that
- * the calls answer as they did before: code that uses it need not change. It is a
- * call of a function, which C does not allow where a static object gets its value.
+ * is. The settings that came later, scheduled and those of a version to come, it
+ * fills in such a way that the calls answer as they did before: scheduled with
+ * FEEDBACK_NONE. Code that uses it need not change. It is a call of a function,
+ * which C does not allow where a static object gets its value.
  */
 #define FEEDBACK_SETTINGS(config, nrb, n1, mode, blocks) \
     feedback_settings_of(config, nrb, n1, mode, blocks)
@@ -658,6 +774,7 @@ static inline struct feedback_settings feedback_settings_of(uint64_t config, uin
     settings.n1 = feedback_setting_of(n1);
     settings.mode = feedback_setting_of(mode);
     settings.blocks = feedback_setting_of(blocks);
+    settings.scheduled = FEEDBACK_NONE;
     return settings;
 }
 

@@ -38,9 +38,9 @@ static inline const char *feedback_refusal_text(unsigned refusal)
     case FEEDBACK_REFUSED_STATE:
         return "Refused 8: the handset has bad settings, a bad next subframe or a bad memory.";
     case FEEDBACK_REFUSED_UPLINK:
-        return "Refused 9: the grant came in an uplink subframe.";
+        return "Refused 9: a grant, scheduled block or release came in an uplink subframe.";
     case FEEDBACK_REFUSED_CARRIED:
-        return "Refused 10: the grant carries no block, or more than the setting allows.";
+        return "Refused 10: the blocks carried are none, or more than the setting allows.";
     case FEEDBACK_REFUSED_CCE:
         return "Refused 11: the first CCE is not below N_4, or the position is not below M.";
     case FEEDBACK_REFUSED_DAI:
@@ -53,6 +53,10 @@ static inline const char *feedback_refusal_text(unsigned refusal)
         return "Refused 15: the scratch is shorter than M * N_4 bytes.";
     case FEEDBACK_REFUSED_CLAIM:
         return "Refused 16: a claim's position is not below M or its CCE not below N_4.";
+    case FEEDBACK_REFUSED_SCHEDULED_RESOURCE:
+        return "Refused 17: the resource set for scheduled blocks is not below N1.";
+    case FEEDBACK_REFUSED_SCHEDULED:
+        return "Refused 18: a scheduled block with no resource set, or the second one of a window.";
     default:
         return "This number is no refusal.";
     }
@@ -86,9 +90,9 @@ static inline const char *feedback_claims_kind_text(unsigned kind)
     case FEEDBACK_CLAIMS_REFUSED:
         return "The claims were refused.";
     case FEEDBACK_CLAIMS_CLEAN:
-        return "The claims are clean: no two grants share a PUCCH resource.";
+        return "The claims are clean: no two PDCCHs share a PUCCH resource.";
     case FEEDBACK_CLAIMS_CLASH:
-        return "The claims clash: two grants share a PUCCH resource.";
+        return "The claims clash: two PDCCHs share a PUCCH resource.";
     default:
         return "This number is no kind of an answer about claims.";
     }
@@ -102,6 +106,10 @@ static inline const char *feedback_slot_kind_text(unsigned kind)
         return "The subframe brought nothing.";
     case FEEDBACK_SLOT_GRANT:
         return "The subframe brought a grant.";
+    case FEEDBACK_SLOT_SCHEDULED:
+        return "The subframe brought a scheduled block, with no PDCCH.";
+    case FEEDBACK_SLOT_RELEASE:
+        return "The subframe brought a release of the schedule.";
     default:
         return "This number is no kind of a remembered subframe.";
     }

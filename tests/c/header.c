@@ -1,9 +1,9 @@
 /*
  * The C header against the library: every call, constant, field and parameter name of
- * include/feedback.h, with values worked out by hand from document 01. They are chosen so that
- * exchanging two parameters, fields or numbers of the header changes an answer. Valid as C99 to C17
- * and as C++98 to C++17. The argument is the header's file: the names of the parameters, their
- * descriptions and the table of windows are read from its text.
+ * include/feedback.h, with values worked out by hand from documents 01 and 02. They are chosen so
+ * that exchanging two parameters, fields or numbers of the header changes an answer. Valid as C99
+ * to C17 and as C++98 to C++17. The argument is the header's file: the names of the parameters,
+ * their descriptions, the table of windows and the order of refusals are read from its text.
  */
 #include "feedback.h"
 #include "feedback_text.h"
@@ -11,7 +11,7 @@
 #include <stdlib.h>
 #include <string.h>
 
-#if FEEDBACK_VERSION != 10000
+#if FEEDBACK_VERSION != 20000
 #error "FEEDBACK_VERSION is for the preprocessor too"
 #endif
 
@@ -147,6 +147,8 @@ static void numbers(void)
     EQUAL(FEEDBACK_REFUSED_BITS, 14);
     EQUAL(FEEDBACK_REFUSED_SCRATCH, 15);
     EQUAL(FEEDBACK_REFUSED_CLAIM, 16);
+    EQUAL(FEEDBACK_REFUSED_SCHEDULED_RESOURCE, 17);
+    EQUAL(FEEDBACK_REFUSED_SCHEDULED, 18);
     EQUAL(FEEDBACK_KIND_REFUSED, 0);
     EQUAL(FEEDBACK_KIND_BUNDLED, 1);
     EQUAL(FEEDBACK_KIND_MULTIPLEXED, 2);
@@ -160,17 +162,20 @@ static void numbers(void)
     EQUAL(FEEDBACK_MODE_MULTIPLEXING, 1);
     EQUAL(FEEDBACK_SLOT_NOTHING, 0);
     EQUAL(FEEDBACK_SLOT_GRANT, 1);
+    EQUAL(FEEDBACK_SLOT_SCHEDULED, 2);
+    EQUAL(FEEDBACK_SLOT_RELEASE, 3);
     EQUAL(FEEDBACK_FIRST_DECODED, 1);
     EQUAL(FEEDBACK_SECOND_DECODED, 2);
     EQUAL(FEEDBACK_TWO_CARRIED, 4);
     EQUAL(FEEDBACK_WINDOW_MOST, 9);
     EQUAL(FEEDBACK_MEMORY, 13);
     EQUAL(FEEDBACK_SCRATCH_MOST, 1206); /* M 9, and N_4 134 where N_RB is 110 */
-    EQUAL(FEEDBACK_VERSION, 10000);
+    EQUAL(FEEDBACK_NONE, 65535);
+    EQUAL(FEEDBACK_VERSION, 20000);
     sprintf(version, "%d.%d.%d", FEEDBACK_VERSION / 10000, FEEDBACK_VERSION / 100 % 100,
             FEEDBACK_VERSION % 100);
     SAME(FEEDBACK_VERSION_TEXT, version);
-    EQUAL(feedback_layout_1(), 1);
+    EQUAL(feedback_layout_2(), 2);
     EQUAL(FEEDBACK_LAYOUT_LINKED, 1);
 }
 
@@ -179,12 +184,13 @@ static void numbers(void)
 
 static void layout(void)
 {
-    SIZE(feedback_settings, 10);
+    SIZE(feedback_settings, 12);
     PLACE(feedback_settings, config, 0);
     PLACE(feedback_settings, nrb, 2);
     PLACE(feedback_settings, n1, 4);
     PLACE(feedback_settings, mode, 6);
     PLACE(feedback_settings, blocks, 8);
+    PLACE(feedback_settings, scheduled, 10);
     SIZE(feedback_window_answer, 40);
     PLACE(feedback_window_answer, refusal, 0);
     PLACE(feedback_window_answer, size, 2);
@@ -202,7 +208,7 @@ static void layout(void)
     PLACE(feedback_inverse_answer, refusal, 0);
     PLACE(feedback_inverse_answer, position, 2);
     PLACE(feedback_inverse_answer, cce, 4);
-    SIZE(feedback_reading_answer, 14);
+    SIZE(feedback_reading_answer, 16);
     PLACE(feedback_reading_answer, refusal, 0);
     PLACE(feedback_reading_answer, kind, 2);
     PLACE(feedback_reading_answer, position, 4);
@@ -210,6 +216,7 @@ static void layout(void)
     PLACE(feedback_reading_answer, b0, 8);
     PLACE(feedback_reading_answer, b1, 10);
     PLACE(feedback_reading_answer, delivered, 12);
+    PLACE(feedback_reading_answer, scheduled, 14);
     SIZE(feedback_claims_answer, 16);
     PLACE(feedback_claims_answer, refusal, 0);
     PLACE(feedback_claims_answer, kind, 2);
@@ -219,14 +226,14 @@ static void layout(void)
     PLACE(feedback_slot, cce, 1);
     PLACE(feedback_slot, dai, 2);
     PLACE(feedback_slot, results, 3);
-    SIZE(feedback_handset, 64);
+    SIZE(feedback_handset, 66);
     PLACE(feedback_handset, settings, 0);
-    PLACE(feedback_handset, next, 10);
-    PLACE(feedback_handset, past, 12);
-    SIZE(feedback_made, 66);
+    PLACE(feedback_handset, next, 12);
+    PLACE(feedback_handset, past, 14);
+    SIZE(feedback_made, 68);
     PLACE(feedback_made, refusal, 0);
     PLACE(feedback_made, handset, 2);
-    SIZE(feedback_fed, 74);
+    SIZE(feedback_fed, 76);
     PLACE(feedback_fed, refusal, 0);
     PLACE(feedback_fed, kind, 2);
     PLACE(feedback_fed, resource, 4);
@@ -242,15 +249,22 @@ static struct feedback_settings settings_of(uint16_t config, uint16_t mode, uint
     return FEEDBACK_SETTINGS(config, 50, 10, mode, blocks);
 }
 
+static struct feedback_settings with_scheduled(struct feedback_settings settings, uint16_t resource)
+{
+    settings.scheduled = resource;
+    return settings;
+}
+
 static void settings_macro(void)
 {
-    struct feedback_settings given = {2, 50, 10, 0, 1};
+    struct feedback_settings given = {2, 50, 10, 0, 1, 65535};
     struct feedback_settings made = FEEDBACK_SETTINGS(2, 50, 10, 0, 1);
     EQUAL(given.config, 2);
     EQUAL(given.nrb, 50);
     EQUAL(given.n1, 10);
     EQUAL(given.mode, 0);
     EQUAL(given.blocks, 1);
+    EQUAL(given.scheduled, FEEDBACK_NONE);
     BYTES(&given, &made, sizeof made);
     made = FEEDBACK_SETTINGS(65536, 65535, 131077, 4294967297u, 65534);
     EQUAL(made.config, 65535);
@@ -258,6 +272,7 @@ static void settings_macro(void)
     EQUAL(made.n1, 65535);
     EQUAL(made.mode, 65535);
     EQUAL(made.blocks, 65534);
+    EQUAL(made.scheduled, FEEDBACK_NONE);
 }
 
 /* Every call refuses these settings with this number, and a feed of such a state 8. */
@@ -270,7 +285,7 @@ static void settings_refused(struct feedback_settings bad, unsigned refusal)
     struct feedback_answered_answer answered = feedback_answered(bad, 11);
     struct feedback_resource_answer mapped = feedback_resource(bad, 11, 99, 999);
     struct feedback_inverse_answer inverted = feedback_inverse(bad, 11, 9999);
-    struct feedback_reading_answer reading = feedback_reading(bad, 11, 9999, 8, 9);
+    struct feedback_reading_answer reading = feedback_reading(bad, 11, 99, 9999, 8, 9);
     struct feedback_claims_answer claimed = feedback_claims(bad, 11, &claim, 1, &scratch, 1);
     struct feedback_made made = feedback_make(bad);
     struct feedback_handset handset = zero;
@@ -298,6 +313,7 @@ static void settings_refused(struct feedback_settings bad, unsigned refusal)
     EQUAL(reading.b0, 0);
     EQUAL(reading.b1, 0);
     EQUAL(reading.delivered, 0);
+    EQUAL(reading.scheduled, 0);
     EQUAL(claimed.refusal, refusal);
     EQUAL(claimed.kind, FEEDBACK_CLAIMS_REFUSED);
     EQUAL(claimed.index, 0);
@@ -311,17 +327,38 @@ static void settings_refused(struct feedback_settings bad, unsigned refusal)
     BYTES(&fed.handset, &handset, sizeof handset);
 }
 
+/* The same with a scheduled resource set that is not below N1: 17 comes after 1 to 6. */
+static void all_refused(struct feedback_settings bad, unsigned refusal)
+{
+    settings_refused(bad, refusal);
+    settings_refused(with_scheduled(bad, 65534), refusal);
+}
+
 static void settings(void)
 {
-    settings_refused(FEEDBACK_SETTINGS(7, 5, 2048, 2, 3), FEEDBACK_REFUSED_CONFIGURATION);
-    settings_refused(FEEDBACK_SETTINGS(6, 5, 2048, 2, 3), FEEDBACK_REFUSED_BANDWIDTH);
-    settings_refused(FEEDBACK_SETTINGS(6, 111, 2048, 2, 3), FEEDBACK_REFUSED_BANDWIDTH);
-    settings_refused(FEEDBACK_SETTINGS(6, 110, 2048, 2, 3), FEEDBACK_REFUSED_N1);
-    settings_refused(FEEDBACK_SETTINGS(5, 6, 2047, 2, 3), FEEDBACK_REFUSED_MODE);
-    settings_refused(FEEDBACK_SETTINGS(5, 6, 2047, 1, 3), FEEDBACK_REFUSED_MULTIPLEXING);
-    settings_refused(FEEDBACK_SETTINGS(5, 6, 2047, 0, 3), FEEDBACK_REFUSED_BLOCKS);
-    settings_refused(FEEDBACK_SETTINGS(4, 6, 2047, 1, 0), FEEDBACK_REFUSED_BLOCKS);
-    settings_refused(FEEDBACK_SETTINGS(65538, 50, 10, 0, 2), FEEDBACK_REFUSED_CONFIGURATION);
+    struct feedback_settings none = FEEDBACK_SETTINGS(4, 6, 0, 1, 1);
+    struct feedback_settings most = FEEDBACK_SETTINGS(4, 6, 2047, 1, 1);
+    all_refused(FEEDBACK_SETTINGS(7, 5, 2048, 2, 3), FEEDBACK_REFUSED_CONFIGURATION);
+    all_refused(FEEDBACK_SETTINGS(6, 5, 2048, 2, 3), FEEDBACK_REFUSED_BANDWIDTH);
+    all_refused(FEEDBACK_SETTINGS(6, 111, 2048, 2, 3), FEEDBACK_REFUSED_BANDWIDTH);
+    all_refused(FEEDBACK_SETTINGS(6, 110, 2048, 2, 3), FEEDBACK_REFUSED_N1);
+    all_refused(FEEDBACK_SETTINGS(5, 6, 2047, 2, 3), FEEDBACK_REFUSED_MODE);
+    all_refused(FEEDBACK_SETTINGS(5, 6, 2047, 1, 3), FEEDBACK_REFUSED_MULTIPLEXING);
+    all_refused(FEEDBACK_SETTINGS(5, 6, 2047, 0, 3), FEEDBACK_REFUSED_BLOCKS);
+    all_refused(FEEDBACK_SETTINGS(4, 6, 2047, 1, 0), FEEDBACK_REFUSED_BLOCKS);
+    all_refused(FEEDBACK_SETTINGS(65538, 50, 10, 0, 2), FEEDBACK_REFUSED_CONFIGURATION);
+    settings_refused(with_scheduled(most, 65534), FEEDBACK_REFUSED_SCHEDULED_RESOURCE);
+    settings_refused(with_scheduled(most, 2047), FEEDBACK_REFUSED_SCHEDULED_RESOURCE);
+    settings_refused(with_scheduled(none, 0), FEEDBACK_REFUSED_SCHEDULED_RESOURCE);
+    EQUAL(feedback_make(with_scheduled(most, 2046)).refusal, 0);
+    EQUAL(feedback_make(with_scheduled(most, 0)).refusal, 0);
+    EQUAL(feedback_make(with_scheduled(none, 65535)).refusal, 0);
+}
+
+/* The order in which causes are given, as the header tells it; the tests below meet it in pairs. */
+static void order(void)
+{
+    HOLDS(strstr(text, " 1 to 6, 17, 7, 8, 9, 10, 11, 12, 18, 13, 14, 15, 16.") != NULL);
 }
 
 /* ---- windows ---- */
@@ -474,9 +511,9 @@ static void resource_and_inverse(void)
 static void reading_bundled(void)
 {
     struct feedback_settings settings = settings_of(2, 0, 2);
-    uint16_t n = 7, resource = 104, b0 = 1, b1 = 0;
+    uint16_t n = 7, scheduled_position = FEEDBACK_NONE, resource = 104, b0 = 1, b1 = 0;
     struct feedback_reading_answer reading =
-        CALL(feedback_reading, (settings, n, resource, b0, b1));
+        CALL(feedback_reading, (settings, n, scheduled_position, resource, b0, b1));
     EQUAL(reading.refusal, 0);
     EQUAL(reading.kind, FEEDBACK_KIND_BUNDLED);
     EQUAL(reading.position, 3);
@@ -484,21 +521,23 @@ static void reading_bundled(void)
     EQUAL(reading.b0, 1);
     EQUAL(reading.b1, 0);
     EQUAL(reading.delivered, 0);
-    reading = feedback_reading(settings, n, resource, 0, 1);
+    EQUAL(reading.scheduled, 0);
+    reading = feedback_reading(settings, n, FEEDBACK_NONE, resource, 0, 1);
     EQUAL(reading.b0, 0);
     EQUAL(reading.b1, 1);
     EQUAL(reading.delivered, 0);
-    reading = feedback_reading(settings, 3, resource, 0, 1);
+    EQUAL(reading.scheduled, 0);
+    reading = feedback_reading(settings, 3, FEEDBACK_NONE, resource, 0, 1);
     EQUAL(reading.refusal, FEEDBACK_REFUSED_SUBFRAME);
-    reading = feedback_reading(settings, n, 9, 2, 1);
+    reading = feedback_reading(settings, n, FEEDBACK_NONE, 9, 2, 1);
     EQUAL(reading.refusal, FEEDBACK_REFUSED_RESOURCE);
-    reading = feedback_reading(settings, n, resource, 2, 1);
+    reading = feedback_reading(settings, n, FEEDBACK_NONE, resource, 2, 1);
     EQUAL(reading.refusal, FEEDBACK_REFUSED_BITS);
     settings.blocks = 1; /* one bit: the second is 0 */
-    reading = feedback_reading(settings, n, resource, 1, 0);
+    reading = feedback_reading(settings, n, FEEDBACK_NONE, resource, 1, 0);
     EQUAL(reading.refusal, 0);
     EQUAL(reading.b0, 1);
-    reading = feedback_reading(settings, n, resource, 0, 1);
+    reading = feedback_reading(settings, n, FEEDBACK_NONE, resource, 0, 1);
     EQUAL(reading.refusal, FEEDBACK_REFUSED_BITS);
 }
 
@@ -506,7 +545,8 @@ static void reading_bundled(void)
 static void reading_multiplexed(void)
 {
     struct feedback_settings settings = settings_of(2, 1, 1);
-    struct feedback_reading_answer reading = feedback_reading(settings, 7, 104, 0, 1);
+    struct feedback_reading_answer reading =
+        feedback_reading(settings, 7, FEEDBACK_NONE, 104, 0, 1);
     EQUAL(reading.refusal, 0);
     EQUAL(reading.kind, FEEDBACK_KIND_MULTIPLEXED);
     EQUAL(reading.position, 3);
@@ -514,14 +554,91 @@ static void reading_multiplexed(void)
     EQUAL(reading.b0, 0);
     EQUAL(reading.b1, 0);
     EQUAL(reading.delivered, 4 + 8);
-    reading = feedback_reading(settings, 7, 104, 1, 0);
+    EQUAL(reading.scheduled, 0);
+    reading = feedback_reading(settings, 7, FEEDBACK_NONE, 104, 1, 0);
     EQUAL(reading.delivered, 2 + 8);
-    reading = feedback_reading(settings, 7, 104, 1, 1);
+    reading = feedback_reading(settings, 7, FEEDBACK_NONE, 104, 1, 1);
     EQUAL(reading.refusal, 0);
     EQUAL(reading.delivered, 0);
-    reading = feedback_reading(settings, 7, 10, 0, 0); /* position 0 has no row with 00 */
-    EQUAL(reading.refusal, FEEDBACK_REFUSED_BITS);
+    reading = feedback_reading(settings, 7, FEEDBACK_NONE, 10, 0, 0);
+    EQUAL(reading.refusal, FEEDBACK_REFUSED_BITS); /* position 0 has no row with 00 */
     EQUAL(reading.kind, FEEDBACK_KIND_REFUSED);
+}
+
+/* The scheduled resource is 6. A reply there is read as the block of the position told. */
+static void reading_scheduled(void)
+{
+    struct feedback_settings settings = with_scheduled(settings_of(2, 0, 2), 6);
+    struct feedback_reading_answer reading = feedback_reading(settings, 7, 3, 6, 0, 1);
+    EQUAL(reading.refusal, 0);
+    EQUAL(reading.kind, FEEDBACK_KIND_BUNDLED);
+    EQUAL(reading.position, 3);
+    EQUAL(reading.cce, 0);
+    EQUAL(reading.b0, 0);
+    EQUAL(reading.b1, 1);
+    EQUAL(reading.delivered, 0);
+    EQUAL(reading.scheduled, 1);
+    reading = feedback_reading(settings, 7, 0, 6, 1, 0);
+    EQUAL(reading.position, 0);
+    EQUAL(reading.b0, 1);
+    EQUAL(reading.b1, 0);
+    EQUAL(reading.scheduled, 1);
+    reading = feedback_reading(settings, 7, 2, 104, 1, 1);
+    EQUAL(reading.refusal, 0); /* the resource of a PDCCH: as in reading_bundled */
+    EQUAL(reading.position, 3);
+    EQUAL(reading.cce, 13);
+    EQUAL(reading.scheduled, 0);
+    reading = feedback_reading(settings, 7, 3, 104, 1, 1);
+    EQUAL(reading.refusal, 0); /* at the position told too */
+    EQUAL(reading.position, 3);
+    EQUAL(reading.cce, 13);
+    EQUAL(reading.scheduled, 0);
+    settings.mode = FEEDBACK_MODE_MULTIPLEXING;
+    reading = feedback_reading(settings, 7, 3, 6, 0, 1);
+    EQUAL(reading.refusal, 0); /* as in reading_multiplexed */
+    EQUAL(reading.kind, FEEDBACK_KIND_MULTIPLEXED);
+    EQUAL(reading.position, 3);
+    EQUAL(reading.cce, 0);
+    EQUAL(reading.b0, 0);
+    EQUAL(reading.b1, 0);
+    EQUAL(reading.delivered, 4 + 8);
+    EQUAL(reading.scheduled, 1);
+    reading = feedback_reading(settings, 7, 2, 6, 0, 0); /* --A- */
+    EQUAL(reading.position, 2);
+    EQUAL(reading.delivered, 4);
+    EQUAL(reading.scheduled, 1);
+}
+
+static void reading_scheduled_refused(void)
+{
+    struct feedback_settings none = settings_of(2, 1, 2);
+    struct feedback_settings settings = with_scheduled(none, 6);
+    struct feedback_reading_answer reading = feedback_reading(none, 3, 4, 9, 2, 2);
+    EQUAL(reading.refusal, FEEDBACK_REFUSED_SUBFRAME);
+    reading = feedback_reading(none, 7, 4, 9, 2, 2);
+    EQUAL(reading.refusal, FEEDBACK_REFUSED_CCE);
+    reading = feedback_reading(none, 7, 65534, 104, 0, 1);
+    EQUAL(reading.refusal, FEEDBACK_REFUSED_CCE); /* whatever the resource */
+    reading = feedback_reading(none, 7, 3, 9, 2, 2);
+    EQUAL(reading.refusal, FEEDBACK_REFUSED_SCHEDULED);
+    EQUAL(reading.kind, FEEDBACK_KIND_REFUSED);
+    EQUAL(reading.position, 0);
+    EQUAL(reading.scheduled, 0);
+    reading = feedback_reading(none, 7, 3, 104, 0, 1);
+    EQUAL(reading.refusal, FEEDBACK_REFUSED_SCHEDULED);
+    reading = feedback_reading(settings, 7, FEEDBACK_NONE, 6, 0, 1); /* not told */
+    EQUAL(reading.refusal, FEEDBACK_REFUSED_RESOURCE);
+    reading = feedback_reading(settings, 7, 3, 7, 2, 2); /* neither 6 nor 10 or more */
+    EQUAL(reading.refusal, FEEDBACK_REFUSED_RESOURCE);
+    reading = feedback_reading(settings, 7, 3, 6, 0, 2);
+    EQUAL(reading.refusal, FEEDBACK_REFUSED_BITS);
+    reading = feedback_reading(settings, 7, 0, 6, 0, 0); /* position 0 has no row with 00 */
+    EQUAL(reading.refusal, FEEDBACK_REFUSED_BITS);
+    EQUAL(reading.scheduled, 0);
+    settings = with_scheduled(settings_of(2, 0, 1), 6);
+    reading = feedback_reading(settings, 7, 3, 6, 0, 1); /* one bit */
+    EQUAL(reading.refusal, FEEDBACK_REFUSED_BITS);
+    EQUAL(feedback_inverse(settings, 7, 6).refusal, FEEDBACK_REFUSED_RESOURCE);
 }
 
 /* Byte t is what it should be: 1 at the resources less N1, 0 below M * N_4, and 99 beyond. */
@@ -629,24 +746,56 @@ static struct feedback_handset nothing(struct feedback_handset handset, unsigned
     return fed.handset;
 }
 
-static struct feedback_handset grant(struct feedback_handset handset, uint16_t blocks,
-                                     uint16_t first, uint16_t second, uint16_t cce, uint16_t dai)
+/* What was fed was taken into the memory; what it stores is looked at where it is fed. */
+static void taken(struct feedback_handset handset, struct feedback_fed fed)
 {
-    struct feedback_fed fed =
-        CALL(feedback_feed_grant, (handset, blocks, first, second, cce, dai));
     EQUAL(fed.refusal, 0);
     EQUAL(fed.kind, FEEDBACK_KIND_TAKEN);
     EQUAL(fed.resource, 0);
     EQUAL(fed.b0, 0);
     EQUAL(fed.b1, 0);
     EQUAL(fed.handset.next, (handset.next + 1u) % 10u);
+    BYTES(&fed.handset.settings, &handset.settings, sizeof handset.settings);
+    BYTES(fed.handset.past + 1, handset.past, 12 * sizeof *handset.past);
+}
+
+static struct feedback_handset grant(struct feedback_handset handset, uint16_t blocks,
+                                     uint16_t first, uint16_t second, uint16_t cce, uint16_t dai)
+{
+    struct feedback_fed fed =
+        CALL(feedback_feed_grant, (handset, blocks, first, second, cce, dai));
+    taken(handset, fed);
     EQUAL(fed.handset.past[0].kind, FEEDBACK_SLOT_GRANT);
     EQUAL(fed.handset.past[0].cce, cce);
     EQUAL(fed.handset.past[0].dai, dai);
     EQUAL((fed.handset.past[0].results & FEEDBACK_FIRST_DECODED) != 0, first != 0);
     EQUAL((fed.handset.past[0].results & FEEDBACK_SECOND_DECODED) != 0, second != 0);
     EQUAL((fed.handset.past[0].results & FEEDBACK_TWO_CARRIED) != 0, blocks == 2);
-    BYTES(fed.handset.past + 1, handset.past, 12 * sizeof *handset.past);
+    return fed.handset;
+}
+
+static struct feedback_handset scheduled(struct feedback_handset handset, uint16_t blocks,
+                                         uint16_t first, uint16_t second)
+{
+    struct feedback_fed fed = CALL(feedback_feed_scheduled, (handset, blocks, first, second));
+    taken(handset, fed);
+    EQUAL(fed.handset.past[0].kind, FEEDBACK_SLOT_SCHEDULED);
+    EQUAL(fed.handset.past[0].cce, 0);
+    EQUAL(fed.handset.past[0].dai, 0);
+    EQUAL((fed.handset.past[0].results & FEEDBACK_FIRST_DECODED) != 0, first != 0);
+    EQUAL((fed.handset.past[0].results & FEEDBACK_SECOND_DECODED) != 0, second != 0);
+    EQUAL((fed.handset.past[0].results & FEEDBACK_TWO_CARRIED) != 0, blocks == 2);
+    return fed.handset;
+}
+
+static struct feedback_handset release(struct feedback_handset handset, uint16_t cce, uint16_t dai)
+{
+    struct feedback_fed fed = CALL(feedback_feed_release, (handset, cce, dai));
+    taken(handset, fed);
+    EQUAL(fed.handset.past[0].kind, FEEDBACK_SLOT_RELEASE);
+    EQUAL(fed.handset.past[0].cce, cce);
+    EQUAL(fed.handset.past[0].dai, dai);
+    EQUAL(fed.handset.past[0].results, 0);
     return fed.handset;
 }
 
@@ -693,6 +842,57 @@ static void multiplexed(void)
     replies(handset, FEEDBACK_KIND_MULTIPLEXED, 47, 1, 0); /* 3 * 11 + 4 + 10 */
     handset.past[5].kind = FEEDBACK_SLOT_NOTHING;
     replies(handset, FEEDBACK_KIND_MULTIPLEXED, 24, 0, 1); /* 1 * 11 + 3 + 10 */
+}
+
+/* Fed up to subframe 7 as above: with a release in 0, a grant in 1 and a scheduled block in 3. */
+static void bundled_scheduled(void)
+{
+    struct feedback_settings settings =
+        with_scheduled(settings_of(2, FEEDBACK_MODE_BUNDLING, 2), 6);
+    struct feedback_handset handset = fresh(settings);
+    unsigned i;
+    handset = release(handset, 3, 1);
+    handset = grant(handset, 2, 1, 1, 4, 2);
+    handset = nothing(handset, FEEDBACK_KIND_SILENT);
+    handset = scheduled(handset, 2, 0, 7);
+    for (i = 4; i < 7; i++)
+        handset = nothing(handset, FEEDBACK_KIND_TAKEN);
+    replies(handset, FEEDBACK_KIND_BUNDLED, 47, 0, 1); /* on the grant's: 3 * 11 + 4 + 10 */
+    handset.past[3].results = FEEDBACK_FIRST_DECODED;  /* a sole block stands for both bits */
+    replies(handset, FEEDBACK_KIND_BUNDLED, 47, 1, 1);
+    handset.past[5].results = FEEDBACK_SECOND_DECODED | FEEDBACK_TWO_CARRIED;
+    replies(handset, FEEDBACK_KIND_BUNDLED, 47, 0, 1); /* the grant in 1 */
+    handset.past[5].kind = FEEDBACK_SLOT_NOTHING;
+    replies(handset, FEEDBACK_KIND_BUNDLED, 24, 1, 1); /* on the release's: 1 * 11 + 3 + 10 */
+    handset.past[6].dai = 2;                           /* the release shows a miss */
+    replies(handset, FEEDBACK_KIND_SILENT, 0, 0, 0);
+    handset.past[6].kind = FEEDBACK_SLOT_NOTHING;
+    replies(handset, FEEDBACK_KIND_BUNDLED, 6, 1, 1); /* the block alone */
+    handset.past[3].results = FEEDBACK_FIRST_DECODED | FEEDBACK_TWO_CARRIED;
+    replies(handset, FEEDBACK_KIND_BUNDLED, 6, 1, 0);
+    handset.past[3].kind = FEEDBACK_SLOT_RELEASE; /* of first CCE 5 with DAI 1 */
+    handset.past[3].cce = 5;
+    handset.past[3].dai = 1;
+    replies(handset, FEEDBACK_KIND_BUNDLED, 37, 1, 1); /* as in resource_and_inverse */
+}
+
+/* A release in 0 is position 1, a block in 1 position 3: -A-A is 10 of 3, -A-N 01 of 1, ---N 11. */
+static void multiplexed_scheduled(void)
+{
+    struct feedback_settings settings =
+        with_scheduled(settings_of(2, FEEDBACK_MODE_MULTIPLEXING, 1), 6);
+    struct feedback_handset handset = fresh(settings);
+    unsigned i;
+    handset = release(handset, 3, 1);
+    handset = scheduled(handset, 1, 1, 0);
+    handset = nothing(handset, FEEDBACK_KIND_SILENT);
+    for (i = 3; i < 7; i++)
+        handset = nothing(handset, FEEDBACK_KIND_TAKEN);
+    replies(handset, FEEDBACK_KIND_MULTIPLEXED, 6, 1, 0);
+    handset.past[5].results = FEEDBACK_SECOND_DECODED; /* of a block that was not carried */
+    replies(handset, FEEDBACK_KIND_MULTIPLEXED, 24, 0, 1);
+    handset.past[6].kind = FEEDBACK_SLOT_NOTHING;
+    replies(handset, FEEDBACK_KIND_MULTIPLEXED, 6, 1, 1);
 }
 
 static void no_window(void)
@@ -748,10 +948,64 @@ static void feeds_refused(void)
     handset.next = 3; /* now the grant came in subframe 2, uplink */
     refused(handset, feedback_feed_nothing(handset), FEEDBACK_REFUSED_STATE);
     handset.past[0].kind = FEEDBACK_SLOT_NOTHING;
-    handset.past[1].kind = 2;
+    handset.past[1].kind = 4;
     refused(handset, feedback_feed_nothing(handset), FEEDBACK_REFUSED_STATE);
     handset.past[1].kind = FEEDBACK_SLOT_NOTHING;
     handset.next = 10;
+    refused(handset, feedback_feed_nothing(handset), FEEDBACK_REFUSED_STATE);
+}
+
+static void releases_refused(void)
+{
+    struct feedback_handset handset = fresh(settings_of(2, 0, 1)); /* needs no scheduled resource */
+    refused(handset, feedback_feed_release(handset, 61, 5), FEEDBACK_REFUSED_CCE);
+    refused(handset, feedback_feed_release(handset, 60, 5), FEEDBACK_REFUSED_DAI);
+    refused(handset, feedback_feed_release(handset, 60, 0), FEEDBACK_REFUSED_DAI);
+    release(handset, 60, 4);
+    handset.next = 2;
+    refused(handset, feedback_feed_release(handset, 61, 5), FEEDBACK_REFUSED_UPLINK);
+    handset.past[0].kind = FEEDBACK_SLOT_RELEASE; /* in subframe 1, with DAI 0 */
+    refused(handset, feedback_feed_release(handset, 61, 5), FEEDBACK_REFUSED_STATE);
+    handset.past[0].dai = 4;
+    handset.past[0].results = FEEDBACK_TWO_CARRIED; /* without a meaning there, and kept */
+    nothing(handset, FEEDBACK_KIND_SILENT);
+    handset.past[0].cce = 61;
+    refused(handset, feedback_feed_nothing(handset), FEEDBACK_REFUSED_STATE);
+    handset.past[0].cce = 60;
+    handset.next = 3; /* now the release came in subframe 2, uplink */
+    refused(handset, feedback_feed_nothing(handset), FEEDBACK_REFUSED_STATE);
+}
+
+/* Subframes 0, 1 and 3 are in one window, 4 is in the next; see the table. */
+static void blocks_refused(void)
+{
+    struct feedback_handset none = fresh(settings_of(2, 0, 1));
+    struct feedback_handset handset = fresh(with_scheduled(settings_of(2, 0, 1), 6));
+    refused(none, feedback_feed_scheduled(none, 0, 1, 1), FEEDBACK_REFUSED_CARRIED);
+    refused(none, feedback_feed_scheduled(none, 2, 1, 1), FEEDBACK_REFUSED_CARRIED);
+    refused(none, feedback_feed_scheduled(none, 1, 1, 1), FEEDBACK_REFUSED_SCHEDULED);
+    none.past[0].kind = FEEDBACK_SLOT_SCHEDULED; /* in subframe 9, with no resource set */
+    refused(none, feedback_feed_scheduled(none, 0, 1, 1), FEEDBACK_REFUSED_STATE);
+    handset = scheduled(handset, 1, 1, 0);
+    refused(handset, feedback_feed_scheduled(handset, 1, 1, 0), FEEDBACK_REFUSED_SCHEDULED);
+    refused(handset, feedback_feed_scheduled(handset, 2, 1, 0), FEEDBACK_REFUSED_CARRIED);
+    handset = release(handset, 60, 1);
+    refused(handset, feedback_feed_scheduled(handset, 0, 1, 0), FEEDBACK_REFUSED_UPLINK);
+    handset = nothing(handset, FEEDBACK_KIND_SILENT);
+    refused(handset, feedback_feed_scheduled(handset, 1, 1, 0), FEEDBACK_REFUSED_SCHEDULED);
+    handset = nothing(handset, FEEDBACK_KIND_TAKEN);
+    handset = scheduled(handset, 1, 0, 0); /* in 4, though a release was heard */
+    handset.past[0].cce = 200;             /* without a meaning there, and kept */
+    handset.past[0].dai = 77;
+    nothing(handset, FEEDBACK_KIND_TAKEN);
+    handset.past[1].kind = FEEDBACK_SLOT_SCHEDULED; /* in 3, beside the one in 0 */
+    refused(handset, feedback_feed_scheduled(handset, 0, 1, 0), FEEDBACK_REFUSED_STATE);
+    handset.past[4].kind = FEEDBACK_SLOT_NOTHING;
+    nothing(handset, FEEDBACK_KIND_TAKEN);
+    handset.past[1].results = FEEDBACK_TWO_CARRIED; /* where one block is the most */
+    refused(handset, feedback_feed_nothing(handset), FEEDBACK_REFUSED_STATE);
+    handset.past[1].results = 0;
+    handset.next = 4; /* now the block of 3 came in subframe 2, uplink */
     refused(handset, feedback_feed_nothing(handset), FEEDBACK_REFUSED_STATE);
 }
 
@@ -781,19 +1035,20 @@ static void all_texts(void)
         "2: the bandwidth",     "3: N1 is over 2047",
         "4: the mode",          "5: configuration 5 has no multiplexing",
         "6: the most",          "7: the subframe",
-        "8: the handset",       "9: the grant came in an uplink subframe",
-        "10: the grant carries", "11: the first CCE",
+        "8: the handset",       "9: a grant, scheduled block or release came in an uplink",
+        "10: the blocks",       "11: the first CCE",
         "12: the DAI",          "13: the PUCCH resource",
         "14: the bits",         "15: the scratch",
-        "16: a claim"};
+        "16: a claim",          "17: the resource set for scheduled blocks",
+        "18: a scheduled block"};
     static const char *const kinds[] = {"refused", "bundled reply", "multiplexed reply",
                                         "Silent",  "downlink",      "uplink"};
     static const char *const claims_kinds[] = {"refused", "clean", "clash"};
-    static const char *const slot_kinds[] = {"nothing", "grant"};
-    texts(feedback_refusal_text, refusals, 17);
+    static const char *const slot_kinds[] = {"nothing", "grant", "scheduled block", "release"};
+    texts(feedback_refusal_text, refusals, 19);
     texts(feedback_kind_text, kinds, 6);
     texts(feedback_claims_kind_text, claims_kinds, 3);
-    texts(feedback_slot_kind_text, slot_kinds, 2);
+    texts(feedback_slot_kind_text, slot_kinds, 4);
 }
 
 int main(int argc, char **argv)
@@ -807,6 +1062,7 @@ int main(int argc, char **argv)
     layout();
     settings_macro();
     settings();
+    order();
     table();
     window_of_2();
     window_of_5();
@@ -814,13 +1070,19 @@ int main(int argc, char **argv)
     resource_and_inverse();
     reading_bundled();
     reading_multiplexed();
+    reading_scheduled();
+    reading_scheduled_refused();
     claims_of_1();
     claims_of_5();
     bundled();
     multiplexed();
+    bundled_scheduled();
+    multiplexed_scheduled();
     no_window();
     slept();
     feeds_refused();
+    releases_refused();
+    blocks_refused();
     all_texts();
     if (failures == 0)
         printf("%u checks\n", checks);

@@ -49,10 +49,13 @@ LOOP(inverse, feedback_inverse_answer, (struct feedback_settings s, uint16_t n, 
      EACH(i, SETTINGS) EACH(j, 11) EACH(r, 1300)
          sink += call(settings[i], (uint16_t)j, (uint16_t)r).cce;)
 
+static const uint16_t told[] = {FEEDBACK_NONE, 0, 3, 8};
 LOOP(reading, feedback_reading_answer,
-     (struct feedback_settings s, uint16_t n, uint16_t resource, uint16_t b0, uint16_t b1),
-     EACH(i, SETTINGS) EACH(j, 11) EACH(r, 1300) EACH(b, 4)
-         sink += call(settings[i], (uint16_t)j, (uint16_t)r, b & 1, (uint16_t)(b >> 1)).cce;)
+     (struct feedback_settings s, uint16_t n, uint16_t scheduled_position, uint16_t resource,
+      uint16_t b0, uint16_t b1),
+     EACH(i, SETTINGS) EACH(j, 11) EACH(p, 4) EACH(r, 1300) EACH(b, 4)
+         sink += call(settings[i], (uint16_t)j, told[p], (uint16_t)r, b & 1,
+                      (uint16_t)(b >> 1)).cce;)
 
 static uint16_t list[600];
 static uint8_t scratch[FEEDBACK_SCRATCH_MOST];
@@ -73,6 +76,13 @@ LOOP(feed_grant, feedback_fed,
       uint16_t cce, uint16_t dai),
      EACH(i, HANDSETS) EACH(b, 4) sink += call(handsets[i], (uint16_t)b, 1, 0, 3, 1).kind;)
 
+LOOP(feed_scheduled, feedback_fed,
+     (struct feedback_handset handset, uint16_t blocks, uint16_t first, uint16_t second),
+     EACH(i, HANDSETS) EACH(b, 4) sink += call(handsets[i], (uint16_t)b, 1, 0).kind;)
+
+LOOP(feed_release, feedback_fed, (struct feedback_handset handset, uint16_t cce, uint16_t dai),
+     EACH(i, HANDSETS) EACH(d, 3) sink += call(handsets[i], 3, (uint16_t)d).kind;)
+
 /* ---- inputs ---- */
 
 static unsigned draw(unsigned limit)
@@ -82,15 +92,33 @@ static unsigned draw(unsigned limit)
     return (random >> 16) % limit;
 }
 
-/* All configurations, modes and blocks (mode 1 of configuration 5 is refused), three bandwidths. */
+/*
+ * All configurations, modes and blocks (mode 1 of configuration 5 is refused), three bandwidths;
+ * a scheduled resource is set in most.
+ */
 static void fill_settings(void)
 {
     static const uint16_t bandwidths[] = {6, 50, 110};
     EACH(i, SETTINGS)
+    {
         settings[i] = FEEDBACK_SETTINGS(i % 7, bandwidths[i / 28], 10, i / 7 % 2, 1 + i / 14 % 2);
+        if (i % 5 > 0)
+            settings[i].scheduled = 5;
+    }
 }
 
-/* The states of runs that lose none, a third, two thirds and all of the grants; some spoilt. */
+/* What a subframe brings: a scheduled block, where it is not refused, a release or a grant. */
+static struct feedback_fed something(struct feedback_handset handset, uint16_t dai)
+{
+    struct feedback_fed fed = feedback_feed_scheduled(handset, 1, draw(4) > 0, 0);
+    if (fed.refusal == 0 && draw(4) == 0)
+        return fed;
+    uint16_t cce = (uint16_t)draw(7);
+    return draw(4) == 0 ? feedback_feed_release(handset, cce, dai)
+                        : feedback_feed_grant(handset, 1, draw(4) > 0, 0, cce, dai);
+}
+
+/* The states of runs that lose none, a third, two thirds and all of what is sent; some spoilt. */
 static void fill_handsets(void)
 {
     EACH(i, HANDSETS)
@@ -101,17 +129,17 @@ static void fill_handsets(void)
             *handset = feedback_make(cell).handset;
         struct feedback_answered_answer in = feedback_answered(cell, handset->next);
         int lost = draw(3) < i / FEEDS / SETTINGS || in.refusal != 0;
-        uint16_t dai = 1; /* of a window in which every downlink subframe has a grant */
+        uint16_t dai = 1; /* of a window with a PDCCH wherever no scheduled block was heard */
         struct feedback_window_answer window = feedback_window(cell, in.n);
         for (unsigned j = 0; j < window.size && window.order[j] != in.position; j++)
-            dai = (uint16_t)(dai % 4 + 1);
-        struct feedback_fed fed = lost ? feedback_feed_nothing(*handset)
-                                       : feedback_feed_grant(*handset, 1, draw(4) > 0, 0,
-                                                             (uint16_t)draw(7), dai);
+            if (handset->past[window.k[window.order[j]] - in.k - 1].kind != FEEDBACK_SLOT_SCHEDULED)
+                dai = (uint16_t)(dai % 4 + 1);
+        struct feedback_fed fed =
+            lost ? feedback_feed_nothing(*handset) : something(*handset, dai);
         if (i % FEEDS < FEEDS - 1)
             handsets[i + 1] = fed.handset;
         if (draw(20) == 0)
-            handset->past[draw(13)].kind ^= (uint8_t)draw(4);
+            handset->past[draw(13)].kind ^= (uint8_t)draw(8);
     }
 }
 
@@ -158,7 +186,7 @@ static unsigned stated(const char *name)
 static int held(const char *name, void (*loop)(void), unsigned pushed)
 {
     unsigned caller = used(loop, 0), most = used(loop, 1) - caller + pushed;
-    printf("%-13s %4u bytes of stack, stated %u\n", name, most, stated(name));
+    printf("%-14s %4u bytes of stack, stated %u\n", name, most, stated(name));
     return caller < 512 && most <= stated(name);
 }
 #define HELD(name, arguments) held(#name, loop_##name, 8 + arguments)
@@ -176,10 +204,12 @@ int main(int argc, char **argv)
     all &= HELD(answered, 0);
     all &= HELD(resource, 0);
     all &= HELD(inverse, 0);
-    all &= HELD(reading, 0);
+    all &= HELD(reading, 8);
     all &= HELD(claims, 8);
     all &= HELD(make, 0);
-    all &= HELD(feed_nothing, 64);
-    all &= HELD(feed_grant, 64);
+    all &= HELD(feed_nothing, 72);
+    all &= HELD(feed_grant, 72);
+    all &= HELD(feed_scheduled, 72);
+    all &= HELD(feed_release, 72);
     return !all;
 }

@@ -4,12 +4,12 @@
 use crate::guarded::{Flush, Guarded, BOTH};
 use crate::model::Model;
 use crate::plain::{
-    plain_answered, plain_claims, plain_feed_grant, plain_feed_nothing, plain_inverse, plain_make,
-    plain_reading, plain_resource, plain_window,
+    plain_answered, plain_claims, plain_feed_grant, plain_feed_nothing, plain_feed_release,
+    plain_feed_scheduled, plain_inverse, plain_make, plain_reading, plain_resource, plain_window,
 };
 use crate::{
-    answered, claims, feed, inverse, make, reading, resource, window, ClaimsAnswer, Fed, Grant,
-    Handset, Settings,
+    answered, claims, feed, inverse, make, reading, resource, window, Block, ClaimsAnswer, Fed,
+    Grant, Handset, Heard, ReadingAnswer, Release, Settings,
 };
 use std::fmt;
 
@@ -30,7 +30,7 @@ pub const BANDWIDTHS: u64 = 105;
 pub const CCES: u64 = 7397;
 
 /// The highest refusal number.
-const LAST_REFUSAL: usize = 16;
+const LAST_REFUSAL: usize = 18;
 
 /// The highest kind of an answer.
 const LAST_KIND: usize = 5;
@@ -96,17 +96,27 @@ impl<'a> Comparison<'a> {
         self.counts[usize::from(due.refusal)] += 1;
     }
 
-    pub fn reading(&mut self, settings: Settings, n: u16, resource: u16, b0: u16, b1: u16) {
-        let due = self.model.reading(settings, n, resource, b0, b1);
-        let given = reading(settings, n, resource, b0, b1);
-        let plain = plain_reading(settings, n, resource, b0, b1);
+    pub fn reading(
+        &mut self,
+        settings: Settings,
+        n: u16,
+        told: u16,
+        resource: u16,
+        b0: u16,
+        b1: u16,
+    ) -> ReadingAnswer {
+        let due = self.model.reading(settings, n, told, resource, b0, b1);
+        let given = reading(settings, n, told, resource, b0, b1);
+        let plain = plain_reading(settings, n, told, resource, b0, b1);
         assert!(
             given == due && plain == due,
-            "feedback_reading({settings:?}, n {n}, resource {resource}, b0 {b0}, b1 {b1}): the \
-             engine gives {given:?}, the model {due:?}, the plain implementation {plain:?}"
+            "feedback_reading({settings:?}, n {n}, told {told}, resource {resource}, b0 {b0}, \
+             b1 {b1}): the engine gives {given:?}, the model {due:?}, the plain implementation \
+             {plain:?}"
         );
         self.counts[usize::from(due.refusal)] += 1;
         self.kinds[usize::from(due.kind)] += 1;
+        given
     }
 
     /// Two comparisons: list and scratch lie flush with a guard, once at their
@@ -164,7 +174,8 @@ impl<'a> Comparison<'a> {
         given.handset
     }
 
-    pub fn feed(&mut self, handset: Handset, heard: Option<Grant>) -> Fed {
+    pub fn feed(&mut self, handset: Handset, heard: impl Into<Heard>) -> Fed {
+        let heard = heard.into();
         let due = self.model.feed(handset, heard);
         let given = feed(handset, heard);
         let plain = plain_feed(handset, heard);
@@ -255,12 +266,16 @@ pub fn plain_claims_on(
 }
 
 /// The plain implementation's answer to a feed.
-pub fn plain_feed(handset: Handset, heard: Option<Grant>) -> Fed {
-    match heard {
-        None => plain_feed_nothing(handset),
-        Some(Grant { blocks, first, second, cce, dai }) => {
+pub fn plain_feed(handset: Handset, heard: impl Into<Heard>) -> Fed {
+    match heard.into() {
+        Heard::Nothing => plain_feed_nothing(handset),
+        Heard::Grant(Grant { blocks, first, second, cce, dai }) => {
             plain_feed_grant(handset, blocks, first, second, cce, dai)
         }
+        Heard::Block(Block { blocks, first, second }) => {
+            plain_feed_scheduled(handset, blocks, first, second)
+        }
+        Heard::Release(Release { cce, dai }) => plain_feed_release(handset, cce, dai),
     }
 }
 

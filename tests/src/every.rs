@@ -6,6 +6,15 @@ use crate::Settings;
 /// The four ways to set mode and blocks; one of the modes is not for configuration 5.
 pub const MODE_AND_BLOCKS: [(u16, u16); 4] = [(0, 1), (0, 2), (1, 1), (1, 2)];
 
+/// The 26 ways to set configuration, mode and blocks.
+pub fn cell(nrb: u16, n1: u16, scheduled: u16) -> impl Iterator<Item = Settings> {
+    let modes = |config| (0..=u16::from(config != 5)).map(move |mode| (config, mode));
+    (0..7).flat_map(modes).flat_map(move |(config, mode)| {
+        [1, 2]
+            .map(|blocks| Settings::plain(config, nrb, n1, mode, blocks).with_scheduled(scheduled))
+    })
+}
+
 /// Every window, with all settings of these values.
 pub fn window<'a>(
     model: &'a Model,

@@ -6,7 +6,7 @@
 //! third, made to be fast, the measure in the benchmark and in the fuzzing.
 //! [`compare`] holds the engine to the model, answer by answer, on inputs in every
 //! combination ([`every`]) or at random ([`random`]), and on memory that is lent
-//! from [`guarded`].
+//! from [`guarded`]. [`vectors`] reads the cases that come with the requests.
 
 pub mod compare;
 pub mod every;
@@ -15,10 +15,11 @@ pub mod model;
 pub mod plain;
 pub mod random;
 pub mod types;
+pub mod vectors;
 
 pub use types::{
-    AnsweredAnswer, ClaimsAnswer, Fed, Grant, Handset, InverseAnswer, Made, ReadingAnswer,
-    ResourceAnswer, Settings, Slot, WindowAnswer,
+    AnsweredAnswer, Block, ClaimsAnswer, Fed, Grant, Handset, Heard, InverseAnswer, Made,
+    ReadingAnswer, Release, ResourceAnswer, Settings, Slot, WindowAnswer, NONE, NOT_TOLD,
 };
 
 /// The engine's calls under their C names.
@@ -29,7 +30,7 @@ pub mod c {
     };
 
     extern "C" {
-        pub fn feedback_layout_1() -> u16;
+        pub fn feedback_layout_2() -> u16;
 
         pub fn feedback_window(settings: Settings, n: u16) -> WindowAnswer;
 
@@ -47,6 +48,7 @@ pub mod c {
         pub fn feedback_reading(
             settings: Settings,
             n: u16,
+            scheduled_position: u16,
             resource: u16,
             b0: u16,
             b1: u16,
@@ -73,13 +75,22 @@ pub mod c {
             cce: u16,
             dai: u16,
         ) -> Fed;
+
+        pub fn feedback_feed_scheduled(
+            handset: Handset,
+            blocks: u16,
+            first: u16,
+            second: u16,
+        ) -> Fed;
+
+        pub fn feedback_feed_release(handset: Handset, cce: u16, dai: u16) -> Fed;
     }
 }
 
 /// The number of the structs' layout.
-pub fn layout_1() -> u16 {
+pub fn layout_2() -> u16 {
     // SAFETY: the call gives a number, and is lent no memory.
-    unsafe { c::feedback_layout_1() }
+    unsafe { c::feedback_layout_2() }
 }
 
 /// The engine's window of uplink subframe `n`.
@@ -106,10 +117,18 @@ pub fn inverse(settings: Settings, n: u16, resource: u16) -> InverseAnswer {
     unsafe { c::feedback_inverse(settings, n, resource) }
 }
 
-/// The engine's reading of two bits on a resource in subframe `n`.
-pub fn reading(settings: Settings, n: u16, resource: u16, b0: u16, b1: u16) -> ReadingAnswer {
+/// The engine's reading of two bits on a resource in subframe `n`; it is told the
+/// position of the scheduled block that was sent, if one was.
+pub fn reading(
+    settings: Settings,
+    n: u16,
+    told: u16,
+    resource: u16,
+    b0: u16,
+    b1: u16,
+) -> ReadingAnswer {
     // SAFETY: the call takes numbers and gives numbers, and is lent no memory.
-    unsafe { c::feedback_reading(settings, n, resource, b0, b1) }
+    unsafe { c::feedback_reading(settings, n, told, resource, b0, b1) }
 }
 
 /// The engine's verdict on the claims for subframe `n`, with the marks it leaves
@@ -128,11 +147,13 @@ pub fn make(settings: Settings) -> Made {
     unsafe { c::feedback_make(settings) }
 }
 
-/// The engine's answer when the next subframe of a handset heard a grant, or nothing.
-pub fn feed(handset: Handset, heard: Option<Grant>) -> Fed {
-    match heard {
-        None => feed_nothing(handset),
-        Some(grant) => feed_grant(handset, grant),
+/// The engine's answer to what the next subframe of a handset heard.
+pub fn feed(handset: Handset, heard: impl Into<Heard>) -> Fed {
+    match heard.into() {
+        Heard::Nothing => feed_nothing(handset),
+        Heard::Grant(grant) => feed_grant(handset, grant),
+        Heard::Block(block) => feed_scheduled(handset, block),
+        Heard::Release(release) => feed_release(handset, release),
     }
 }
 
@@ -147,4 +168,18 @@ pub fn feed_grant(handset: Handset, grant: Grant) -> Fed {
     let Grant { blocks, first, second, cce, dai } = grant;
     // SAFETY: the call takes numbers and gives numbers, and is lent no memory.
     unsafe { c::feedback_feed_grant(handset, blocks, first, second, cce, dai) }
+}
+
+/// The engine's answer when the next subframe of a handset heard a scheduled block.
+pub fn feed_scheduled(handset: Handset, block: Block) -> Fed {
+    let Block { blocks, first, second } = block;
+    // SAFETY: the call takes numbers and gives numbers, and is lent no memory.
+    unsafe { c::feedback_feed_scheduled(handset, blocks, first, second) }
+}
+
+/// The engine's answer when the next subframe of a handset heard a release.
+pub fn feed_release(handset: Handset, release: Release) -> Fed {
+    let Release { cce, dai } = release;
+    // SAFETY: the call takes numbers and gives numbers, and is lent no memory.
+    unsafe { c::feedback_feed_release(handset, cce, dai) }
 }

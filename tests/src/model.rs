@@ -12,7 +12,7 @@ mod station;
 
 pub use replies::{Row, Symbol};
 
-use crate::{AnsweredAnswer, InverseAnswer, ResourceAnswer, Settings, WindowAnswer};
+use crate::{AnsweredAnswer, InverseAnswer, ResourceAnswer, Settings, WindowAnswer, NONE};
 use replies::States;
 use std::cmp::Reverse;
 
@@ -33,6 +33,11 @@ pub const NRB: std::ops::RangeInclusive<u16> = 6..=110;
 
 /// The longest window.
 const LONGEST: u16 = 9;
+
+/// The order in which the causes of a refusal are tried. 01's numbers rise, and a
+/// number that came later stands directly behind the one that it is said to be
+/// after: 17 after 6, 18 after 12.
+const ORDER: [u16; 18] = [1, 2, 3, 4, 5, 6, 17, 7, 8, 9, 10, 11, 12, 18, 13, 14, 15, 16];
 
 /// The window of one uplink subframe of one configuration.
 #[derive(Clone, Debug, PartialEq, Eq)]
@@ -196,23 +201,24 @@ pub fn bundles(settings: Settings, size: u16) -> bool {
     settings.mode == 0 || size == 1
 }
 
-/// The lowest number among the causes that the settings meet.
+/// The first among the causes that the settings meet.
 fn settings_refusal(settings: Settings) -> Option<u16> {
-    let Settings { config, nrb, n1, mode, blocks, .. } = settings;
-    lowest([
+    let Settings { config, nrb, n1, mode, blocks, scheduled, .. } = settings;
+    first_met([
         (1, config > 6),
         (2, !NRB.contains(&nrb)),
         (3, n1 > 2047),
         (4, ![0, 1].contains(&mode)),
         (5, (mode, config) == (1, 5)),
         (6, ![1, 2].contains(&blocks)),
+        (17, scheduled != NONE && scheduled >= n1),
     ])
 }
 
-/// The lowest number among the causes that are met.
-fn lowest<const C: usize>(causes: [(u16, bool); C]) -> Option<u16> {
-    let met = causes.into_iter().filter(|(_, met)| *met);
-    met.map(|(number, _)| number).min()
+/// The first in order among the causes that are met.
+fn first_met<const C: usize>(causes: [(u16, bool); C]) -> Option<u16> {
+    let met = causes.into_iter().filter(|(_, met)| *met).map(|(number, _)| number);
+    met.min_by_key(|number| ORDER.iter().position(|each| each == number))
 }
 
 /// The windows of one configuration, read from the printed row.

@@ -7,11 +7,13 @@ mod handset;
 mod station;
 mod window;
 
-pub use handset::{plain_feed_grant, plain_feed_nothing, plain_make};
+pub use handset::{
+    plain_feed_grant, plain_feed_nothing, plain_feed_release, plain_feed_scheduled, plain_make,
+};
 pub use station::{plain_claims, plain_reading};
 pub use window::{plain_answered, plain_window};
 
-use crate::{InverseAnswer, ResourceAnswer, Settings};
+use crate::{InverseAnswer, ResourceAnswer, Settings, NONE};
 
 /// K by configuration and subframe, in printed order; empty where there is no window.
 pub const K: [[&[u8]; 10]; 7] = [
@@ -101,6 +103,8 @@ fn check(settings: &Settings) -> Result<(), u16> {
         Err(5)
     } else if settings.blocks != 1 && settings.blocks != 2 {
         Err(6)
+    } else if settings.scheduled != NONE && settings.scheduled >= settings.n1 {
+        Err(17)
     } else {
         Ok(())
     }

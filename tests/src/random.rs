@@ -1,7 +1,7 @@
 //! Pseudo-random inputs from fixed seeds, the same in every run.
 
 use crate::model::{edge, Model, Window, NRB};
-use crate::{Grant, Handset, Settings, Slot};
+use crate::{Block, Grant, Handset, Heard, Release, Settings, Slot, NONE};
 
 /// Numbers that are a limit somewhere, lie beside one, or would be allowed if
 /// only their low eight bits were read.
@@ -79,15 +79,40 @@ impl Random {
         Settings::plain(config, nrb, n1, mode, 1 + self.below16(2))
     }
 
-    /// Settings of which each number is once in `times` any number.
+    /// Settings that are allowed, with a scheduled resource.
+    pub fn scheduled_settings(&mut self) -> Settings {
+        let n1 = 1 + self.below16(2047);
+        let scheduled = self.below16(n1);
+        Settings { n1, ..self.settings() }.with_scheduled(scheduled)
+    }
+
+    /// Settings of which each number is once in `times` any number. Every other time
+    /// they have a scheduled resource.
     pub fn wild_settings(&mut self, times: usize) -> Settings {
-        let Settings { config, nrb, n1, mode, blocks, .. } = self.settings();
+        let settings = match self.once_in(2) {
+            true => self.settings(),
+            false => self.scheduled_settings(),
+        };
+        let Settings { config, nrb, n1, mode, blocks, scheduled, .. } = settings;
         let config = self.unless_once_in(times, config);
         let nrb = self.unless_once_in(times, nrb);
         let n1 = self.unless_once_in(times, n1);
         let wild_mode = self.once_in(8);
         let mode = if wild_mode { self.below16(2) } else { self.unless_once_in(times, mode) };
-        Settings::plain(config, nrb, n1, mode, self.unless_once_in(times, blocks))
+        let blocks = self.unless_once_in(times, blocks);
+        let scheduled = match self.once_in(times) {
+            true => self.near_n1(n1),
+            false => scheduled,
+        };
+        Settings::plain(config, nrb, n1, mode, blocks).with_scheduled(scheduled)
+    }
+
+    /// A number around N1, or any.
+    fn near_n1(&mut self, n1: u16) -> u16 {
+        match self.once_in(2) {
+            true => n1.wrapping_add(self.below16(4)).wrapping_sub(2),
+            false => self.any(),
+        }
     }
 
     /// A window of a configuration.
@@ -118,6 +143,19 @@ impl Random {
         }
     }
 
+    /// A scheduled block that is allowed in the downlink if it is the first of its
+    /// window.
+    pub fn block(&mut self, settings: Settings) -> Block {
+        let Grant { blocks, first, second, .. } = self.grant(settings);
+        Block { blocks, first, second }
+    }
+
+    /// A release that is allowed in the downlink.
+    pub fn release(&mut self, settings: Settings) -> Release {
+        let Grant { cce, dai, .. } = self.grant(settings);
+        Release { cce, dai }
+    }
+
     /// A decoded flag: 0, or any other number.
     pub fn flag(&mut self) -> u16 {
         match self.below(4) {
@@ -142,34 +180,53 @@ impl Random {
         }
     }
 
+    /// A grant, a scheduled block or a release of which each number is once in
+    /// `times` any number.
+    pub fn wild_heard(&mut self, settings: Settings, times: usize) -> Heard {
+        let grant = self.wild_grant(settings, times);
+        let Grant { blocks, first, second, cce, dai } = grant;
+        match self.below(4) {
+            0 | 1 => Heard::Grant(grant),
+            2 => Heard::Block(Block { blocks, first, second }),
+            _ => Heard::Release(Release { cce, dai }),
+        }
+    }
+
     /// One to three fields of a handset get other values.
     pub fn damage(&mut self, mut handset: Handset) -> Handset {
         for _ in 0..1 + self.below(3) {
             let settings = &mut handset.settings;
-            match self.below(16) {
+            match self.below(20) {
                 0 => settings.config = self.any(),
                 1 => settings.nrb = self.any(),
                 2 => settings.n1 = self.any(),
                 3 => settings.mode = self.any(),
                 4 => settings.blocks = self.any(),
-                5 => handset.next = self.any(),
-                6 => handset.next = self.below16(10),
+                5 => settings.scheduled = self.near_n1(settings.n1),
+                6 => settings.scheduled = self.one_of(&[0, NONE]),
                 7 => settings.config = self.below16(7),
                 8 => settings.nrb = NRB.start() + self.below16(NRB.count() as u16),
-                other => {
-                    let slot = &mut handset.past[self.below(13)];
-                    match other {
-                        9 => slot.kind = self.any_byte(),
-                        10 => slot.kind = 1 - slot.kind.min(1),
-                        11 | 12 => slot.cce = self.any_byte(),
-                        13 => slot.dai = self.any_byte(),
-                        14 => slot.dai = self.below(7) as u8,
-                        _ => slot.results = self.any_byte(),
-                    }
-                }
+                9 => handset.next = self.any(),
+                10 => handset.next = self.below16(10),
+                _ => self.damage_slot(&mut handset.past),
             }
         }
         handset
+    }
+
+    /// One field of one slot gets another value.
+    fn damage_slot(&mut self, past: &mut [Slot; 13]) {
+        let slot = &mut past[self.below(13)];
+        match self.below(9) {
+            0 => slot.kind = self.any_byte(),
+            1 => slot.kind = 1 - slot.kind.min(1),
+            2 => slot.kind = self.below(5) as u8,
+            3 => slot.kind = Slot::BLOCK,
+            4 | 5 => slot.cce = self.any_byte(),
+            6 => slot.dai = self.any_byte(),
+            7 => slot.dai = self.below(7) as u8,
+            _ => slot.results = self.any_byte(),
+        }
     }
 
     /// A handset of any numbers.
@@ -178,6 +235,7 @@ impl Random {
         handset.next = self.any();
         for slot in &mut handset.past {
             let [kind, cce, dai, results] = [0; 4].map(|_: u8| self.any_byte());
+            let kind = if self.once_in(2) { self.below(4) as u8 } else { kind };
             *slot = Slot { kind, cce, dai, results };
         }
         handset

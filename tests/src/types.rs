@@ -1,5 +1,11 @@
 //! The structs of the C calls, as in `include/feedback.h`.
 
+/// Stands for none: no scheduled resource is set.
+pub const NONE: u16 = 65535;
+
+/// Stands for none: no scheduled position is told to a reading.
+pub const NOT_TOLD: u16 = 65535;
+
 /// The settings of a cell: raw numbers, of which a call refuses what is not allowed.
 #[repr(C)]
 #[derive(Clone, Copy, Debug, PartialEq, Eq)]
@@ -9,12 +15,18 @@ pub struct Settings {
     pub n1: u16,
     pub mode: u16,
     pub blocks: u16,
+    pub scheduled: u16,
 }
 
 impl Settings {
     /// The settings that 01 names; what later papers add is as before.
     pub const fn plain(config: u16, nrb: u16, n1: u16, mode: u16, blocks: u16) -> Self {
-        Self { config, nrb, n1, mode, blocks }
+        Self { config, nrb, n1, mode, blocks, scheduled: NONE }
+    }
+
+    /// The same with a scheduled resource.
+    pub const fn with_scheduled(self, scheduled: u16) -> Self {
+        Self { scheduled, ..self }
     }
 }
 
@@ -59,9 +71,10 @@ pub struct InverseAnswer {
 }
 
 /// The answer of the station's reading: a refusal, or 0 and the position and
-/// first CCE, with the ACK bits of a bundled reply (kind 1) or the positions
-/// delivered by a multiplexed one (kind 2; bit p for position p). What is not
-/// of the kind is 0.
+/// first CCE, or the position of the scheduled block (`scheduled` 1), with the
+/// ACK bits of a bundled reply (kind 1) or the positions delivered by a
+/// multiplexed one (kind 2; bit p for position p). What is not of the kind is 0,
+/// and a scheduled block has no CCE.
 #[repr(C)]
 #[derive(Clone, Copy, Debug, PartialEq, Eq)]
 pub struct ReadingAnswer {
@@ -72,6 +85,7 @@ pub struct ReadingAnswer {
     pub b0: u16,
     pub b1: u16,
     pub delivered: u16,
+    pub scheduled: u16,
 }
 
 /// The answer about the claims of a cell: a refusal (kind 0), with the index of
@@ -85,9 +99,10 @@ pub struct ClaimsAnswer {
     pub index: u64,
 }
 
-/// What a handset remembers of one subframe: nothing (kind 0), or a grant (1)
-/// with its results: bit 0 if the first block was decoded, bit 1 if the second
-/// was, bit 2 if the grant carried two.
+/// What a handset remembers of one subframe: nothing (kind 0), a grant (1) with
+/// its results, a scheduled block (2) with its results and no CCE or DAI, or a
+/// release (3) with its CCE and DAI and no results. Of the results bit 0 says if
+/// the first block was decoded, bit 1 if the second was, bit 2 if two were carried.
 #[repr(C)]
 #[derive(Clone, Copy, Debug, PartialEq, Eq)]
 pub struct Slot {
@@ -140,6 +155,38 @@ pub struct Grant {
     pub dai: u16,
 }
 
+/// A scheduled block as the arguments of a feed name it: it comes without a PDCCH,
+/// and so without CCE and DAI.
+#[derive(Clone, Copy, Debug, PartialEq, Eq)]
+pub struct Block {
+    pub blocks: u16,
+    pub first: u16,
+    pub second: u16,
+}
+
+/// The PDCCH that ends a schedule, as the arguments of a feed name it.
+#[derive(Clone, Copy, Debug, PartialEq, Eq)]
+pub struct Release {
+    pub cce: u16,
+    pub dai: u16,
+}
+
+/// What a subframe brings to a handset: one feed for each.
+#[derive(Clone, Copy, Debug, PartialEq, Eq)]
+pub enum Heard {
+    Nothing,
+    Grant(Grant),
+    Block(Block),
+    Release(Release),
+}
+
+/// Where there is no schedule, a subframe brings a grant or nothing.
+impl From<Option<Grant>> for Heard {
+    fn from(heard: Option<Grant>) -> Self {
+        heard.map_or(Self::Nothing, Self::Grant)
+    }
+}
+
 impl WindowAnswer {
     pub const fn refused(refusal: u16) -> Self {
         Self { refusal, size: 0, k: [0; 9], order: [0; 9] }
@@ -190,15 +237,20 @@ impl InverseAnswer {
 
 impl ReadingAnswer {
     pub fn refused(refusal: u16) -> Self {
-        Self { refusal, kind: 0, position: 0, cce: 0, b0: 0, b1: 0, delivered: 0 }
+        Self { refusal, kind: 0, position: 0, cce: 0, b0: 0, b1: 0, delivered: 0, scheduled: 0 }
     }
 
     pub fn bundled(position: u16, cce: u16, b0: u16, b1: u16) -> Self {
-        Self { refusal: 0, kind: 1, position, cce, b0, b1, delivered: 0 }
+        Self { kind: 1, position, cce, b0, b1, ..Self::refused(0) }
     }
 
     pub fn multiplexed(position: u16, cce: u16, delivered: u16) -> Self {
-        Self { refusal: 0, kind: 2, position, cce, b0: 0, b1: 0, delivered }
+        Self { kind: 2, position, cce, delivered, ..Self::refused(0) }
+    }
+
+    /// The same, read as the scheduled block at the position.
+    pub fn as_block(self) -> Self {
+        Self { cce: 0, scheduled: 1, ..self }
     }
 }
 
@@ -216,12 +268,19 @@ impl ClaimsAnswer {
 
 impl Slot {
     pub const NOTHING: Self = Self { kind: 0, cce: 0, dai: 0, results: 0 };
+
+    pub const GRANT: u8 = 1;
+    pub const BLOCK: u8 = 2;
+    pub const RELEASE: u8 = 3;
 }
 
 impl Handset {
-    /// What stands beside a refusal to make one.
-    pub const NONE: Self =
-        Self { settings: Settings::plain(0, 0, 0, 0, 0), next: 0, past: [Slot::NOTHING; 13] };
+    /// What stands beside a refusal to make one: every byte is 0.
+    pub const NONE: Self = Self {
+        settings: Settings::plain(0, 0, 0, 0, 0).with_scheduled(0),
+        next: 0,
+        past: [Slot::NOTHING; 13],
+    };
 
     /// A fresh one, which has heard nothing and expects subframe 0.
     pub fn fresh(settings: Settings) -> Self {

@@ -3,7 +3,7 @@
 
 use feedback_tests::{
     claims, feed, inverse, make, reading, resource, ClaimsAnswer, Fed, Grant, InverseAnswer,
-    ReadingAnswer, ResourceAnswer, Settings,
+    ReadingAnswer, ResourceAnswer, Settings, NOT_TOLD,
 };
 
 /// Configuration 1, N_RB 50, N1 10; its window of n = 2 has M = 2.
@@ -128,7 +128,7 @@ fn a_miss_is_silent() {
     let heard = |dai| [(9, grant(0, 1, true)), (13, grant(5, dai, true))];
     assert_eq!(answer(settings, &heard(3), 17), SILENT);
     assert_eq!(answer(settings, &heard(2), 17), (Fed::BUNDLED, 37, (1, 0)));
-    assert_eq!(reading(settings, 7, 37, 1, 0), ReadingAnswer::bundled(2, 5, 1, 0));
+    assert_eq!(reading(settings, 7, NOT_TOLD, 37, 1, 0), ReadingAnswer::bundled(2, 5, 1, 0));
 }
 
 /// In 8,7,4,6 the latest subframe is m = 2, not the last position.
@@ -167,7 +167,7 @@ fn unheard_is_not_undecoded() {
     assert_eq!(answer(settings, &[second], 12), (Fed::MULTIPLEXED, 31, (1, 0)));
     assert_eq!(answer(settings, &[first], 12), (Fed::MULTIPLEXED, 10, (1, 0)));
     assert_eq!(answer(settings, &[first, second], 12), (Fed::MULTIPLEXED, 31, (1, 0)));
-    assert_eq!(reading(settings, 2, 31, 1, 0), ReadingAnswer::multiplexed(1, 10, 0));
+    assert_eq!(reading(settings, 2, NOT_TOLD, 31, 1, 0), ReadingAnswer::multiplexed(1, 10, 0));
 }
 
 /// AAA-, AA-A and AA-- share a symbol, so only the first two are delivered.
@@ -181,10 +181,16 @@ fn rows_that_share_a_symbol() {
     assert_eq!(answer(settings, &[first, second], 17), shared);
     assert_eq!(answer(settings, &[first, second, third], 17), shared);
     assert_eq!(answer(settings, &[first, second, fourth], 17), shared);
-    assert_eq!(reading(settings, 7, shared.1, 1, 0), ReadingAnswer::multiplexed(1, 5, 0b0011));
+    assert_eq!(
+        reading(settings, 7, NOT_TOLD, shared.1, 1, 0),
+        ReadingAnswer::multiplexed(1, 5, 0b0011)
+    );
     let all = (Fed::MULTIPLEXED, shared.1, (1, 1));
     assert_eq!(answer(settings, &[first, second, third, fourth], 17), all);
-    assert_eq!(reading(settings, 7, shared.1, 1, 1), ReadingAnswer::multiplexed(1, 5, 0b1111));
+    assert_eq!(
+        reading(settings, 7, NOT_TOLD, shared.1, 1, 1),
+        ReadingAnswer::multiplexed(1, 5, 0b1111)
+    );
 }
 
 /// Claims of configuration 1, whose resources are printed: 10, 20, 21, 31, 32, 131.

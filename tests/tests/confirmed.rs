@@ -1,22 +1,27 @@
 //! What a scheduler may take as confirmed. The station knows what it sent in a
 //! window and how it reads the reply, and nothing of what was heard. Here every
-//! window meets every way in which grants are sent, lost, heard and decoded, and
-//! a handset answers through the C calls. Each block that the station's rule
-//! confirms must have been heard and decoded; and the rule must confirm no less
-//! than what was decoded in all the ways that look alike to the station. Rules
-//! that differ in one point are shown to confirm a block that never arrived.
+//! window meets every way in which grants, releases and a scheduled block are sent,
+//! lost, heard and decoded, and a handset answers through the C calls. Each block
+//! that the station's rule confirms must have been heard and decoded; and the rule
+//! must confirm no less than what was decoded in all the ways that look alike to
+//! the station. Rules that differ in one point are shown to confirm a block that
+//! never arrived.
 
 use feedback_tests::compare::WINDOWS;
 use feedback_tests::every;
 use feedback_tests::model::{bundles, edge, Model, Window};
 use feedback_tests::random::Random;
-use feedback_tests::{feed, make, reading, resource, Fed, Grant, Handset, ReadingAnswer, Settings};
+use feedback_tests::{
+    feed, make, reading, resource, Block, Fed, Grant, Handset, Heard, ReadingAnswer, Release,
+    Settings, NONE, NOT_TOLD,
+};
 use std::cmp::Reverse;
 use std::collections::HashMap;
 
-/// N_RB of the cells, and their N1.
+/// N_RB of the cells, their N1, and the scheduled resource where one is set.
 const NRB: [u16; 3] = [6, 50, 110];
 const N1: [u16; 1] = [10];
+const SCHEDULED: u16 = 9;
 
 /// A set of blocks: bit 2 × m for the first block at position m, or the only
 /// one, and the next bit for the second.
@@ -26,86 +31,191 @@ fn blocks_at(position: usize, first: bool, second: bool) -> Blocks {
     (Blocks::from(first) | Blocks::from(second) << 1) << (2 * position)
 }
 
-/// A grant as the station knows it.
+/// What was sent at a position, as the station knows it.
 #[derive(Clone, Copy, Debug, PartialEq, Eq, Hash)]
-struct Sent {
-    blocks: u16,
-    cce: u16,
+enum Sent {
+    Grant { blocks: u16, cce: u16 },
+    Release { cce: u16 },
+    Block { blocks: u16 },
+}
+
+impl Sent {
+    /// The transport blocks that it carries.
+    fn blocks(self) -> u16 {
+        match self {
+            Self::Grant { blocks, .. } | Self::Block { blocks } => blocks,
+            Self::Release { .. } => 0,
+        }
+    }
+
+    /// The first CCE of a PDCCH.
+    fn cce(self) -> Option<u16> {
+        match self {
+            Self::Grant { cce, .. } | Self::Release { cce } => Some(cce),
+            Self::Block { .. } => None,
+        }
+    }
+}
+
+/// The position of the scheduled block that was sent, which the reading is told.
+fn told(sent: &[Option<Sent>]) -> u16 {
+    let is_block = |sent: &Option<Sent>| matches!(sent, Some(Sent::Block { .. }));
+    sent.iter().position(is_block).map_or(NOT_TOLD, |position| position as u16)
 }
 
 /// What a station takes as confirmed, with the points in which a wrong rule differs.
 #[derive(Clone, Copy)]
 struct Rule {
-    /// So many grants sent up to and with the named one are all confirmed by an ACK.
+    /// So many PDCCHs sent up to and with the named one are all confirmed by an ACK.
     most: usize,
     /// "Up to" is by time, that is k falling, and not by position.
     by_time: bool,
-    /// What the reading names must have been sent there with that first CCE.
-    cce_compared: bool,
+    /// What the reading names must have been sent there with that first CCE, or be
+    /// the scheduled block there.
+    named_compared: bool,
+    /// A release is one of the PDCCHs that are counted.
+    releases_counted: bool,
+    /// The scheduled block is confirmed only where the reading names it.
+    blocks_apart: bool,
 }
 
-const RULE: Rule = Rule { most: 4, by_time: true, cce_compared: true };
+const RULE: Rule = Rule {
+    most: 4,
+    by_time: true,
+    named_compared: true,
+    releases_counted: true,
+    blocks_apart: true,
+};
 
 impl Rule {
-    /// Nothing is confirmed where what the reading names was not sent. Bundled: if
-    /// at most four grants of the window were sent up to and with the named one,
-    /// each of them is confirmed, else the named one alone; of a grant with one
-    /// block the block, if either bit is ACK, and of one with two the first by the
-    /// first bit and the second by the second. Multiplexed: every grant that was
-    /// sent at a delivered position, with all its blocks.
+    /// Nothing is confirmed where what the reading names was not sent. Multiplexed:
+    /// all that was sent at a delivered position. Bundled: a sole block by either bit,
+    /// and of two the first by the first bit and the second by the second; a release
+    /// has none.
     fn confirms(self, window: &Window, sent: &[Option<Sent>], read: ReadingAnswer) -> Blocks {
         let named = usize::from(read.position);
-        let is_named = |grant: Sent| grant.cce == read.cce || !self.cce_compared;
-        if read.refusal != 0 || !sent[named].is_some_and(is_named) {
+        if read.refusal != 0 || !sent[named].is_some_and(|sent| self.is_named(sent, read)) {
             return 0;
         }
         if read.kind == Fed::MULTIPLEXED {
             let delivered = |m: usize| read.delivered >> m & 1 == 1;
-            return together(sent, delivered, |grant| (true, grant.blocks == 2));
+            return together(sent, delivered, |sent| (sent.blocks() > 0, sent.blocks() == 2));
         }
-        let not_after = |m: usize| match self.by_time {
-            true => window.k[m] >= window.k[named],
-            false => m <= named,
-        };
-        let sent_so_far = (0..sent.len()).filter(|m| sent[*m].is_some() && not_after(*m)).count();
-        let all = sent_so_far <= self.most;
         let (ack0, ack1) = (read.b0 == 1, read.b1 == 1);
-        let acked = |grant: Sent| match grant.blocks {
+        let acked = |sent: Sent| match sent.blocks() {
+            0 => (false, false),
             1 => (ack0 || ack1, false),
             _ => (ack0, ack1),
         };
-        together(sent, |m| m == named || (all && not_after(m)), acked)
+        match read.scheduled {
+            1 => together(sent, |m| m == named, acked),
+            _ => together(sent, self.spoken_of(window, sent, named), acked),
+        }
+    }
+
+    /// The positions that a bundled reply for a PDCCH speaks of: if at most four PDCCHs
+    /// of the window were sent up to and with the named one, all of these, and if more
+    /// were, the named one alone. It does not speak of the scheduled block.
+    fn spoken_of<'a>(
+        self,
+        window: &'a Window,
+        sent: &'a [Option<Sent>],
+        named: usize,
+    ) -> impl Fn(usize) -> bool + 'a {
+        let not_after = move |m: usize| match self.by_time {
+            true => window.k[m] >= window.k[named],
+            false => m <= named,
+        };
+        let counted = |m: &usize| sent[*m].is_some_and(|sent| self.is_counted(sent));
+        let all = (0..sent.len()).filter(|m| not_after(*m)).filter(counted).count() <= self.most;
+        move |m| match sent[m] {
+            Some(Sent::Block { .. }) => !self.blocks_apart,
+            _ => m == named || (all && not_after(m)),
+        }
+    }
+
+    fn is_named(self, sent: Sent, read: ReadingAnswer) -> bool {
+        let is_block = read.scheduled == 1;
+        !self.named_compared || sent.cce() == (!is_block).then_some(read.cce)
+    }
+
+    fn is_counted(self, sent: Sent) -> bool {
+        match sent {
+            Sent::Grant { .. } => true,
+            Sent::Release { .. } => self.releases_counted,
+            Sent::Block { .. } => false,
+        }
     }
 }
 
-/// Of the positions chosen, the blocks of the grants that were sent there.
+/// Of the positions chosen, the blocks of what was sent there.
 fn together(
     sent: &[Option<Sent>],
     chosen: impl Fn(usize) -> bool,
     blocks: impl Fn(Sent) -> (bool, bool),
 ) -> Blocks {
     let mut all = 0;
-    for (m, grant) in sent.iter().enumerate().filter(|(m, _)| chosen(*m)) {
-        if let Some((first, second)) = grant.map(&blocks) {
+    for (m, sent) in sent.iter().enumerate().filter(|(m, _)| chosen(*m)) {
+        if let Some((first, second)) = sent.map(&blocks) {
             all |= blocks_at(m, first, second);
         }
     }
     all
 }
 
-/// What becomes of a position.
+/// What becomes of a position. Lost and heard speak of a grant.
 #[derive(Clone, Copy, Debug)]
 enum Fate {
     Nothing,
     Lost { blocks: u16 },
     Heard { blocks: u16, first: bool, second: bool },
+    LostRelease,
+    HeardRelease,
+    LostBlock { blocks: u16 },
+    HeardBlock { blocks: u16, first: bool, second: bool },
 }
 
 impl Fate {
-    fn blocks(self) -> Option<u16> {
+    /// What was sent, a PDCCH with this first CCE.
+    fn sent(self, cce: u16) -> Option<Sent> {
         match self {
             Self::Nothing => None,
-            Self::Lost { blocks } | Self::Heard { blocks, .. } => Some(blocks),
+            Self::Lost { blocks } | Self::Heard { blocks, .. } => Some(Sent::Grant { blocks, cce }),
+            Self::LostRelease | Self::HeardRelease => Some(Sent::Release { cce }),
+            Self::LostBlock { blocks } | Self::HeardBlock { blocks, .. } => {
+                Some(Sent::Block { blocks })
+            }
+        }
+    }
+
+    /// What was heard, a PDCCH with this first CCE and DAI. The second result of a
+    /// sole block says nothing, and is here the contrary of the first.
+    fn heard(self, cce: u16, dai: u16) -> Heard {
+        let numbers = |blocks: u16, first: bool, second: bool| {
+            let second = if blocks == 1 { !first } else { second };
+            (u16::from(first), u16::from(second))
+        };
+        match self {
+            Self::Heard { blocks, first, second } => {
+                let (first, second) = numbers(blocks, first, second);
+                Heard::Grant(Grant { blocks, first, second, cce, dai })
+            }
+            Self::HeardBlock { blocks, first, second } => {
+                let (first, second) = numbers(blocks, first, second);
+                Heard::Block(Block { blocks, first, second })
+            }
+            Self::HeardRelease => Heard::Release(Release { cce, dai }),
+            _ => Heard::Nothing,
+        }
+    }
+
+    /// Which blocks were decoded.
+    fn decoded(self) -> (bool, bool) {
+        match self {
+            Self::Heard { first, second, .. } | Self::HeardBlock { first, second, .. } => {
+                (first, second)
+            }
+            _ => (false, false),
         }
     }
 }
@@ -139,6 +249,45 @@ fn fates(settings: Settings) -> &'static [Fate] {
         1 => &FATES_OF_ONE,
         _ => &FATES_OF_TWO,
     }
+}
+
+/// The fates of releases, and those of a scheduled block, in a cell of one block and
+/// in one of two.
+const RELEASES: [Fate; 2] = [Fate::LostRelease, Fate::HeardRelease];
+const BLOCKS_OF_ONE: [Fate; 3] =
+    [Fate::LostBlock { blocks: 1 }, block(1, true, false), block(1, false, false)];
+const BLOCKS_OF_TWO: [Fate; 8] = [
+    Fate::LostBlock { blocks: 1 },
+    block(1, true, false),
+    block(1, false, false),
+    Fate::LostBlock { blocks: 2 },
+    block(2, true, true),
+    block(2, true, false),
+    block(2, false, true),
+    block(2, false, false),
+];
+
+const fn block(blocks: u16, first: bool, second: bool) -> Fate {
+    Fate::HeardBlock { blocks, first, second }
+}
+
+/// Every pattern of these fates over as many positions in which one position has a
+/// scheduled block, of one of these fates.
+fn every_pattern_with_a_block(
+    fates: &[Fate],
+    blocks: &[Fate],
+    size: u16,
+    mut each: impl FnMut(&[Fate]),
+) {
+    every_pattern(fates, size - 1, |others| {
+        for place in 0..usize::from(size) {
+            for block in blocks {
+                let mut pattern = others.to_vec();
+                pattern.insert(place, *block);
+                each(&pattern);
+            }
+        }
+    });
 }
 
 /// Every pattern of these fates over as many positions.
@@ -189,28 +338,19 @@ impl<'a> Cell<'a> {
         (17 * position as u16 + 2) % edge(self.settings.nrb, 4)
     }
 
-    /// Sends the pattern's grants, the j-th of them in time with DAI
+    /// Sends what the pattern says, the j-th PDCCH in time with DAI
     /// ((j − 1) mod 4) + 1, feeds what is heard, and reads what is replied.
     fn run(&self, pattern: &[Fate]) -> Outcome {
         let Self { settings, window, .. } = *self;
-        let sent: Vec<Option<Sent>> = pattern
-            .iter()
-            .enumerate()
-            .map(|(m, fate)| fate.blocks().map(|blocks| Sent { blocks, cce: self.cce(m) }))
-            .collect();
-        let mut heard = [None; 14];
+        let sent: Vec<Option<Sent>> =
+            pattern.iter().enumerate().map(|(m, fate)| fate.sent(self.cce(m))).collect();
+        let mut heard = [Heard::Nothing; 14];
         let (mut j, mut decoded) = (0, 0);
         for m in self.in_time.iter().copied() {
-            let Some(Sent { blocks, cce }) = sent[m] else { continue };
-            j += 1;
-            if let Fate::Heard { first, second, .. } = pattern[m] {
-                decoded |= blocks_at(m, first, second);
-                // The second result of a grant with one block says nothing.
-                let second = if blocks == 1 { !first } else { second };
-                let (first, second) = (first.into(), second.into());
-                let grant = Grant { blocks, first, second, cce, dai: (j - 1) % 4 + 1 };
-                heard[usize::from(window.k[m])] = Some(grant);
-            }
+            heard[usize::from(window.k[m])] = pattern[m].heard(self.cce(m), j % 4 + 1);
+            j += u16::from(sent[m].is_some_and(|sent| sent.cce().is_some()));
+            let (first, second) = pattern[m].decoded();
+            decoded |= blocks_at(m, first, second);
         }
         let mut handset = self.handset;
         let first_k = usize::from(window.k[self.in_time[0]]);
@@ -222,7 +362,8 @@ impl<'a> Cell<'a> {
         let fed = feed(handset, None);
         let is_reply = [Fed::BUNDLED, Fed::MULTIPLEXED].contains(&fed.kind);
         assert!(is_reply || fed.kind == Fed::SILENT, "{settings:?}, {window:?}: {fed:?}");
-        let read = is_reply.then(|| reading(settings, window.n, fed.resource, fed.b0, fed.b1));
+        let (Fed { resource, b0, b1, .. }, told) = (fed, told(&sent));
+        let read = is_reply.then(|| reading(settings, window.n, told, resource, b0, b1));
         Outcome { sent, fed, read, decoded }
     }
 
@@ -232,24 +373,34 @@ impl<'a> Cell<'a> {
         let Self { settings, window, .. } = *self;
         let cces = edge(settings.nrb, 4);
         let mut all = Vec::new();
-        for (m, grant) in sent.iter().enumerate() {
+        for (m, there) in sent.iter().enumerate() {
             let own = self.cce(m);
             for cce in [0, own, (own + 1) % cces, cces - 1] {
-                if grant.is_some_and(|grant| grant.cce == cce) {
+                if there.is_some_and(|sent| sent.cce() == Some(cce)) {
                     continue;
                 }
                 let there = resource(settings, window.n, m as u16, cce);
                 assert_eq!(there.refusal, 0, "{settings:?}, {window:?}, {m}, {cce}");
-                for (b0, b1) in [(0, 0), (0, 1), (1, 0), (1, 1)] {
-                    let read = reading(settings, window.n, there.resource, b0, b1);
-                    if read.refusal == 0 {
-                        assert_eq!((read.position, read.cce), (m as u16, cce));
-                        all.push(read);
-                    }
+                for read in self.readings_on(there.resource, told(sent)) {
+                    assert_eq!((read.position, read.cce), (m as u16, cce));
+                    all.push(read);
                 }
             }
         }
         all
+    }
+
+    /// How the station reads the scheduled resource, with any bits that are not
+    /// refused, told of each position at which no scheduled block was sent.
+    fn readings_of_no_block(&self, sent: &[Option<Sent>]) -> Vec<ReadingAnswer> {
+        let others = (0..self.window.size()).filter(|position| *position != told(sent));
+        others.flat_map(|position| self.readings_on(self.settings.scheduled, position)).collect()
+    }
+
+    fn readings_on(&self, resource: u16, told: u16) -> impl Iterator<Item = ReadingAnswer> + '_ {
+        let bits = [(0, 0), (0, 1), (1, 0), (1, 1)].into_iter();
+        let read = move |(b0, b1)| reading(self.settings, self.window.n, told, resource, b0, b1);
+        bits.map(read).filter(|read| read.refusal == 0)
     }
 }
 
@@ -297,23 +448,60 @@ impl Found {
 
     /// Every pattern of one window.
     fn of(cell: &Cell, rule: Rule) -> Self {
-        let mut found = Self::default();
-        every_pattern(fates(cell.settings), cell.window.size(), |pattern| {
+        Self::of_fates(cell, rule, fates(cell.settings), &[])
+    }
+
+    /// Every pattern of these fates and at most one block of those.
+    fn of_fates(cell: &Cell, rule: Rule, fates: &[Fate], blocks: &[Fate]) -> Self {
+        let (mut found, size) = (Self::default(), cell.window.size());
+        every_pattern(fates, size, |pattern| found.try_pattern(cell, rule, pattern));
+        every_pattern_with_a_block(fates, blocks, size, |pattern| {
             found.try_pattern(cell, rule, pattern);
         });
         found
+    }
+
+    /// What is confirmed was decoded, and what was decoded in all the ways that look
+    /// alike is confirmed. Only where the station goes by a PDCCH in a cell of two
+    /// blocks it could know more of a scheduled block: one ACK and one NACK together
+    /// may show that it was heard. The papers confirm it nowhere there.
+    fn assert_exact(&self, cell: &Cell) {
+        let Cell { settings, window, .. } = cell;
+        assert_eq!(self.wrong, 0, "{}", self.example.as_deref().unwrap_or_default());
+        for (known, (confirmed, decoded_in_all)) in &self.alike {
+            let position = told(&known.sent);
+            let may_know_more =
+                is_bundled(cell) && settings.blocks == 2 && known.resource != settings.scheduled;
+            let apart = match position {
+                NOT_TOLD => 0,
+                _ if may_know_more => blocks_at(position.into(), true, true),
+                _ => 0,
+            };
+            assert_eq!(*confirmed, decoded_in_all & !apart, "{settings:?}, {window:?}: {known:?}");
+        }
     }
 }
 
 /// The windows that are run through whole, in every cell with as many blocks:
 /// those of at most `longest` positions.
 fn windows(model: &Model, blocks: u16, longest: u16) -> Vec<Cell<'_>> {
-    let all = every::window(model, NRB, &N1, &every::MODE_AND_BLOCKS);
+    cells(model, &NRB, NONE, blocks, longest)
+}
+
+/// Likewise in cells of some bandwidths, with or without a scheduled resource.
+fn cells<'a>(
+    model: &'a Model,
+    nrb: &[u16],
+    scheduled: u16,
+    blocks: u16,
+    longest: u16,
+) -> Vec<Cell<'a>> {
+    let all = every::window(model, nrb.to_vec(), &N1, &every::MODE_AND_BLOCKS);
     all.filter(|(settings, window)| {
         let allowed = (settings.config, settings.mode) != (5, 1);
         allowed && settings.blocks == blocks && window.size() <= longest
     })
-    .map(|(settings, window)| Cell::new(settings, window))
+    .map(|(settings, window)| Cell::new(settings.with_scheduled(scheduled), window))
     .collect()
 }
 
@@ -332,10 +520,7 @@ fn hold(cells: &[Cell], confirmed: impl Fn(&Cell) -> u64) {
     for cell in cells {
         let Cell { settings, window, .. } = cell;
         let found = Found::of(cell, RULE);
-        assert_eq!(found.wrong, 0, "{}", found.example.unwrap_or_default());
-        for (known, (confirmed, decoded_in_all)) in &found.alike {
-            assert_eq!(confirmed, decoded_in_all, "{settings:?}, {window:?}: {known:?}");
-        }
+        found.assert_exact(cell);
         let patterns = (fates(*settings).len() as u64).pow(window.size().into());
         assert_eq!(found.patterns, patterns, "{settings:?}, {window:?}");
         assert_eq!(found.confirmed, confirmed(cell), "{settings:?}, {window:?}");
@@ -457,7 +642,7 @@ fn positions_are_not_in_time_order() {
 #[test]
 fn a_resource_of_another_grant_confirms_nothing() {
     let model = Model::new();
-    let blind = Rule { cce_compared: false, ..RULE };
+    let blind = Rule { named_compared: false, ..RULE };
     for cell in windows(&model, 1, 4).iter().chain(&windows(&model, 2, 2)) {
         let Cell { settings, window, .. } = cell;
         let (mut read_wrongly, mut example) = (0, None);
@@ -508,4 +693,224 @@ fn what_arrives_is_confirmed() {
     // Over the windows, the ways to choose one to four positions of M, with grants
     // of one block or, in a cell of two, of one or two at each.
     assert_eq!(whole, 3 * (419 + 3522));
+}
+
+/// The fates of a position with grants and releases.
+fn fates_with_releases(settings: Settings) -> Vec<Fate> {
+    [fates(settings), &RELEASES].concat()
+}
+
+/// A bundled window of one block, over all patterns of grants and releases, counted
+/// by the place i in time of the last heard PDCCH, which is a grant or a release.
+/// What is sent after it is lost: nothing, a grant or a release. What is sent before
+/// it is heard and, to be confirmed, decoded: nothing, a grant or a release too.
+fn bundled_with_releases(size: u32) -> u64 {
+    let at = |i: u32| {
+        let named = 3u64.pow(i);
+        let before = u64::from(i) * 2 * 3u64.pow(i.saturating_sub(1));
+        named + before
+    };
+    (0..size).map(|i| 3u64.pow(size - 1 - i) * at(i)).sum()
+}
+
+/// The same with at most one scheduled block, in any place: lost or decoded it leaves
+/// what the others confirm, failed it confirms nothing, and decoded it is confirmed
+/// where all others are unheard.
+fn bundled_with_a_block(size: u32) -> u64 {
+    let lone = 3u64.pow(size - 1);
+    let places = u64::from(size);
+    bundled_with_releases(size) + places * (2 * bundled_with_releases(size - 1) + lone)
+}
+
+/// Multiplexed, one block: a grant that is decoded, beside any other fates, or the
+/// scheduled block.
+fn multiplexed_with_a_block(size: u32) -> u64 {
+    let places = u64::from(size);
+    let grants = places * 6u64.pow(size - 1);
+    let beside_a_block = places * 3 * (places - 1) * 6u64.pow(size - 2);
+    let blocks = places * 6u64.pow(size - 1);
+    grants + beside_a_block + blocks
+}
+
+/// A cell of one block with a schedule: grants and releases, and at most one
+/// scheduled block, lost, decoded or failed. Multiplexed, every A with a block is
+/// confirmed, save one in the states with three A of four: it is a grant in 4 × (16 +
+/// 16 + 8) patterns, where another A or the fourth may be the block, and the block in
+/// 4 × 16.
+#[test]
+fn every_pattern_of_one_block_with_a_schedule() {
+    let model = Model::new();
+    let all = cells(&model, &NRB, SCHEDULED, 1, 4);
+    assert_eq!(all.len() as u64, 3 * (2 * WINDOWS - 2));
+    for cell in &all {
+        let Cell { settings, window, .. } = cell;
+        let found = Found::of_fates(cell, RULE, &fates_with_releases(*settings), &BLOCKS_OF_ONE);
+        found.assert_exact(cell);
+        let size = u32::from(window.size());
+        assert_eq!(found.patterns, 6u64.pow(size - 1) * u64::from(6 + 3 * size));
+        let confirmed = match (is_bundled(cell), size) {
+            (true, _) => bundled_with_a_block(size),
+            (false, 4) => multiplexed_with_a_block(4) - 4 * (16 + 16 + 8) - 4 * 16,
+            (false, _) => multiplexed_with_a_block(size),
+        };
+        assert_eq!(found.confirmed, confirmed, "{settings:?}, {window:?}");
+    }
+}
+
+/// A cell of two blocks with a schedule.
+#[test]
+fn every_pattern_of_two_blocks_with_a_schedule() {
+    let model = Model::new();
+    let all = cells(&model, &[50], SCHEDULED, 2, 4);
+    assert_eq!(all.len() as u64, 2 * WINDOWS - 2);
+    for cell in &all {
+        let Cell { settings, window, .. } = cell;
+        let found = Found::of_fates(cell, RULE, &fates_with_releases(*settings), &BLOCKS_OF_TWO);
+        found.assert_exact(cell);
+        let size = u32::from(window.size());
+        assert_eq!(found.patterns, 11u64.pow(size - 1) * u64::from(11 + 8 * size));
+        assert!(found.confirmed > 0 && found.replies > found.patterns / 8);
+    }
+}
+
+fn cells_of_nine(model: &Model) -> Vec<Cell<'_>> {
+    let mut nine = cells(model, &[50], SCHEDULED, 1, 9);
+    nine.retain(|cell| cell.window.size() == 9);
+    assert_eq!(nine.len(), 1);
+    nine
+}
+
+/// The ways to choose so many places of some.
+fn choose(places: u64, chosen: u64) -> u64 {
+    (0..chosen).map(|c| places.saturating_sub(c)).product::<u64>() / (1..=chosen).product::<u64>()
+}
+
+/// The blocks confirmed over all patterns of `size` places at which nothing, a lost
+/// PDCCH or a heard one is, each PDCCH in so many kinds, one of which is a decoded
+/// grant and the other, if there is one, a release. By the place i of the last heard
+/// one: with u heard before it and none lost all u + 1 are confirmed, if they are no
+/// more than four, and the named one if they are more or if four or eight were lost.
+fn confirmed_of_nine(size: u64, kinds: u64) -> u64 {
+    let pow = |exponent: u64| kinds.pow(exponent as u32);
+    let unheard = |places: u64| (1 + kinds).pow(places as u32);
+    let none_lost = |i: u64| {
+        let of = |u: u64| choose(i, u) * if u < 4 { (u + 1) * pow(u) } else { pow(u) };
+        (0..=i).map(of).sum::<u64>()
+    };
+    let some_lost = |i: u64, lost: u64| match i < lost {
+        true => 0,
+        false => choose(i, lost) * pow(lost) * (1 + kinds).pow((i - lost) as u32),
+    };
+    let at = |i: u64| none_lost(i) + some_lost(i, 4) + some_lost(i, 8);
+    (0..size).map(|i| unheard(size - 1 - i) * at(i)).sum()
+}
+
+/// The window of nine with releases, 5^9 patterns in which what is heard is decoded:
+/// releases are among the four, lost ones too.
+#[test]
+fn every_pattern_of_nine_with_releases() {
+    let model = Model::new();
+    let fates = [Fate::Nothing, LOST, DECODED, Fate::LostRelease, Fate::HeardRelease];
+    for cell in cells_of_nine(&model) {
+        let found = Found::of_fates(&cell, RULE, &fates, &[]);
+        found.assert_exact(&cell);
+        assert_eq!((found.patterns, found.confirmed), (5u64.pow(9), confirmed_of_nine(9, 2)));
+    }
+}
+
+/// The window of nine with a scheduled block in each place, where what is heard is
+/// decoded: the block is not counted among the four, and alone it is confirmed.
+#[test]
+fn every_pattern_of_nine_with_a_block() {
+    let model = Model::new();
+    let (grants, blocks) = ([Fate::Nothing, LOST, DECODED], &BLOCKS_OF_ONE[..2]);
+    for cell in cells_of_nine(&model) {
+        let mut found = Found::default();
+        every_pattern_with_a_block(&grants, blocks, 9, |pattern| {
+            found.try_pattern(&cell, RULE, pattern);
+        });
+        found.assert_exact(&cell);
+        assert_eq!(found.patterns, 9 * 2 * 3u64.pow(8));
+        assert_eq!(found.confirmed, 9 * (2 * confirmed_of_nine(8, 1) + 2u64.pow(8)));
+    }
+}
+
+/// The window of nine in a cell of two blocks with a schedule: patterns at random,
+/// every other time with most of what is sent heard and decoded.
+#[test]
+fn patterns_of_two_blocks_with_a_schedule_in_configuration_5() {
+    let model = Model::new();
+    let mut random = Random::new(56);
+    let two = heard_two(true, true);
+    let mostly_decoded =
+        [Fate::Nothing, Fate::Nothing, LOST, Fate::LostRelease, DECODED, two, Fate::HeardRelease];
+    let nine = cells(&model, &[6, 110], SCHEDULED, 2, 9);
+    for cell in nine.iter().filter(|cell| cell.window.size() == 9) {
+        let any = fates_with_releases(cell.settings);
+        let mut found = Found::default();
+        for number in 0..100_000 {
+            let from = if number % 2 == 0 { &any[..] } else { &mostly_decoded };
+            let mut pattern = [(); 9].map(|()| random.one_of(from));
+            pattern[random.below(9)] = random.one_of(&BLOCKS_OF_TWO);
+            found.try_pattern(cell, RULE, &pattern);
+        }
+        println!("{} of 100000 reply, {} blocks confirmed", found.replies, found.confirmed);
+        assert_eq!(found.wrong, 0, "{}", found.example.unwrap_or_default());
+        assert!(found.confirmed > 1000, "{:?}", cell.settings);
+    }
+}
+
+/// Releases that are not counted among the four: four grants lost and a release
+/// heard, and the rule confirms all four. At place i of the release the four are
+/// anywhere before it, and at the other places before it a release or nothing.
+#[test]
+fn releases_are_counted() {
+    let model = Model::new();
+    let fates = [Fate::Nothing, LOST, DECODED, Fate::HeardRelease];
+    for cell in cells_of_nine(&model) {
+        let rule = Rule { releases_counted: false, ..RULE };
+        let found = Found::of_fates(&cell, rule, &fates, &[]);
+        println!("{} wrong, such as {}", found.wrong, found.example.unwrap_or_default());
+        let at = |i: u64| choose(i, 4) * 2u64.pow(i as u32 - 4) * 2u64.pow(8 - i as u32);
+        assert_eq!(found.wrong, (4..9).map(at).sum::<u64>());
+    }
+}
+
+/// A scheduled block that is confirmed by an ACK for a PDCCH may have been lost: in
+/// every bundled window that has room for both.
+#[test]
+fn a_block_is_confirmed_apart() {
+    let model = Model::new();
+    let rule = Rule { blocks_apart: false, ..RULE };
+    for cell in cells(&model, &[50], SCHEDULED, 1, 4).iter().filter(|cell| is_bundled(cell)) {
+        let found = Found::of_fates(cell, rule, fates(cell.settings), &BLOCKS_OF_ONE);
+        assert_eq!(found.wrong > 0, cell.window.size() > 1, "{:?}", cell.window);
+    }
+}
+
+/// What is read and was not sent confirms nothing: a PDCCH with another first CCE, or
+/// where the scheduled block was sent; and a block where none was sent.
+#[test]
+fn what_was_not_sent_confirms_nothing() {
+    let model = Model::new();
+    let blind = Rule { named_compared: false, ..RULE };
+    for cell in cells(&model, &[50], SCHEDULED, 1, 4) {
+        let Cell { settings, window, .. } = &cell;
+        let fates = fates_with_releases(*settings);
+        let mut wrong = [0; 2];
+        let mut each = |pattern: &[Fate]| {
+            let Outcome { sent, decoded, .. } = cell.run(pattern);
+            let readings = [cell.readings_of_others(&sent), cell.readings_of_no_block(&sent)];
+            for (readings, wrong) in readings.into_iter().zip(&mut wrong) {
+                for read in readings {
+                    assert_eq!(RULE.confirms(window, &sent, read), 0, "{sent:?}, {read:?}");
+                    let confirmed = blind.confirms(window, &sent, read);
+                    *wrong += u64::from(confirmed & !decoded != 0);
+                }
+            }
+        };
+        every_pattern(&fates, window.size(), &mut each);
+        every_pattern_with_a_block(&fates, &BLOCKS_OF_ONE, window.size(), &mut each);
+        assert!(wrong.iter().all(|wrong| *wrong > 0), "{settings:?}, {window:?}: {wrong:?}");
+    }
 }

@@ -13,7 +13,10 @@ use feedback_tests::plain::{
     plain_answered, plain_inverse, plain_make, plain_reading, plain_resource, plain_window,
 };
 use feedback_tests::random::Random;
-use feedback_tests::{answered, feed, inverse, make, reading, resource, window, Handset, Settings};
+use feedback_tests::{
+    answered, feed, inverse, make, reading, resource, window, Fed, Handset, Heard, Settings,
+    NOT_TOLD,
+};
 use std::env;
 
 const WINDOW_CALLS: u64 = 2_000_000;
@@ -104,7 +107,7 @@ fn windows() {
         1
     });
     assert_eq!(calls, WINDOW_CALLS * times());
-    comparison.finish_with(calls / SAMPLE, &[0, 1, 2, 3, 4, 5, 6, 7], &[]);
+    comparison.finish_with(calls / SAMPLE, &[0, 1, 2, 3, 4, 5, 6, 7, 17], &[]);
 }
 
 #[test]
@@ -126,7 +129,7 @@ fn answers_for_subframes() {
         1
     });
     assert_eq!(calls, ANSWERED_CALLS * times());
-    comparison.finish_with(calls / SAMPLE, &[0, 1, 2, 3, 4, 5, 6, 7], &[]);
+    comparison.finish_with(calls / SAMPLE, &[0, 1, 2, 3, 4, 5, 6, 7, 17], &[]);
 }
 
 #[test]
@@ -151,7 +154,7 @@ fn resources() {
         1
     });
     assert_eq!(calls, RESOURCE_CALLS * times());
-    comparison.finish_with(calls / SAMPLE, &[0, 1, 2, 3, 4, 5, 6, 7, 11], &[]);
+    comparison.finish_with(calls / SAMPLE, &[0, 1, 2, 3, 4, 5, 6, 7, 11, 17], &[]);
 }
 
 #[test]
@@ -176,35 +179,47 @@ fn inverses() {
         1
     });
     assert_eq!(calls, INVERSE_CALLS * times());
-    comparison.finish_with(calls / SAMPLE, &[0, 1, 2, 3, 4, 5, 6, 7, 13], &[]);
+    comparison.finish_with(calls / SAMPLE, &[0, 1, 2, 3, 4, 5, 6, 7, 13, 17], &[]);
 }
 
+/// Half of the readings are told a position, mostly one of the window, and a quarter
+/// come on the scheduled resource or beside it.
 #[test]
 fn readings() {
     let model = Model::new();
     let mut comparison = Comparison::with(&model);
+    let mut as_block = [0; 3];
     let calls = fuzz(3, READING_CALLS, |random, ask_model| {
         let settings = random.wild_settings(24);
         let n = random.wild_n(&model, settings.config);
-        let place = near(size(&model, settings, n) * cces(settings), random);
-        let resource = settings.n1.wrapping_add(place);
+        let size = size(&model, settings, n);
+        let told = if random.once_in(2) { NOT_TOLD } else { near(size, random) };
+        let place = near(size * cces(settings), random);
+        let resource = match random.below(8) {
+            0 => settings.scheduled,
+            1 => settings.scheduled.wrapping_add(random.below16(3)).wrapping_sub(1),
+            _ => settings.n1.wrapping_add(place),
+        };
         let [b0, b1] =
             [0; 2].map(|_| if random.once_in(16) { random.any() } else { random.below16(2) });
-        let given = reading(settings, n, resource, b0, b1);
-        let plain = plain_reading(settings, n, resource, b0, b1);
+        let given = reading(settings, n, told, resource, b0, b1);
+        let plain = plain_reading(settings, n, told, resource, b0, b1);
         assert!(
             given == plain,
-            "feedback_reading({settings:?}, n {n}, resource {resource}, b0 {b0}, b1 {b1}): the \
-             engine gives {given:?}, the plain implementation {plain:?}"
+            "feedback_reading({settings:?}, n {n}, told {told}, resource {resource}, b0 {b0}, \
+             b1 {b1}): the engine gives {given:?}, the plain implementation {plain:?}"
         );
+        as_block[usize::from(given.kind)] += u64::from(given.scheduled);
         if ask_model {
-            comparison.reading(settings, n, resource, b0, b1);
+            comparison.reading(settings, n, told, resource, b0, b1);
         }
         1
     });
     assert_eq!(calls, READING_CALLS * times());
-    let refusals = [0, 1, 2, 3, 4, 5, 6, 7, 13, 14];
+    let refusals = [0, 1, 2, 3, 4, 5, 6, 7, 11, 13, 14, 17, 18];
     comparison.finish_with(calls / SAMPLE, &refusals, &[0, 1, 2]);
+    println!("read as the scheduled block, by kind: {as_block:?}");
+    assert!(as_block[0] == 0 && as_block[1] > 1000 && as_block[2] > 1000);
 }
 
 #[test]
@@ -225,27 +240,33 @@ fn makings() {
         1
     });
     assert_eq!(calls, MAKE_CALLS * times());
-    comparison.finish_with(calls / SAMPLE, &[0, 1, 2, 3, 4, 5, 6], &[]);
+    comparison.finish_with(calls / SAMPLE, &[0, 1, 2, 3, 4, 5, 6, 17], &[]);
 }
 
 /// A handset that goes from feed to feed; sometimes another takes its place,
-/// fresh, damaged or of any numbers. In the uplink a grant is rare.
+/// fresh, damaged or of any numbers. In the uplink a grant, a scheduled block or a
+/// release is rare.
 #[test]
 fn feeds() {
     let model = Model::new();
     let mut comparison = Comparison::with(&model);
     let mut handset = Handset::NONE;
+    let mut on_scheduled = 0;
     let calls = fuzz(5, FEED_CALLS, |random, ask_model| {
         let lent = match random.below(64) {
             0 => random.noise(),
             1..=5 => random.damage(handset),
             6 => Handset::fresh(random.settings()),
+            7 => Handset::fresh(random.scheduled_settings()),
             _ => handset,
         };
         let Handset { settings, next, .. } = lent;
         let uplink = settings.config < 7 && next < 10 && is_uplink(settings.config, next);
-        let is_grant = if uplink { random.once_in(8) } else { !random.once_in(3) };
-        let heard = is_grant.then(|| random.wild_grant(settings, 12));
+        let is_heard = if uplink { random.once_in(8) } else { !random.once_in(3) };
+        let heard = match is_heard {
+            true => random.wild_heard(settings, 12),
+            false => Heard::Nothing,
+        };
         let given = feed(lent, heard);
         let plain = plain_feed(lent, heard);
         assert!(
@@ -253,6 +274,8 @@ fn feeds() {
             "a feed of {heard:?} to {lent:?}: the engine gives {given:?}, the plain \
              implementation {plain:?}"
         );
+        let is_reply = [Fed::BUNDLED, Fed::MULTIPLEXED].contains(&given.kind);
+        on_scheduled += u64::from(is_reply && given.resource == settings.scheduled);
         if ask_model {
             comparison.feed(lent, heard);
         }
@@ -264,8 +287,10 @@ fn feeds() {
         1
     });
     assert_eq!(calls, FEED_CALLS * times());
-    let refusals = [0, 8, 9, 10, 11, 12];
+    let refusals = [0, 8, 9, 10, 11, 12, 18];
     comparison.finish_with(calls / SAMPLE, &refusals, &[0, 1, 2, 3, 4, 5]);
+    println!("{on_scheduled} replies on the scheduled resource");
+    assert!(on_scheduled > 10_000);
 }
 
 /// Claims: mostly allowed ones, and any others.
@@ -326,6 +351,6 @@ fn lists_of_claims() {
         2
     });
     assert_eq!(calls, CLAIMS_CALLS * times());
-    let refusals = [0, 1, 2, 3, 4, 5, 6, 7, 15, 16];
+    let refusals = [0, 1, 2, 3, 4, 5, 6, 7, 15, 16, 17];
     comparison.finish_with(calls / 2 / SAMPLE * 2, &refusals, &[0, 1, 2]);
 }

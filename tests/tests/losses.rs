@@ -6,7 +6,9 @@
 
 use feedback_tests::model::{bundles, edge, frame, Model, Window};
 use feedback_tests::random::Random;
-use feedback_tests::{feed, make, reading, resource, Fed, Grant, Handset, ReadingAnswer, Settings};
+use feedback_tests::{
+    feed, make, reading, resource, Fed, Grant, Handset, ReadingAnswer, Settings, NOT_TOLD,
+};
 use std::cmp::Reverse;
 
 /// N_RB and N1 of the cells.
@@ -260,7 +262,7 @@ impl<'a> Run<'a> {
                     fed.resource,
                     fed.b0,
                     fed.b1,
-                    reading(self.settings, n, fed.resource, fed.b0, fed.b1),
+                    reading(self.settings, n, NOT_TOLD, fed.resource, fed.b0, fed.b1),
                     problem.unwrap_or_default()
                 );
                 self.checked += 1;
@@ -305,7 +307,7 @@ impl<'a> Run<'a> {
         if due.refusal != 0 || fed.resource != due.resource {
             return Some("the resource is that of the last heard grant");
         }
-        let read = reading(self.settings, window.n, fed.resource, fed.b0, fed.b1);
+        let read = reading(self.settings, window.n, NOT_TOLD, fed.resource, fed.b0, fed.b1);
         if read != ReadingAnswer::bundled(position, grant.cce, fed.b0, fed.b1) {
             return Some("it is read as the last heard grant, with the reply's bits");
         }
@@ -353,7 +355,7 @@ impl<'a> Run<'a> {
         if due.refusal != 0 || fed.resource != due.resource || (fed.b0, fed.b1) != bits {
             return Some("the symbol of the state is sent");
         }
-        let read = reading(self.settings, window.n, fed.resource, fed.b0, fed.b1);
+        let read = reading(self.settings, window.n, NOT_TOLD, fed.resource, fed.b0, fed.b1);
         let delivered = self.model.delivered(window.size(), symbol).expect("a state that sends it");
         if read != ReadingAnswer::multiplexed(symbol.index, grant.cce, delivered) {
             return Some(

@@ -1,10 +1,11 @@
-//! Every refusal number, 1 to 16, from every call that can give it. What is due
+//! Every refusal number, 1 to 18, from every call that can give it. What is due
 //! is written out by hand; the model has no part here.
 
 use feedback_tests::{
-    answered, claims, feed_grant, feed_nothing, inverse, make, reading, resource, window,
-    AnsweredAnswer, ClaimsAnswer, Fed, Grant, Handset, InverseAnswer, Made, ReadingAnswer,
-    ResourceAnswer, Settings, Slot, WindowAnswer,
+    answered, claims, feed_grant, feed_nothing, feed_release, feed_scheduled, inverse, make,
+    reading, resource, window, AnsweredAnswer, Block, ClaimsAnswer, Fed, Grant, Handset,
+    InverseAnswer, Made, ReadingAnswer, Release, ResourceAnswer, Settings, Slot, WindowAnswer,
+    NONE, NOT_TOLD,
 };
 use std::fmt::Debug;
 
@@ -13,8 +14,15 @@ const CELL: Settings = Settings::plain(1, 50, 10, 0, 1);
 
 const GRANT: Grant = Grant { blocks: 1, first: 1, second: 0, cce: 0, dai: 1 };
 
-/// Settings that meet the causes 1 to 6, and no other.
-const REFUSED: [(u16, Settings); 9] = [
+/// The same cell with a scheduled resource.
+const SCHEDULED: Settings = CELL.with_scheduled(9);
+
+const BLOCK: Block = Block { blocks: 1, first: 1, second: 0 };
+
+const RELEASE: Release = Release { cce: 0, dai: 1 };
+
+/// Settings that meet the causes 1 to 6 and 17, and no other.
+const REFUSED: [(u16, Settings); 13] = [
     (1, Settings { config: 7, ..CELL }),
     (2, Settings { nrb: 5, ..CELL }),
     (2, Settings { nrb: 111, ..CELL }),
@@ -24,10 +32,14 @@ const REFUSED: [(u16, Settings); 9] = [
     (6, Settings { blocks: 0, ..CELL }),
     (6, Settings { blocks: 3, ..CELL }),
     (6, Settings { blocks: 65535, ..CELL }),
+    (17, CELL.with_scheduled(10)),
+    (17, CELL.with_scheduled(265)),
+    (17, CELL.with_scheduled(65534)),
+    (17, Settings { n1: 0, ..CELL }.with_scheduled(0)),
 ];
 
 /// Counts the refusals that came as they were due.
-struct Count([u64; 17]);
+struct Count([u64; 19]);
 
 impl Count {
     fn due<T: Debug + PartialEq>(&mut self, number: u16, given: T, due: T) {
@@ -53,8 +65,12 @@ impl Count {
     }
 
     fn reading(&mut self, number: u16, settings: Settings, n: u16, reply: (u16, u16, u16)) {
+        self.told(number, settings, n, NOT_TOLD, reply);
+    }
+
+    fn told(&mut self, number: u16, settings: Settings, n: u16, told: u16, reply: (u16, u16, u16)) {
         let (resource, b0, b1) = reply;
-        let given = reading(settings, n, resource, b0, b1);
+        let given = reading(settings, n, told, resource, b0, b1);
         self.due(number, given, ReadingAnswer::refused(number));
     }
 
@@ -78,17 +94,29 @@ impl Count {
         self.due(number, feed_grant(handset, grant), Fed::refused(number, handset));
     }
 
+    fn feed_scheduled(&mut self, number: u16, handset: Handset, block: Block) {
+        self.due(number, feed_scheduled(handset, block), Fed::refused(number, handset));
+    }
+
+    fn feed_release(&mut self, number: u16, handset: Handset, release: Release) {
+        self.due(number, feed_release(handset, release), Fed::refused(number, handset));
+    }
+
     /// The handset is left as it was, whatever it is fed.
     fn bad_state(&mut self, handset: Handset) {
         self.due(8, feed_nothing(handset), Fed::refused(8, handset));
         self.feed_grant(8, handset, GRANT);
         self.feed_grant(8, handset, Grant { blocks: 0, cce: 61, dai: 0, ..GRANT });
+        self.feed_scheduled(8, handset, BLOCK);
+        self.feed_scheduled(8, handset, Block { blocks: 0, ..BLOCK });
+        self.feed_release(8, handset, RELEASE);
+        self.feed_release(8, handset, Release { cce: 61, dai: 0 });
     }
 }
 
 #[test]
 fn every_number_occurs() {
-    let mut count = Count([0; 17]);
+    let mut count = Count([0; 19]);
     let fresh = make(CELL).handset;
     assert_eq!(fresh, Handset::fresh(CELL));
 
@@ -127,6 +155,7 @@ fn every_number_occurs() {
         };
         assert_eq!(feed_nothing(with(good)).refusal, 0, "{at}");
         count.bad_state(with(Slot { kind: 2, ..good }));
+        count.bad_state(with(Slot { kind: 4, ..good }));
         count.bad_state(with(Slot { kind: 255, ..good }));
         count.bad_state(with(Slot { results: 4, ..good }));
         count.bad_state(with(Slot { cce: 61, ..good }));
@@ -141,6 +170,8 @@ fn every_number_occurs() {
     count.bad_state(Handset { next: 10, ..fresh });
     count.bad_state(Handset { next: 65535, ..fresh });
     count.bad_state(Handset::NONE);
+    let scheduled = Handset { settings: SCHEDULED, ..expecting };
+    blocks_and_releases_remembered(&mut count, scheduled);
 
     // One cause after another is put right, and the next number is answered.
     let grant = Grant { blocks: 2, cce: 61, dai: 5, ..GRANT };
@@ -154,6 +185,9 @@ fn every_number_occurs() {
     count.feed_grant(12, fresh, Grant { blocks: 1, cce: 60, dai: 0, ..grant });
     let taken = feed_grant(fresh, Grant { blocks: 1, cce: 60, dai: 4, ..grant });
     assert_eq!((taken.refusal, taken.kind, taken.handset.next), (0, Fed::TAKEN, 1));
+
+    blocks_and_releases_fed(&mut count, fresh);
+    told_positions(&mut count);
 
     count.resource(11, CELL, 2, 0, 61);
     count.resource(11, CELL, 2, 2, 0);
@@ -181,7 +215,7 @@ fn every_number_occurs() {
 
     println!("refusals by number: {:?}", count.0);
     let of_settings = |causes: u64| 7 * causes;
-    let states = 3 * (9 + 9 * 6 + 4 + 3) + 1;
+    let states = 7 * (13 + 9 * 7 + 4 + 3) + 1;
     let counts = [
         0,
         of_settings(1),
@@ -190,17 +224,105 @@ fn every_number_occurs() {
         of_settings(1),
         of_settings(1),
         of_settings(3),
-        5 * 5 + 7,
-        states,
-        2,
-        2,
+        5 * 5 + 7 + 1,
+        states + 7 * (9 * 6 + 4 * 2 + 2) + 2,
+        2 + 4,
+        2 + 3,
+        3 + 2 + 5,
+        2 + 2,
+        8 + 2,
+        7 + 3,
         3,
-        2,
-        8,
-        7,
         3,
-        3,
+        of_settings(4),
+        3 + 4,
     ];
     assert_eq!(count.0, counts);
     assert!(count.0[1..].iter().all(|number| *number > 0));
+}
+
+/// What is remembered in a handset that expects 2, as above, with a resource set. In
+/// configuration 1 the window of 7 has 0 and 1, that of 8 has 4, that of 2 has 5 and
+/// 6, and that of 3 has 9. So 1 and 2 ago are in one window, which is still to be
+/// filled, 6 and 7 ago in the one that is answered next, and 11 and 12 ago in one
+/// that was answered long since.
+fn blocks_and_releases_remembered(count: &mut Count, expecting: Handset) {
+    let block = Slot { kind: Slot::BLOCK, cce: 255, dai: 255, results: 1 };
+    let release = Slot { kind: Slot::RELEASE, cce: 60, dai: 4, results: 255 };
+    let with = |slots: &[(usize, Slot)]| {
+        let mut handset = expecting;
+        slots.iter().for_each(|(ago, slot)| handset.past[*ago - 1] = *slot);
+        handset
+    };
+    let downlink = [1, 2, 3, 6, 7, 8, 11, 12, 13];
+    for ago in downlink {
+        for good in [block, release, Slot { results: 251, ..block }] {
+            assert_eq!(feed_nothing(with(&[(ago, good)])).refusal, 0, "{ago}, {good:?}");
+        }
+        count.bad_state(with(&[(ago, Slot { results: 5, ..block })]));
+        count.bad_state(with(&[(ago, Slot { cce: 61, ..release })]));
+        count.bad_state(with(&[(ago, Slot { dai: 0, ..release })]));
+        count.bad_state(with(&[(ago, Slot { dai: 5, ..release })]));
+        count.bad_state(with(&[(ago, Slot { kind: 4, ..release })]));
+        let unset = Settings { scheduled: NONE, ..SCHEDULED };
+        count.bad_state(Handset { settings: unset, ..with(&[(ago, block)]) });
+    }
+    for ago in [4, 5, 9, 10] {
+        count.bad_state(with(&[(ago, block)]));
+        count.bad_state(with(&[(ago, release)]));
+    }
+    count.bad_state(with(&[(1, block), (2, block)]));
+    count.bad_state(with(&[(6, block), (7, block)]));
+    count.due(8, feed_nothing(with(&[(11, block), (12, block)])).refusal, 8);
+    count.due(8, feed_scheduled(with(&[(11, block), (12, block)]), BLOCK).refusal, 8);
+    let six_windows = [1, 3, 6, 8, 12, 13].map(|ago| (ago, block));
+    assert_eq!(feed_nothing(with(&six_windows)).refusal, 0);
+}
+
+/// One cause after another is put right, and the next number is answered.
+fn blocks_and_releases_fed(count: &mut Count, without: Handset) {
+    let fresh = Handset { settings: SCHEDULED, ..without };
+    let uplink = Handset { next: 2, ..fresh };
+    let none = Block { blocks: 0, ..BLOCK };
+    count.feed_scheduled(9, uplink, none);
+    count.feed_scheduled(9, uplink, BLOCK);
+    count.feed_scheduled(10, fresh, none);
+    count.feed_scheduled(10, fresh, Block { blocks: 2, ..BLOCK });
+    count.feed_scheduled(10, without, none);
+    count.feed_scheduled(18, without, BLOCK);
+    let taken = feed_scheduled(fresh, BLOCK);
+    assert_eq!((taken.refusal, taken.kind, taken.handset.next), (0, Fed::TAKEN, 1));
+    count.feed_scheduled(18, taken.handset, BLOCK);
+    count.feed_scheduled(18, taken.handset, Block { first: 0, ..BLOCK });
+
+    count.feed_release(9, uplink, Release { cce: 61, dai: 5 });
+    count.feed_release(9, uplink, RELEASE);
+    count.feed_release(11, fresh, Release { cce: 61, dai: 5 });
+    count.feed_release(11, without, Release { cce: 65535, dai: 1 });
+    count.feed_release(12, fresh, Release { cce: 60, dai: 5 });
+    count.feed_release(12, without, Release { cce: 60, dai: 0 });
+    for handset in [fresh, without] {
+        let taken = feed_release(handset, Release { cce: 60, dai: 4 });
+        assert_eq!((taken.refusal, taken.kind, taken.handset.next), (0, Fed::TAKEN, 1));
+    }
+}
+
+/// The reading of one that is told a position: 7, 11, 18, 13, 14.
+fn told_positions(count: &mut Count) {
+    count.told(7, SCHEDULED, 4, 2, (8, 2, 2));
+    for told in [2, 9, 256, 65534] {
+        count.told(11, CELL, 2, told, (8, 2, 2));
+    }
+    count.told(11, SCHEDULED, 2, 2, (9, 1, 0));
+    count.told(18, CELL, 2, 0, (8, 2, 2));
+    count.told(18, CELL, 2, 1, (9, 1, 0));
+    count.told(18, CELL, 2, 1, (10, 1, 0));
+    count.told(18, CELL, 2, 0, (NONE, 1, 0));
+    count.told(13, SCHEDULED, 2, 0, (8, 2, 2));
+    count.reading(13, SCHEDULED, 2, (9, 1, 0));
+    count.told(14, SCHEDULED, 2, 0, (9, 2, 0));
+    count.told(14, SCHEDULED, 2, 0, (9, 0, 1));
+    count.told(14, Settings { mode: 1, ..SCHEDULED }, 2, 1, (9, 0, 1));
+    let read = ReadingAnswer::bundled(0, 0, 1, 0).as_block();
+    assert_eq!(reading(SCHEDULED, 2, 0, 9, 1, 0), read);
 }

@@ -3,7 +3,7 @@
 use feedback_tests::compare::{Comparison, POSITIONS, WINDOWS};
 use feedback_tests::every::{self, MODE_AND_BLOCKS};
 use feedback_tests::model::{edge, Model};
-use feedback_tests::Settings;
+use feedback_tests::{Settings, NOT_TOLD};
 
 /// A few bandwidths, with N_4 7, 18, 61 and 134.
 const NRB: [u16; 4] = [6, 15, 50, 110];
@@ -25,7 +25,7 @@ fn every_resource_and_bits_of_every_window() {
         let around = n1.saturating_sub(3)..=past_last + 3;
         for resource in around.chain([32767, 65535]) {
             for (b0, b1) in pairs(&BITS) {
-                comparison.reading(settings, window.n, resource, b0, b1);
+                comparison.reading(settings, window.n, NOT_TOLD, resource, b0, b1);
             }
         }
     }
@@ -50,7 +50,7 @@ fn every_subframe() {
     for (settings, n) in every::subframe([6], &[10], &MODE_AND_BLOCKS) {
         for resource in [0, 9, 10, 65535] {
             for (b0, b1) in pairs(&[0, 1]) {
-                comparison.reading(settings, n, resource, b0, b1);
+                comparison.reading(settings, n, NOT_TOLD, resource, b0, b1);
             }
         }
     }
@@ -71,10 +71,10 @@ fn every_number_as_each_argument() {
         let mode = u16::from(config != 5);
         let settings = Settings::plain(config, 50, 10, mode, 2);
         for any in 0..=65535 {
-            comparison.reading(settings, any, 10, 0, 1);
-            comparison.reading(settings, window.n, any, 1, 0);
-            comparison.reading(settings, window.n, 10, any, 1);
-            comparison.reading(settings, window.n, 10, 0, any);
+            comparison.reading(settings, any, NOT_TOLD, 10, 0, 1);
+            comparison.reading(settings, window.n, NOT_TOLD, any, 1, 0);
+            comparison.reading(settings, window.n, NOT_TOLD, 10, any, 1);
+            comparison.reading(settings, window.n, NOT_TOLD, 10, 0, any);
         }
     }
     comparison.finish_with(WINDOWS * 65536 * 4, &[0, 7, 13, 14], &[0, 1, 2]);

@@ -5,7 +5,7 @@ use feedback_tests::compare::{Comparison, Lent};
 use feedback_tests::model::Model;
 use feedback_tests::{
     answered, claims, inverse, make, reading, resource, window, AnsweredAnswer, ClaimsAnswer,
-    Handset, InverseAnswer, ReadingAnswer, ResourceAnswer, Settings, WindowAnswer,
+    Handset, InverseAnswer, ReadingAnswer, ResourceAnswer, Settings, WindowAnswer, NONE, NOT_TOLD,
 };
 
 /// The settings' special values: 0, each limit, one past it, 65535, and numbers
@@ -88,7 +88,8 @@ fn compare_inverse(comparison: &mut Comparison, arguments: [u16; 7]) {
 
 fn compare_reading(comparison: &mut Comparison, arguments: [u16; 9]) {
     let [config, nrb, n1, mode, blocks, n, resource, b0, b1] = arguments;
-    comparison.reading(Settings::plain(config, nrb, n1, mode, blocks), n, resource, b0, b1);
+    let settings = Settings::plain(config, nrb, n1, mode, blocks);
+    comparison.reading(settings, n, NOT_TOLD, resource, b0, b1);
 }
 
 fn compare_claims(comparison: &mut Comparison, lent: &mut Lent, arguments: [u16; 8]) {
@@ -376,7 +377,11 @@ fn lowest_number_first() {
         assert_eq!(inverse(settings, n, 2046), other, "{settings:?}, n {n}, resource 2046");
 
         let read = ReadingAnswer::refused(last(13));
-        assert_eq!(reading(settings, n, 2046, 2, 2), read, "{settings:?}, n {n}, resource 2046");
+        assert_eq!(
+            reading(settings, n, NOT_TOLD, 2046, 2, 2),
+            read,
+            "{settings:?}, n {n}, resource 2046"
+        );
         let judged = ClaimsAnswer::refused(last(15), 0);
         let mut scratch = [3; 5];
         assert_eq!(claims(settings, n, &[65535], &mut scratch), judged, "{settings:?}, n {n}");
@@ -387,12 +392,191 @@ fn lowest_number_first() {
     }
     // The last causes of the two longer calls: 14 after 13, and 16 after 15.
     let settings = Settings::plain(5, 6, 2047, 0, 1);
-    assert_eq!(reading(settings, 2, 2047, 2, 2), ReadingAnswer::refused(14));
-    assert_eq!(reading(settings, 2, 2047, 0, 1), ReadingAnswer::refused(14));
-    assert_eq!(reading(settings, 2, 2047, 1, 0), ReadingAnswer::bundled(0, 0, 1, 0));
+    assert_eq!(reading(settings, 2, NOT_TOLD, 2047, 2, 2), ReadingAnswer::refused(14));
+    assert_eq!(reading(settings, 2, NOT_TOLD, 2047, 0, 1), ReadingAnswer::refused(14));
+    assert_eq!(reading(settings, 2, NOT_TOLD, 2047, 1, 0), ReadingAnswer::bundled(0, 0, 1, 0));
     let mut scratch = [3; 9 * 7];
     assert_eq!(claims(settings, 2, &[0, 0, 7], &mut scratch), ClaimsAnswer::refused(16, 2));
     assert_eq!(scratch, [3; 9 * 7]);
     assert_eq!(claims(settings, 2, &[0, 0, 6], &mut scratch), ClaimsAnswer::clash(1));
     assert_eq!((scratch[0], scratch[1..].iter().max()), (1, Some(&0)));
+}
+
+/// The special values of the scheduled resource and of the position told.
+const SCHEDULED: &[u16] = &[0, 9, 10, 2046, 2047, 2048, 65534, 65535];
+const TOLD: &[u16] = &[0, 1, 2, 8, 9, 256, 65534, 65535];
+
+/// The settings with the scheduled resource among them, and the subframe.
+const SCHEDULED_CALL: [&[u16]; 7] = [CONFIG, NRB, N1, MODE, BLOCKS, SCHEDULED, N];
+
+/// The reading with all of its arguments.
+const TOLD_CALL: [&[u16]; 11] =
+    [CONFIG, NRB, N1, MODE, BLOCKS, SCHEDULED, N, TOLD, RESOURCE, BIT, BIT];
+
+/// Arguments that are not refused: on a resource of the window, and on the scheduled
+/// one, bundled and multiplexed.
+const SCHEDULED_STARTS: [[u16; 7]; 4] = [
+    [1, 50, 10, 0, 1, 9, 2],
+    [5, 110, 2047, 0, 2, 2046, 2],
+    [0, 6, 1, 1, 1, 0, 9],
+    [3, 25, 100, 1, 2, 65535, 3],
+];
+const TOLD_STARTS: [[u16; 11]; 4] = [
+    [1, 50, 10, 0, 1, 9, 2, 1, 131, 1, 0],
+    [5, 110, 2047, 0, 2, 2046, 2, 8, 2046, 0, 1],
+    [1, 50, 10, 1, 2, 9, 2, 1, 9, 1, 1],
+    [3, 25, 100, 1, 1, 0, 3, 0, 0, 0, 1],
+];
+
+/// The calls that compare_all makes.
+const CALLS: u64 = 6;
+
+/// All calls that take settings and no list, with other arguments that are allowed
+/// where settings and subframe are.
+fn compare_all(comparison: &mut Comparison, arguments: [u16; 7]) {
+    let [config, nrb, n1, mode, blocks, scheduled, n] = arguments;
+    let settings = Settings::plain(config, nrb, n1, mode, blocks).with_scheduled(scheduled);
+    comparison.window(settings, n);
+    comparison.answered(settings, n);
+    comparison.resource(settings, n, 0, 0);
+    comparison.inverse(settings, n, n1);
+    comparison.reading(settings, n, NOT_TOLD, n1, 1, 0);
+    comparison.make(settings);
+}
+
+fn compare_told(comparison: &mut Comparison, arguments: [u16; 11]) {
+    let [config, nrb, n1, mode, blocks, scheduled, n, told, resource, b0, b1] = arguments;
+    let settings = Settings::plain(config, nrb, n1, mode, blocks).with_scheduled(scheduled);
+    comparison.reading(settings, n, told, resource, b0, b1);
+}
+
+#[test]
+fn scheduled_resource_with_arguments_changed() {
+    let model = Model::new();
+    let mut comparison = Comparison::with(&model);
+    for start in SCHEDULED_STARTS {
+        alone(start, |arguments| compare_all(&mut comparison, arguments));
+        in_pairs(start, SCHEDULED_CALL, |arguments| compare_all(&mut comparison, arguments));
+    }
+    let compared = 4 * (7 * 65536 + number_of_pairs(&SCHEDULED_CALL)) * CALLS;
+    comparison.finish_with(compared, &[0, 1, 2, 3, 4, 5, 6, 7, 17], &[]);
+}
+
+#[test]
+fn scheduled_resource_with_all_arguments_special() {
+    let model = Model::new();
+    let mut comparison = Comparison::with(&model);
+    all_together(SCHEDULED_CALL, |arguments| compare_all(&mut comparison, arguments));
+    comparison.finish_with(number_of_all(&SCHEDULED_CALL) * CALLS, &[0, 7], &[]);
+    assert_settings_refused(&comparison, 8 * 7 * CALLS);
+    // Of configuration and mode seven pairs pass, of N_RB three, of blocks two. Not
+    // below N1 are seven scheduled resources where that is 0, five where it is 10
+    // and three where it is 2047; 65535 is none.
+    assert_eq!(comparison.refused(17), 7 * 3 * 2 * (7 + 5 + 3) * 7 * CALLS);
+}
+
+#[test]
+fn claims_with_a_scheduled_resource() {
+    let model = Model::new();
+    let mut comparison = Comparison::with(&model);
+    let mut lent = Lent::new(3);
+    for [config, nrb, n1, mode, blocks, n, claim, room] in CLAIMS_STARTS {
+        let around = [n1.saturating_sub(1), n1, n1 + 1];
+        for scheduled in SCHEDULED.iter().copied().chain(around) {
+            for (n1, n) in [(n1, n), (n1, 10), (2048, n)] {
+                let settings = Settings::plain(config, nrb, n1, mode, blocks);
+                let settings = settings.with_scheduled(scheduled);
+                let scratch = vec![7; room.into()];
+                comparison.claims(&mut lent, settings, n, &[5, claim, 5], &scratch);
+                comparison.claims(&mut lent, settings, n, &[65535], &[]);
+            }
+        }
+    }
+    comparison.finish_with(4 * 11 * 3 * 2 * 2, &[0, 3, 7, 15, 17], &[0, 2]);
+}
+
+#[test]
+fn told_reading_with_arguments_changed() {
+    let model = Model::new();
+    let mut comparison = Comparison::with(&model);
+    for start in TOLD_STARTS {
+        alone(start, |arguments| compare_told(&mut comparison, arguments));
+        in_pairs(start, TOLD_CALL, |arguments| compare_told(&mut comparison, arguments));
+    }
+    let compared = 4 * (11 * 65536 + number_of_pairs(&TOLD_CALL));
+    let refusals = [0, 1, 2, 3, 4, 5, 6, 7, 11, 13, 14, 17, 18];
+    comparison.finish_with(compared, &refusals, &[0, 1, 2]);
+}
+
+#[test]
+fn told_reading_with_all_arguments_special() {
+    let model = Model::new();
+    let mut comparison = Comparison::with(&model);
+    let settings: [&[u16]; 5] = [&[1, 5, 7], &[50, 111], &[0, 10, 2048], &[0, 1, 2], &[1, 2, 3]];
+    let [config, nrb, n1, mode, blocks] = settings;
+    let (resource, bit): (&[u16], &[u16]) = (&[0, 9, 10, 131, 132, 65535], &[0, 1, 2]);
+    let scheduled = &[0, 9, 10, 65534, 65535];
+    let n = &[2, 3, 10];
+    let call = [config, nrb, n1, mode, blocks, scheduled, n, TOLD, resource, bit, bit];
+    all_together(call, |arguments| compare_told(&mut comparison, arguments));
+    let refusals = [0, 1, 2, 3, 4, 5, 6, 7, 11, 13, 14, 17, 18];
+    let replies = 6 * 3 * 3;
+    let compared = 3 * 2 * 3 * 3 * 3 * 5 * 3 * 8 * replies;
+    comparison.finish_with(compared, &refusals, &[0, 1, 2]);
+    // Three pairs of configuration and mode and two numbers of blocks pass. Where N1
+    // is 0 four scheduled resources are not below it, where it is 10 two are not; what
+    // is left is none, or 0, 9 and none.
+    assert_eq!(comparison.refused(17), 3 * 2 * (4 + 2) * 3 * 8 * replies);
+    // Configuration 1 has windows of M = 2 and M = 1 here, in both modes, and 5 one of
+    // 9: not below M are five, six and three of the told positions, below it two, one
+    // and four.
+    assert_eq!(comparison.refused(11), 2 * (1 + 3) * (2 * (5 + 6) + 3) * replies);
+    assert_eq!(comparison.refused(18), 2 * (1 + 1) * (2 * (2 + 1) + 4) * replies);
+}
+
+/// The order with 17 directly behind 6 and 18 directly behind 12, written out by
+/// hand: of a reading all causes are met, and one after another is put right.
+#[test]
+fn later_numbers_in_their_place() {
+    let all = Settings::plain(7, 5, 2048, 2, 0).with_scheduled(65534);
+    let nrb = Settings { config: 5, ..all };
+    let n1 = Settings { nrb: 6, ..nrb };
+    let mode = Settings { n1: 2047, ..n1 };
+    let multiplexing = Settings { mode: 1, ..mode };
+    let blocks = Settings { mode: 0, ..multiplexing };
+    let scheduled = Settings { blocks: 1, ..blocks };
+    let none = Settings { scheduled: NONE, ..scheduled };
+    let set = Settings { scheduled: 2046, ..none };
+    let steps: [(u16, Settings, u16, u16, u16); 12] = [
+        (1, all, 10, 9, 2045),
+        (2, nrb, 10, 9, 2045),
+        (3, n1, 10, 9, 2045),
+        (4, mode, 10, 9, 2045),
+        (5, multiplexing, 10, 9, 2045),
+        (6, blocks, 10, 9, 2045),
+        (17, scheduled, 10, 9, 2045),
+        (7, none, 10, 9, 2045),
+        (11, none, 2, 9, 2045),
+        (18, none, 2, 8, 2045),
+        (13, set, 2, 8, 2045),
+        (14, set, 2, 8, 2046),
+    ];
+    for (number, settings, n, told, resource) in steps {
+        let read = reading(settings, n, told, resource, 2, 2);
+        assert_eq!(read, ReadingAnswer::refused(number), "{settings:?}, n {n}, told {told}");
+    }
+    let read = ReadingAnswer::bundled(8, 0, 1, 0).as_block();
+    assert_eq!(reading(set, 2, 8, 2046, 1, 0), read);
+
+    // 17 comes before 7 in every call with a subframe, and ends the list of make.
+    assert_eq!(window(scheduled, 10), WindowAnswer::refused(17));
+    assert_eq!(answered(scheduled, 10), AnsweredAnswer::refused(17));
+    assert_eq!(resource(scheduled, 10, 9, 7), ResourceAnswer::refused(17));
+    assert_eq!(inverse(scheduled, 10, 2045), InverseAnswer::refused(17));
+    let mut scratch = [3; 5];
+    assert_eq!(claims(scheduled, 10, &[65535], &mut scratch), ClaimsAnswer::refused(17, 0));
+    assert_eq!(scratch, [3; 5]);
+    let made = make(scheduled);
+    assert_eq!((made.refusal, made.handset), (17, Handset::NONE));
+    assert_eq!(make(set).handset, Handset::fresh(set));
 }

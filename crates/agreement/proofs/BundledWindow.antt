@@ -1,17 +1,18 @@
 -- One bundled window, from what was sent and heard in it alone: demand 3's sentences on a window that 01 bundles.
 -- Assumes nothing.
 use Prim.Native.Nat.{ℕ, _+_, _-_, _%_, _<_, _≤_}
-use mathlib.Core.Bool.{Bool, true, false, cond, not, _&&_, and-true, false≢true}
+use mathlib.Core.Bool.{Bool, true, false, cond, not, _&&_, _||_, and-true, false≢true}
 use mathlib.Core.List.{List, map}
 use mathlib.Core.Logic.{_⊎_, inl, inr, _↔_, ⊎-elim}
 use mathlib.Core.Path.{_≡_, refl, sym, ap, _∙_}
 use native.Mathlib.Decide.{ℕ-discrete}
 use native.Mathlib.Omega.{arith}
 use lib.Dec.{eqb}
+use lib.ListN.{getD}
 use borrow.Author.Tests.{eq-eqb, ne-eqb, le-ltb}
 use Rattle.frame.specs.declared.Settings.{Settings}
-use Rattle.frame.specs.Order.{positionOf, orderOf, timesOf}
-use Rattle.frame.specs.Settings.{bundles, windowRefusal}
+use Rattle.frame.specs.Order.{member, positionOf, orderOf, timesOf}
+use Rattle.frame.specs.Settings.{hasScheduled, bundles, windowRefusal}
 use Rattle.frame.specs.Table.{windowOf}
 use Rattle.frame.proofs.Accepted.{Accepted}
 use Rattle.frame.proofs.Times.{in-time-order}
@@ -22,24 +23,25 @@ use Rattle.resource.specs.Formula.{edge}
 use Rattle.resource.proofs.OneToOne.{calls-one-to-one}
 use Rattle.confirmation.specs.declared.Send.{Send}
 use Rattle.reply.specs.declared.Answer.the-variants as answer
-use Rattle.heard.specs.declared.Grant.{Grant}
 use Rattle.heard.specs.declared.Heard.{Heard}
-use Rattle.heard.specs.declared.Heard.the-variants.{Nothing, Granted}
+use Rattle.heard.specs.declared.Heard.the-variants.{Nothing, Granted, Scheduled, Released}
 use Rattle.reply.specs.declared.Reply.{Reply}
 use Rattle.fold.specs.declared.Seen.{Seen}
 use Rattle.heard.specs.declared.View.{View}
 use Rattle.fold.specs.Fold.{unseen, stepOf, seenOf}
-use Rattle.heard.specs.Heard.{viewOf}
+use Rattle.heard.specs.Heard.{isBlock, viewOf}
 use Rattle.heard.specs.Memory.{bit}
-use Rattle.reply.specs.Replies.{replyOn, expected, missShown, secondBit, bundledAnswer}
+use Rattle.reply.specs.Replies.{replyOn, expected, missShown, secondBit, onScheduled, loneAnswer, bundledAnswer}
+use Rattle.station.specs.declared.Place.{Place}
+use Rattle.station.specs.declared.Place.the-variants as place
+use Rattle.station.specs.declared.Reading.{Reading}
 use Rattle.station.specs.declared.Reading.the-variants as reading
-use Rattle.station.specs.Readings.{badBits, bundledReading, readAt, readOf}
-use Rattle.station.proofs.Back.{read-there}
+use Rattle.station.specs.Readings.{badBits, bundledReading, readAt}
 use Rattle.agreement.specs.Run.{RuleFrom, Brings}
-use Rattle.agreement.specs.Window.{Entry, at, anyHeard, lostBefore, heardAt, lastHeard, decodedFirst, decodedSecond, EveryHeard, BundledReply, Bundled}
-use Rattle.agreement.proofs.Entries.{all-of, OfWindow, of-window, in-time, entry, seen-entries, ruled, brought, entries-length, last-of, some-last}
+use Rattle.agreement.specs.Window.{Entry, at, isPdcch, anyOf, BlockAt, lostBefore, unheard, heardAt, asLast, lastHeard, decodedFirst, decodedSecond, EveryHeard, BundledReply, Bundled}
+use Rattle.agreement.proofs.Entries.{all-of, OfWindow, of-window, in-time, entry, seen-entries, ruled, brought, entries-length, last-of, some-last, none-last, block-at}
 use Rattle.agreement.proofs.Exactly.{sent-exactly}
-use Rattle.agreement.proofs.Folded.{foldIn, counted, numbered, last-kept, all-decoded, few, some-counted, none-counted, none-lost, heardCount}
+use Rattle.agreement.proofs.Folded.{foldIn, counted, block-seen, numbered, last-kept, all-decoded, few, some-counted, none-counted, none-lost, heardCount}
 
 same-last : (k c k′ c′ : ℕ) → heardAt k c ≡ heardAt k′ c′ → (k ≡ k′) × (c ≡ c′)
 same-last k c k′ c′ e = (cc, cc)
@@ -52,7 +54,7 @@ bit-most : (b : Bool) → bit b ≤ 1
 bit-most true = omega arith
 bit-most false = omega arith
 
--- 0, 4 or 8 of up to 8 grants.
+-- 0, 4 or 8 of up to 8 PDCCHs.
 abbrev Fours : ℕ → Type 0
 Fours lost = (lost ≡ 0) ⊎ (lost ≡ 4) ⊎ (lost ≡ 8)
 
@@ -65,7 +67,7 @@ fours lost = go (ℕ-discrete lost 0) (ℕ-discrete lost 4) (ℕ-discrete lost 8
     go (no a) (no b) (yes c) = inl (inr (inr c))
     go (no a) (no b) (no c) = inr (⊎-elim a (⊎-elim b c))
 
--- V fits U exactly where 0, 4 or 8 grants before the last heard one were lost.
+-- V fits U exactly where 0, 4 or 8 PDCCHs before the last heard one were lost.
 fits : (u lost : ℕ) → 1 ≤ u → Fours lost → (0 + u + lost - 1) % 4 + 1 ≡ (u - 1) % 4 + 1
 fits u lost h (inl e) = omega arith
 fits u lost h (inr (inl e)) = omega arith
@@ -84,18 +86,33 @@ first-joined : (s : Seen) (m : ℕ) (x : Heard) → stepOf s m (viewOf x) .first
 unfolding stepOf viewOf
 first-joined s m Nothing = sym (and-true (s .first))
 first-joined s m (Granted g) = refl
+first-joined s m (Scheduled b) = refl
+first-joined s m (Released p) = refl
 
 second-joined : (s : Seen) (m : ℕ) (x : Heard) → stepOf s m (viewOf x) .second ≡ (s .second && decodedSecond x)
 unfolding stepOf viewOf
 second-joined s m Nothing = sym (and-true (s .second))
 second-joined s m (Granted g) = refl
+second-joined s m (Scheduled b) = refl
+second-joined s m (Released p) = refl
 
+-- What was heard fits the settings: a PDCCH's first CCE is below N_4.
+abbrev pub LowCce : Settings → Heard → Type 0
+LowCce set x = (k c : ℕ) → asLast k x ≡ heardAt k c → c < edge (set .nrb) 4
+
+-- `read` is the station's reading; on a PDCCH's resource it reads that PDCCH, and on the configured resource a scheduled block that
+-- was heard.
 module _ (set : Settings) (n : ℕ) (good : windowRefusal set n ≡ 0) (ok : Accepted set) (mode : bundles set (sizeOf set n) ≡ true)
-    (S : ℕ → Send) (H : ℕ → Heard) (F : ℕ → View)
+    (S : ℕ → Send) (H : ℕ → Heard) (F : ℕ → View) (read : ℕ → ℕ → ℕ → Reading)
     (rule : RuleFrom 0 (map S (timesOf (windowOf (set .config) n))))
     (brings : (k : ℕ) → 1 ≤ k → k ≤ 13 → Brings (S k) (H k))
-    (low : (k : ℕ) → 1 ≤ k → k ≤ 13 → (g : Grant) → H k ≡ Granted g → g .cce .0 < edge (set .nrb) 4)
-    (view : (k : ℕ) → 1 ≤ k → k ≤ 13 → F k ≡ viewOf (H k)) where
+    (low : (k : ℕ) → 1 ≤ k → k ≤ 13 → LowCce set (H k))
+    (view : (k : ℕ) → 1 ≤ k → k ≤ 13 → F k ≡ viewOf (H k))
+    (reads-pdcch : (m c r b0 b1 : ℕ) → resourceOf set n m c ≡ mapped.At (record { 0 = r })
+    → read r b0 b1 ≡ readAt set (sizeOf set n) (place.Pdcch m (record { 0 = c })) b0 b1)
+    (reads-block : (k : ℕ) → member k (windowOf (set .config) n) ≡ true → isBlock (H k) ≡ true
+    → (m : ℕ) × (m < sizeOf set n) × (getD (windowOf (set .config) n) m 0 ≡ k)
+    × ((b0 b1 : ℕ) → read (set .scheduled) b0 b1 ≡ readAt set (sizeOf set n) (place.Block m) b0 b1)) where
   ks : List ℕ
   ks = windowOf (set .config) n
 
@@ -121,7 +138,7 @@ module _ (set : Settings) (n : ℕ) (good : windowRefusal set n ≡ 0) (ok : Acc
   unfolding seen es
   u-is = counted (windowOf (set .config) n) (map (entry S H) (timesOf (windowOf (set .config) n))) unseen ∙ omega arith
 
-  v-is : anyHeard es ≡ true → seen .v ≡ (0 + heardCount es + lostBefore es - 1) % 4 + 1
+  v-is : anyOf isPdcch es ≡ true → seen .v ≡ (0 + heardCount es + lostBefore es - 1) % 4 + 1
   unfolding seen es
   v-is some =
       numbered (windowOf (set .config) n) (map (entry S H) (timesOf (windowOf (set .config) n))) unseen 0
@@ -137,7 +154,11 @@ module _ (set : Settings) (n : ℕ) (good : windowRefusal set n ≡ 0) (ok : Acc
       omega
       (arith, few (map (entry S H) (timesOf (windowOf (set .config) n))), entries-length S H (timesOf (windowOf (set .config) n)), in-time-order (set .config) n .size)
 
-  -- the last heard grant has a position, a first CCE and so a resource
+  block-is : seen .scheduled ≡ anyOf isBlock es
+  unfolding seen es
+  block-is = block-seen (windowOf (set .config) n) (map (entry S H) (timesOf (windowOf (set .config) n))) unseen
+
+  -- the last heard PDCCH has a position, a first CCE and so a resource
   record Found (k c : ℕ) : Type 0 where
     at-position : seen .position ≡ positionOf k (windowOf (set .config) n)
     at-cce : seen .cce .0 ≡ c
@@ -150,20 +171,20 @@ module _ (set : Settings) (n : ℕ) (good : windowRefusal set n ≡ 0) (ok : Acc
       let p = last-kept (windowOf (set .config) n) (map (entry S H) (timesOf (windowOf (set .config) n))) unseen k c e in
       let l = last-of S H (timesOf (windowOf (set .config) n)) k c e in
       let w = of-window (set .config) n k (in-time (set .config) n k (l .inside)) in
-      record { at-position = p .0; at-cce = p .1; of = w; below = rw (l .cce) at (low k (w .least) (w .most) (l .granted) (l .heard)) }
+      record { at-position = p .0; at-cce = p .1; of = w; below = low k (w .least) (w .most) k c (l .heard) }
 
   -- configuration 0, which does not read the DAI, has windows of one subframe
   one-subframe : set .config ≡ 0 → lostBefore es ≡ 0
   one-subframe e =
       let most : sizeOf set n ≤ 1 = rw e (zero-windows n) in
-      go (anyHeard es) refl most
+      go (anyOf isPdcch es) refl most
     where
-      go : (t : Bool) → anyHeard es ≡ t → sizeOf set n ≤ 1 → lostBefore es ≡ 0
+      go : (t : Bool) → anyOf isPdcch es ≡ t → sizeOf set n ≤ 1 → lostBefore es ≡ 0
       go true t most = omega (arith, es-few, some-counted es t)
       go false t most = none-lost es t
 
-  -- the answer with a reply due
-  due : anyHeard es ≡ true → Fours (lostBefore es) → bundledAnswer set n seen ≡ replyOn 1 (resourceOf set n (seen .position) (seen .cce .0)) (bit (seen .first)) (secondBit set seen)
+  -- the answer to heard PDCCHs with a reply due
+  due : anyOf isPdcch es ≡ true → Fours (lostBefore es) → bundledAnswer set n seen ≡ replyOn 1 (resourceOf set n (seen .position) (seen .cce .0)) (bit (seen .first)) (secondBit set seen)
   unfolding bundledAnswer missShown expected
   due some lost =
       let least : 1 ≤ heardCount es = some-counted es some in
@@ -175,18 +196,30 @@ module _ (set : Settings) (n : ℕ) (good : windowRefusal set n ≡ 0) (ok : Acc
       never true = refl
       never false = refl
 
-  -- and without one
-  undue : (((anyHeard es ≡ true) × Fours (lostBefore es)) → ⊥) → bundledAnswer set n seen ≡ answer.Silent
-  unfolding bundledAnswer missShown expected
-  undue none = go (anyHeard es) refl
+  -- the answer to a lone scheduled block
+  lone : anyOf isPdcch es ≡ false → anyOf isBlock es ≡ true
+      → bundledAnswer set n seen
+      ≡ answer.Sent (record { kind = 1; resource = record { 0 = set .scheduled }; b0 = bit (seen .first); b1 = secondBit set seen })
+  unfolding bundledAnswer loneAnswer replyOn
+  lone none some = rw (eq-eqb (seen .u) 0 (u-is ∙ none-counted es none), block-is ∙ some)
+
+  -- a reply is due
+  Due : Type 0
+  Due = ((anyOf isPdcch es ≡ true) × Fours (lostBefore es)) ⊎ ((anyOf isPdcch es ≡ false) × (anyOf isBlock es ≡ true))
+
+  -- and the answer without one
+  undue : (Due → ⊥) → bundledAnswer set n seen ≡ answer.Silent
+  unfolding Due bundledAnswer loneAnswer missShown expected
+  undue none = go (anyOf isPdcch es) refl (anyOf isBlock es) refl
     where
-      go : (t : Bool) → anyHeard es ≡ t → bundledAnswer set n seen ≡ answer.Silent
-      go false t = rw (eq-eqb (seen .u) 0 (u-is ∙ none-counted es t))
-      go true t =
+      go : (t : Bool) → anyOf isPdcch es ≡ t → (b : Bool) → anyOf isBlock es ≡ b → bundledAnswer set n seen ≡ answer.Silent
+      go false t true b = absurd (none (inr (t, b)))
+      go false t false b = rw (eq-eqb (seen .u) 0 (u-is ∙ none-counted es t), block-is ∙ b)
+      go true t b e =
           let least : 1 ≤ heardCount es = some-counted es t in
           let other : seen .v ≡ (seen .u - 1) % 4 + 1 → ⊥ = λ e.
-          none (t, fits-only (heardCount es) (lostBefore es) least (omega (arith, es-few, window-size (set .config) n)) (sym (v-is t) ∙ rw u-is at e)) in
-          let some : set .config ≡ 0 → ⊥ = λ e. none (t, inl (one-subframe e)) in
+          none (inl (t, fits-only (heardCount es) (lostBefore es) least (omega (arith, es-few, window-size (set .config) n)) (sym (v-is t) ∙ rw u-is at e))) in
+          let some : set .config ≡ 0 → ⊥ = λ e. none (inl (t, inl (one-subframe e))) in
           rw (ne-eqb (seen .u) 0 (λ z. omega (arith, u-is)), ne-eqb (set .config) 0 some, ne-eqb (seen .v) ((seen .u - 1) % 4 + 1) other)
 
   -- each block's AND
@@ -232,54 +265,110 @@ module _ (set : Settings) (n : ℕ) (good : windowRefusal set n ≡ 0) (ok : Acc
       go (yes e) = rw (eq-eqb (set .blocks) 1 e, one-bit e)
       go (no e) = rw (ne-eqb (set .blocks) 1 e)
 
-  some-heard : anyHeard es ≡ true → (k c : ℕ) × (lastHeard es ≡ heardAt k c)
+  some-heard : anyOf isPdcch es ≡ true → (k c : ℕ) × (lastHeard es ≡ heardAt k c)
   unfolding es
   some-heard e = some-last S H (timesOf (windowOf (set .config) n)) e
 
-  -- it goes on the resource of the last heard grant
+  none-heard : anyOf isPdcch es ≡ false → lastHeard es ≡ unheard
+  unfolding es
+  none-heard e = none-last S H (timesOf (windowOf (set .config) n)) e
+
+  heard-block : (k : ℕ) → BlockAt k es → (member k (windowOf (set .config) n) ≡ true) × (isBlock (H k) ≡ true)
+  unfolding es
+  heard-block k h = let p = block-at S H (timesOf (windowOf (set .config) n)) k h in (in-time (set .config) n k (p .0), p .1)
+
+  -- it goes on the resource of the last heard PDCCH
   goes-on : (m c r : ℕ) → seen .position ≡ m → seen .cce .0 ≡ c → resourceOf set n m c ≡ mapped.At (record { 0 = r })
       → replyOn 1 (resourceOf set n (seen .position) (seen .cce .0)) (bit (seen .first)) (secondBit set seen)
       ≡ answer.Sent (record { kind = 1; resource = record { 0 = r }; b0 = bit (seen .first); b1 = secondBit set seen })
   unfolding replyOn
   goes-on m c r em ec there = rw (em, ec, there)
 
-  -- and is read as that grant
-  reads : (m c r : ℕ) → resourceOf set n m c ≡ mapped.At (record { 0 = r })
-      → readOf set n r (bit (seen .first)) (secondBit set seen) ≡ reading.Bundled m (record { 0 = c }) (bit (seen .first)) (secondBit set seen)
+  -- a reading with these bits is bundled, at whatever place it is
+  reads : (p : Place) → readAt set (sizeOf set n) p (bit (seen .first)) (secondBit set seen) ≡ reading.Bundled p (bit (seen .first)) (secondBit set seen)
   unfolding readAt bundledReading
-  reads m c r there = read-there set n m c r there (bit (seen .first)) (secondBit set seen) ∙ rw (mode, good-bits)
+  reads p = rw (mode, good-bits)
 
-  -- the reply that is due
-  reply : anyHeard es ≡ true → Fours (lostBefore es)
-      → (r : Reply) × (bundledAnswer set n seen ≡ answer.Sent r) × BundledReply set (resourceOf set n) (readOf set n) (windowOf (set .config) n) es r
-  reply some lost =
-      let l = some-heard some in
-      let f = found (l .0) (l .1) (l .2) in
-      let m : ℕ = positionOf (l .0) (windowOf (set .config) n) in
-      let p = calls-one-to-one set n good .into m (l .1) (f .of .position) (f .below) in
-      let r : Reply = record { kind = 1; resource = record { 0 = p .0 }; b0 = bit (seen .first); b1 = secondBit set seen } in (
-        r,
-        due some lost ∙ goes-on m (l .1) (p .0) (f .at-position) (f .at-cce) (p .3 .there),
+  -- the reply that is due, on a resource: what it says beside what it is read as
+  module _ (r : ℕ) where
+    sent : Reply
+    sent = record { kind = 1; resource = record { 0 = r }; b0 = bit (seen .first); b1 = secondBit set seen }
+
+    abbrev Right : Type 0
+    Right = BundledReply set (resourceOf set n) read (windowOf (set .config) n) es sent
+
+    says : ((k c : ℕ) → lastHeard es ≡ heardAt k c
+        → (m : ℕ) × (m < sizeOf set n) × (getD (windowOf (set .config) n) m 0 ≡ k)
+        × (resourceOf set n m c ≡ mapped.At (record { 0 = r }))
+        × (read r (bit (seen .first)) (secondBit set seen) ≡ reading.Bundled (place.Pdcch m (record { 0 = c })) (bit (seen .first)) (secondBit set seen)))
+        → ((k : ℕ) → anyOf isPdcch es ≡ false → BlockAt k es
+        → (m : ℕ) × (m < sizeOf set n) × (getD (windowOf (set .config) n) m 0 ≡ k)
+        × (r ≡ set .scheduled)
+        × (read r (bit (seen .first)) (secondBit set seen) ≡ reading.Bundled (place.Block m) (bit (seen .first)) (secondBit set seen)))
+        → Right
+    unfolding sent
+    says isRead alone =
         record {
           kind = refl;
-          isRead = λ k c e.
-              let q = same-last (l .0) (l .1) k c (sym (l .2) ∙ e) in
-              (m, f .of .position, f .of .back ∙ q .0, ap (resourceOf set n m) (sym (q .1)) ∙ p .3 .there, reads m (l .1) (p .0) (p .3 .there) ∙ ap (λ (x : ℕ). reading.Bundled m (record { 0 = x }) (bit (seen .first)) (secondBit set seen)) (q .1));
+          isRead = isRead;
+          alone = alone;
           first = (λ e. first-all .0 (bit-true (seen .first) .0 e), λ h. bit-true (seen .first) .1 (first-all .1 h));
           second = λ two. (
             λ e. second-all .0 (bit-true (seen .second) .0 (sym (second-bit two) ∙ e)),
             λ h. second-bit two ∙ bit-true (seen .second) .1 (second-all .1 h),
           );
           bits = (bit-most (seen .first), second-most, one-bit);
-        },
+        }
+
+  -- the reply to heard PDCCHs
+  reply : anyOf isPdcch es ≡ true → Fours (lostBefore es)
+      → (r : Reply) × (bundledAnswer set n seen ≡ answer.Sent r) × BundledReply set (resourceOf set n) read (windowOf (set .config) n) es r
+  unfolding sent
+  reply some lost =
+      let l = some-heard some in
+      let f = found (l .0) (l .1) (l .2) in
+      let m : ℕ = positionOf (l .0) (windowOf (set .config) n) in
+      let p = calls-one-to-one set n good .into m (l .1) (f .of .position) (f .below) in (
+        sent (p .0),
+        due some lost ∙ goes-on m (l .1) (p .0) (f .at-position) (f .at-cce) (p .3 .there),
+        says (p .0)
+            (λ k c e.
+            let q = same-last (l .0) (l .1) k c (sym (l .2) ∙ e) in (
+              m,
+              f .of .position,
+              f .of .back ∙ q .0,
+              ap (resourceOf set n m) (sym (q .1)) ∙ p .3 .there,
+              reads-pdcch m (l .1) (p .0) (bit (seen .first)) (secondBit set seen) (p .3 .there) ∙ reads (place.Pdcch m (record { 0 = l .1 }))
+                  ∙ ap (λ (x : ℕ). reading.Bundled (place.Pdcch m (record { 0 = x })) (bit (seen .first)) (secondBit set seen)) (q .1),
+            ))
+            (λ k none h. absurd (false≢true (sym none ∙ some))),
       )
 
-  pub bundled-window : Bundled set (resourceOf set n) (readOf set n) (windowOf (set .config) n) (map (entry S H) (timesOf (windowOf (set .config) n))) (bundledAnswer set n (seenOf F (windowOf (set .config) n)))
-  unfolding es
-  bundled-window = rw folded (sent-exactly _ _ _ (decided (anyHeard es) refl (fours (lostBefore es))) (λ d. reply (d .0) (d .1)) undue)
+  -- and to a lone scheduled block
+  block-reply : anyOf isPdcch es ≡ false → anyOf isBlock es ≡ true
+      → (r : Reply) × (bundledAnswer set n seen ≡ answer.Sent r) × BundledReply set (resourceOf set n) read (windowOf (set .config) n) es r
+  unfolding sent
+  block-reply none some = (
+    sent (set .scheduled),
+    lone none some,
+    says (set .scheduled)
+        (λ k c e. let z : _≡_ {A = ℕ} 0 1 = cc (e, none-heard none) in absurd (omega arith))
+        (λ k none′ h.
+        let w = heard-block k h in
+        let b = reads-block k (w .0) (w .1) in
+        (b .0, b .1, b .2, refl, b .3 (bit (seen .first)) (secondBit set seen) ∙ reads (place.Block (b .0)))),
+  )
+
+  pub bundled-window : Bundled set (resourceOf set n) read (windowOf (set .config) n) (map (entry S H) (timesOf (windowOf (set .config) n))) (bundledAnswer set n (seenOf F (windowOf (set .config) n)))
+  unfolding es Due
+  bundled-window = rw folded (sent-exactly _ _ _ (decided (anyOf isPdcch es) refl (fours (lostBefore es)) (anyOf isBlock es) refl) answered undue)
     where
-      decided : (t : Bool) → anyHeard es ≡ t → Fours (lostBefore es) ⊎ (Fours (lostBefore es) → ⊥)
-          → ((anyHeard es ≡ true) × Fours (lostBefore es)) ⊎ (((anyHeard es ≡ true) × Fours (lostBefore es)) → ⊥)
-      decided true t (inl f) = inl (t, f)
-      decided true t (inr f) = inr (λ d. f (d .1))
-      decided false t f = inr (λ d. false≢true (sym t ∙ d .0))
+      answered : Due → (r : Reply) × (bundledAnswer set n seen ≡ answer.Sent r) × BundledReply set (resourceOf set n) read (windowOf (set .config) n) es r
+      answered (inl d) = reply (d .0) (d .1)
+      answered (inr d) = block-reply (d .0) (d .1)
+
+      decided : (t : Bool) → anyOf isPdcch es ≡ t → Fours (lostBefore es) ⊎ (Fours (lostBefore es) → ⊥) → (b : Bool) → anyOf isBlock es ≡ b → Due ⊎ (Due → ⊥)
+      decided true t (inl f) b e = inl (inl (t, f))
+      decided true t (inr f) b e = inr (⊎-elim (λ d. f (d .1)) (λ d. false≢true (sym (d .0) ∙ t)))
+      decided false t f true e = inl (inr (t, e))
+      decided false t f false e = inr (⊎-elim (λ d. false≢true (sym t ∙ d .0)) (λ d. false≢true (sym e ∙ d .1)))

@@ -1,33 +1,34 @@
 -- The definitions that a worked run computes with, under two names for an `unfolding` line.
 -- Assumes nothing.
+use Rattle.frame.specs.Distance.{distanceUpTo, distanceOf, shares}
 use Rattle.frame.specs.Layout.{layouts, letterOf, downlink}
 use Rattle.frame.specs.Order.{timesOf, orderOf}
-use Rattle.frame.specs.Settings.{bundles, cellRefusal, modeRefusal, blocksRefusal, laterRefusal, settingsRefusal, noWindowRefusal, windowRefusal}
+use Rattle.frame.specs.Settings.{bundles, cellRefusal, modeRefusal, blocksRefusal, hasScheduled, scheduledRefusal, laterRefusal, settingsRefusal, noWindowRefusal, windowRefusal}
 use Rattle.frame.specs.Table.{table, windowOf}
 use Rattle.resource.specs.Calls.{pairRefusal, rangeRefusal, resourceOf, inverseOf}
 use Rattle.resource.specs.Formula.{edge, regionOf, resourceNumber, regionBack, positionBack, cceBack}
 use Rattle.symbols.specs.Delivered.{inSomeRow, deliveredAt, deliveredSet, deliveryOf}
 use Rattle.symbols.specs.Selection.{symbolOf, tableOf, table2, table3, table4}
-use Rattle.heard.specs.Heard.{uplinkRefusal, grantRefusal, heardRefusal, viewOf}
-use Rattle.heard.specs.Memory.{slotOf, heardIn, viewIn, viewAgo}
+use Rattle.heard.specs.Heard.{uplinkRefusal, carriedRefusal, pdcchRefusal, unsetRefusal, heardRefusal, blockBefore, secondRefusal, causeOf, viewOf}
+use Rattle.heard.specs.Memory.{slotOf, heardIn, viewIn, viewAgo, blockAgo}
 use Rattle.fold.specs.Fold.{stepOf, seenFrom, seenOf}
-use Rattle.reply.specs.Replies.{replyOn, expected, missShown, secondBit, bundledAnswer, stateOf, cceOf, windowState, symbolAnswer, multiplexedAnswer, windowAnswer}
+use Rattle.reply.specs.Replies.{replyOn, expected, missShown, secondBit, loneAnswer, bundledAnswer, stateOf, carrierOf, windowState, symbolAnswer, multiplexedAnswer, windowAnswer}
 use Rattle.handset.specs.Feed.{answerOf, nextAnswer, pushed, feedRefusal, feedOf}
 use Rattle.handset.specs.Make.{fresh, makeOf}
 use Rattle.handset.specs.Sound.{slotSound, allSound, stateSound, stateRefusal}
-use Rattle.station.specs.Readings.{badBits, bundledReading, multiplexedReading, readAt, readOf}
+use Rattle.station.specs.Readings.{badBits, bundledReading, multiplexedReading, readAt, dynamicReading, toldRefusal, readOn, readOf}
 
 -- The causes of a refusal and the windows: what the hypotheses of a run ask.
 unfoldable pub schedules : Unit {0}
-unfolding layouts letterOf downlink timesOf cellRefusal modeRefusal blocksRefusal laterRefusal settingsRefusal noWindowRefusal windowRefusal table windowOf edge uplinkRefusal grantRefusal heardRefusal
+unfolding layouts letterOf downlink timesOf cellRefusal modeRefusal blocksRefusal hasScheduled scheduledRefusal laterRefusal settingsRefusal noWindowRefusal windowRefusal table windowOf distanceUpTo distanceOf shares edge uplinkRefusal carriedRefusal pdcchRefusal unsetRefusal heardRefusal blockBefore secondRefusal causeOf
 schedules = tt
 
 -- The handset's half: making and feeding.
 unfoldable pub handsets : Unit {0}
-unfolding schedules orderOf bundles pairRefusal resourceOf regionOf resourceNumber symbolOf tableOf table2 table3 table4 viewOf slotOf heardIn viewIn viewAgo stepOf seenFrom seenOf replyOn expected missShown secondBit bundledAnswer stateOf cceOf windowState symbolAnswer multiplexedAnswer windowAnswer answerOf nextAnswer pushed feedRefusal feedOf fresh makeOf slotSound allSound stateSound stateRefusal
+unfolding schedules orderOf bundles pairRefusal resourceOf regionOf resourceNumber symbolOf tableOf table2 table3 table4 viewOf slotOf heardIn viewIn viewAgo blockAgo stepOf seenFrom seenOf replyOn expected missShown secondBit loneAnswer bundledAnswer stateOf carrierOf windowState symbolAnswer multiplexedAnswer windowAnswer answerOf nextAnswer pushed feedRefusal feedOf fresh makeOf slotSound allSound stateSound stateRefusal
 handsets = tt
 
 -- The station's half: inverse and reading.
 unfoldable pub stations : Unit {0}
-unfolding schedules bundles rangeRefusal inverseOf regionOf regionBack positionBack cceBack symbolOf tableOf table2 table3 table4 inSomeRow deliveredAt deliveredSet deliveryOf badBits bundledReading multiplexedReading readAt readOf
+unfolding schedules bundles rangeRefusal inverseOf regionOf regionBack positionBack cceBack symbolOf tableOf table2 table3 table4 inSomeRow deliveredAt deliveredSet deliveryOf badBits bundledReading multiplexedReading readAt dynamicReading toldRefusal readOn readOf
 stations = tt

@@ -10,20 +10,22 @@ use native.Mathlib.Decide.{ℕ-discrete}
 use native.Mathlib.Omega.{arith}
 use lib.ListN.{length, getD}
 use Rattle.frame.specs.declared.Settings.{Settings}
+use Rattle.frame.specs.Order.{member, timesOf}
 use Rattle.frame.proofs.Accepted.{accepted}
 use Rattle.resource.specs.declared.Cce.{Cce}
+use Rattle.station.specs.declared.Place.{Place}
+use Rattle.station.specs.declared.Place.the-variants as place
 use Rattle.station.specs.declared.Reading.the-variants as reading
 use Rattle.confirmation.specs.declared.Send.{Send}
-use Rattle.confirmation.specs.Confirmed.{holdsFor, confirmed}
-use Rattle.confirmation.specs.Sent.{isGrant}
+use Rattle.confirmation.specs.Confirmed.{speaksFor, confirmed}
 use Rattle.confirmation.proofs.Confirmed.{carried}
 use Rattle.heard.specs.declared.Heard.{Heard}
 use Rattle.reply.specs.declared.Reply.{Reply}
 use Rattle.agreement.specs.Confirmation.{Replied, readingAt, decodedBlock, Conclusions}
-use Rattle.agreement.specs.Demand3.{Engine, feedbackEngine, fedAt, HoldsAfter, Demand3}
+use Rattle.agreement.specs.Demand3.{Engine, feedbackEngine, fedAt, readingIn, HoldsAfter, Demand3}
 use Rattle.agreement.specs.Run.{Item, sentAgo, heardAgo, heardInRun, windowAt, Brings}
-use Rattle.agreement.specs.Window.{isHeard, inTime, Bundled, Multiplexed}
-use Rattle.agreement.proofs.Confirmation.{inside, LastRead, last-read, bundled-confirmed, multiplexed-confirmed}
+use Rattle.agreement.specs.Window.{isHeard, isPdcch, inTime, Bundled, Multiplexed}
+use Rattle.agreement.proofs.Confirmation.{inside, LastRead, BlockRead, last-read, bundled-confirmed, multiplexed-confirmed}
 use Rattle.agreement.proofs.Demand3.{demand3}
 use Rattle.agreement.proofs.Feeds.{ago-brings}
 
@@ -34,9 +36,9 @@ module _ (e : Engine) (d : Demand3 e) (set : Settings) (sent : ℕ → Send) (it
   -- What demand 3 says of a window: it is bundled, or it is multiplexed.
   abbrev Answered : Type 0
   Answered =
-      Bundled set (e .resource set (s % 10)) (e .read set (s % 10)) (windowAt set s) (inTime (sentAgo sent s) H (windowAt set s))
+      Bundled set (e .resource set (s % 10)) (readingIn e set sent s) (windowAt set s) (inTime (sentAgo sent s) H (windowAt set s))
       (fedAt e set items (replied .item) (replied .brought) .answer)
-      ⊎ Multiplexed (e .resource set (s % 10)) (e .read set (s % 10)) (windowAt set s) H (inTime (sentAgo sent s) H (windowAt set s))
+      ⊎ Multiplexed set (e .resource set (s % 10)) (readingIn e set sent s) (windowAt set s) H (inTime (sentAgo sent s) H (windowAt set s))
       (fedAt e set items (replied .item) (replied .brought) .answer)
 
   brought : (k : ℕ) → Brings (sentAgo sent s k) (heardAgo (heardInRun set items) s k)
@@ -57,44 +59,70 @@ module _ (e : Engine) (d : Demand3 e) (set : Settings) (sent : ℕ → Send) (it
       go (no mode) (no size) =
           inr (holds .multiplexed (replied .item) s (replied .brought) (replied .subframe) (omega arith) (omega (arith, accepted set (replied .accepted) .mode)) size)
 
+  abbrev ByPdcch : Type 0
+  ByPdcch = LastRead set (replied .accepted) sent (replied .schedule) s H brought r (readingIn e set sent s)
+
+  abbrev ByBlock : Type 0
+  ByBlock = BlockRead set (replied .accepted) sent (replied .schedule) s H brought r (readingIn e set sent s)
+
   -- Where it is read as bundled, it is.
-  bundled : (m : ℕ) → m < length (windowAt set s) → (named : ℕ) (c : Cce) (b0 b1 : ℕ) → readingAt e set s r ≡ reading.Bundled named c b0 b1
-      → (l : LastRead set (replied .accepted) sent (replied .schedule) s H brought r (e .read set (s % 10))) × (getD (windowAt set s) named 0 ≡ l .k)
-  bundled m h named c b0 b1 is = go (window m h)
+  bundled : (m : ℕ) → m < length (windowAt set s) → (named : Place) (b0 b1 : ℕ) → readingAt e set sent s r ≡ reading.Bundled named b0 b1 → ByPdcch ⊎ ByBlock
+  bundled m h named b0 b1 is = go (window m h)
     where
-      go : Answered
-          → (l : LastRead set (replied .accepted) sent (replied .schedule) s H brought r (e .read set (s % 10))) × (getD (windowAt set s) named 0 ≡ l .k)
-      go (inl w) =
-          let l = last-read set (replied .accepted) sent (replied .schedule) s H brought r (e .resource set (s % 10)) (e .read set (s % 10)) _ w (replied .answered) in
-          let same : named ≡ l .named = cc (is, l .isRead) in
-          (l, ap (λ (m : ℕ). getD (windowAt set s) m 0) same ∙ l .place)
+      go : Answered → ByPdcch ⊎ ByBlock
+      go (inl w) = last-read set (replied .accepted) sent (replied .schedule) s H brought r (e .resource set (s % 10)) (readingIn e set sent s) _ w (replied .answered)
       go (inr w) = let z : _≡_ {A = ℕ} 0 1 = cc (is, w .1 r (replied .answered) .isRead) in absurd (omega arith)
 
-  heard-up-to : (named : ℕ) (c : Cce) (b0 b1 : ℕ) → readingAt e set s r ≡ reading.Bundled named c b0 b1
-      → (m : ℕ) → m < length (windowAt set s) → isGrant (sentAgo sent s (getD (windowAt set s) m 0)) ≡ true
-      → holdsFor (windowAt set s) (sentAgo sent s) (getD (windowAt set s) named 0) (getD (windowAt set s) m 0) ≡ true
+  -- Read as a PDCCH, it is the last one heard; read as the block, that was heard alone.
+  by-pdcch : (m : ℕ) → m < length (windowAt set s) → (named : ℕ) (c : Cce) (b0 b1 : ℕ) → readingAt e set sent s r ≡ reading.Bundled (place.Pdcch named c) b0 b1
+      → (l : ByPdcch) × (getD (windowAt set s) named 0 ≡ l .k)
+  by-pdcch m h named c b0 b1 is = go (bundled m h (place.Pdcch named c) b0 b1 is)
+    where
+      go : ByPdcch ⊎ ByBlock → (l : ByPdcch) × (getD (windowAt set s) named 0 ≡ l .k)
+      go (inl l) =
+          let same : named ≡ l .named = cc (is, l .isRead) in
+          (l, ap (λ (m : ℕ). getD (windowAt set s) m 0) same ∙ l .isAt)
+      go (inr l) = let z : _≡_ {A = ℕ} 0 1 = cc (is, l .isRead) in absurd (omega arith)
+
+  by-block : (m : ℕ) → m < length (windowAt set s) → (named b0 b1 : ℕ) → readingAt e set sent s r ≡ reading.Bundled (place.Block named) b0 b1 → ByBlock
+  by-block m h named b0 b1 is = go (bundled m h (place.Block named) b0 b1 is)
+    where
+      go : ByPdcch ⊎ ByBlock → ByBlock
+      go (inl l) = let z : _≡_ {A = ℕ} 0 1 = cc (is, l .isRead) in absurd (omega arith)
+      go (inr l) = l
+
+  in-time : (m : ℕ) → m < length (windowAt set s) → member (getD (windowAt set s) m 0) (timesOf (windowAt set s)) ≡ true
+  in-time m h = inside set (replied .accepted) sent (replied .schedule) s H brought r m h
+
+  heard-up-to : (named : ℕ) (c : Cce) (b0 b1 : ℕ) → readingAt e set sent s r ≡ reading.Bundled (place.Pdcch named c) b0 b1
+      → (m : ℕ) → m < length (windowAt set s)
+      → speaksFor (windowAt set s) (sentAgo sent s) (getD (windowAt set s) named 0) (getD (windowAt set s) m 0) ≡ true
       → isHeard (H (getD (windowAt set s) m 0)) ≡ true
-  heard-up-to named c b0 b1 is m h granted holds =
-      let l = bundled m h named c b0 b1 is in
-      l .0 .heard (getD (windowAt set s) m 0) (inside set (replied .accepted) sent (replied .schedule) s H brought r m h) granted (rw (l .1) at holds)
+  heard-up-to named c b0 b1 is m h speaks =
+      let l = by-pdcch m h named c b0 b1 is in
+      l .0 .heard (getD (windowAt set s) m 0) (in-time m h) (rw (l .1) at speaks)
 
-  lost-after : (named : ℕ) (c : Cce) (b0 b1 : ℕ) → readingAt e set s r ≡ reading.Bundled named c b0 b1
+  lost-after : (named : ℕ) (c : Cce) (b0 b1 : ℕ) → readingAt e set sent s r ≡ reading.Bundled (place.Pdcch named c) b0 b1
       → (m : ℕ) → m < length (windowAt set s) → getD (windowAt set s) m 0 < getD (windowAt set s) named 0
-      → isHeard (H (getD (windowAt set s) m 0)) ≡ false
+      → isPdcch (H (getD (windowAt set s) m 0)) ≡ false
   lost-after named c b0 b1 is m h after =
-      let l = bundled m h named c b0 b1 is in
-      l .0 .lost (getD (windowAt set s) m 0) (inside set (replied .accepted) sent (replied .schedule) s H brought r m h) (rw (l .1) at after)
+      let l = by-pdcch m h named c b0 b1 is in
+      l .0 .lost (getD (windowAt set s) m 0) (in-time m h) (rw (l .1) at after)
 
-  confirmed-decoded : (m block : ℕ) → confirmed (windowAt set s) (sentAgo sent s) (readingAt e set s r) m block ≡ true
+  none-heard : (named b0 b1 : ℕ) → readingAt e set sent s r ≡ reading.Bundled (place.Block named) b0 b1
+      → (m : ℕ) → m < length (windowAt set s) → isPdcch (H (getD (windowAt set s) m 0)) ≡ false
+  none-heard named b0 b1 is m h = by-block m h named b0 b1 is .none (getD (windowAt set s) m 0) (in-time m h)
+
+  confirmed-decoded : (m block : ℕ) → confirmed (windowAt set s) (sentAgo sent s) (readingAt e set sent s r) m block ≡ true
       → decodedBlock (H (getD (windowAt set s) m 0)) block ≡ true
-  confirmed-decoded m block c = go (window m (carried (windowAt set s) (sentAgo sent s) (readingAt e set s r) m block c .0))
+  confirmed-decoded m block c = go (window m (carried (windowAt set s) (sentAgo sent s) (readingAt e set sent s r) m block c .0))
     where
       go : Answered
           → decodedBlock (H (getD (windowAt set s) m 0)) block ≡ true
       go (inl w) =
-          bundled-confirmed set (replied .accepted) sent (replied .schedule) s H brought r m block (e .resource set (s % 10)) (e .read set (s % 10)) _ w (replied .answered) c
+          bundled-confirmed set (replied .accepted) sent (replied .schedule) s H brought r m block (e .resource set (s % 10)) (readingIn e set sent s) _ w (replied .answered) c
       go (inr w) =
-          multiplexed-confirmed set (replied .accepted) sent (replied .schedule) s H brought r m block (e .resource set (s % 10)) (e .read set (s % 10)) _ w (replied .answered) c
+          multiplexed-confirmed set (replied .accepted) sent (replied .schedule) s H brought r m block (e .resource set (s % 10)) (readingIn e set sent s) _ w (replied .answered) c
 
 -- Of every engine that meets demand 3.
 pub conclusions : (e : Engine) → Demand3 e → Conclusions e
@@ -103,6 +131,7 @@ conclusions e d =
       confirmedDecoded = confirmed-decoded e d;
       heardUpTo = heard-up-to e d;
       lostAfter = lost-after e d;
+      noneHeard = none-heard e d;
     }
 
 -- Of the engine of this repository.

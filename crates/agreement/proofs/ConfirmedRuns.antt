@@ -10,7 +10,7 @@ use Rattle.confirmation.specs.Confirmed.{confirmed}
 use Rattle.agreement.specs.Run.{sentAgo, windowAt}
 use Rattle.agreement.proofs.Computing.{schedules}
 use Rattle.agreement.proofs.Finite.{sending}
-use Rattle.agreement.proofs.Worked.{Run, fourHeard, fourLost, eightLost, oneUndecoded, soleBlock, secondUndecoded, middleUndecoded, shared}
+use Rattle.agreement.proofs.Worked.{Run, fourHeard, fourLost, eightLost, lastTwoLost, oneUndecoded, soleBlock, secondUndecoded, middleUndecoded, shared, loneBlock, blockLost, secondBlock, releaseLast, fourLostRelease, blockAtIndex}
 
 -- the numbers, of `count` from i on, that pass the test
 abbrev passing : (ℕ → Bool) → ℕ → ℕ → List ℕ
@@ -42,6 +42,11 @@ pub nine-sent : Confirms eightLost 22 (6 ∷ []) []
 unfolding schedules confirmed
 nine-sent = (refl, refl)
 
+-- Six sent, the last two lost: those after the named one count for nothing, and the first four are confirmed.
+pub later-lost : Confirms lastTwoLost 12 (1 ∷ 2 ∷ 3 ∷ 7 ∷ []) []
+unfolding schedules confirmed
+later-lost = (refl, refl)
+
 -- Two blocks, of which the first bit is NACK: the second blocks of both grants.
 pub second-bit : Confirms oneUndecoded 7 [] (0 ∷ 1 ∷ [])
 unfolding schedules confirmed
@@ -64,3 +69,32 @@ delivered-two-of-three = (refl, refl)
 pub delivered-shared : Confirms shared 12 (0 ∷ 1 ∷ []) []
 unfolding schedules confirmed
 delivered-shared = (refl, refl)
+
+-- Read as the scheduled block: that block alone, of the grants in its window none.
+pub block-alone : Confirms loneBlock 12 (1 ∷ []) []
+unfolding schedules confirmed
+block-alone = (refl, refl)
+
+-- Read as a PDCCH: no scheduled block, be it lost or heard and decoded.
+pub lost-block-unconfirmed : Confirms blockLost 12 (0 ∷ 3 ∷ []) []
+unfolding schedules confirmed
+lost-block-unconfirmed = (refl, refl)
+
+pub heard-block-unconfirmed : Confirms secondBlock 12 (1 ∷ []) []
+unfolding schedules confirmed
+heard-block-unconfirmed = (refl, refl)
+
+-- Read as a release, which carries no block: the grant before it, with both its blocks.
+pub before-release : Confirms releaseLast 12 (0 ∷ []) (0 ∷ [])
+unfolding schedules confirmed
+before-release = (refl, refl)
+
+-- Four grants lost and then a release heard: it is the fifth PDCCH, and none of the four is confirmed.
+pub release-fifth : Confirms fourLostRelease 12 [] []
+unfolding schedules confirmed
+release-fifth = (refl, refl)
+
+-- Multiplexed, a scheduled block at the index: its position is delivered, and the grant's.
+pub block-delivered : Confirms blockAtIndex 12 (0 ∷ 1 ∷ []) []
+unfolding schedules confirmed
+block-delivered = (refl, refl)

@@ -17,13 +17,15 @@ use Rattle.resource.specs.Calls.{sizeOf}
 use Rattle.confirmation.specs.declared.Send.{Send}
 use Rattle.heard.specs.declared.Heard.{Heard}
 use Rattle.heard.specs.declared.Heard.the-variants.{Nothing}
-use Rattle.heard.specs.Heard.{heardRefusal}
 use Rattle.handset.specs.declared.Fed.{Fed}
 use Rattle.handset.specs.Feed.{feedOf}
 use Rattle.handset.specs.Make.{makeOf}
-use Rattle.station.proofs.Back.{read-back}
-use Rattle.agreement.specs.Demand3.{feedbackEngine, handsetAt, fedAt, IsFeed, IsSubframe, Demand3}
-use Rattle.agreement.specs.Run.{Item, feed, itemAt, handsetAfter, heardFrom, heardInRun, Schedule, Brings, subframeAt, BringsSent}
+use Rattle.station.proofs.Back.{told-fine, read-back}
+use Rattle.station.specs.declared.Told.{Told}
+use Rattle.station.specs.declared.Told.the-variants as told
+use Rattle.station.specs.Readings.{toldRefusal}
+use Rattle.agreement.specs.Demand3.{feedbackEngine, MayTell, handsetAt, fedAt, IsFeed, IsSubframe, Demand3}
+use Rattle.agreement.specs.Run.{Item, feed, itemAt, handsetAfter, causeAfter, heardFrom, heardInRun, Schedule, Brings, subframeAt, BringsSent}
 use Rattle.agreement.proofs.Memory.{ValidPast, after, fresh-after}
 use Rattle.agreement.proofs.Feeds.{Past, accepted-after, refused-after, feed-holds, Answered, FeedHolds}
 
@@ -44,17 +46,17 @@ module _ (set : Settings) (good : settingsRefusal set ≡ 0) (sent : ℕ → Sen
   every-feed (feed y ∷ items) l valid past rest zero x h e =
       rw (add-zero (length l), ← same-feed y x e) (feed-holds set good sent schedule heard brings l valid past y)
   every-feed (feed y ∷ items) l valid past rest (suc i) x h e =
-      go (eqb (heardRefusal set (length l % 10) y) 0) refl rest
+      go (eqb (causeAfter set l y) 0) refl rest
       (λ l′ valid′ past′ rest′. every-feed items l′ valid′ past′ rest′ i x (le-of-suc-le-suc h) e)
     where
-      go : (b : Bool) → eqb (heardRefusal set (length l % 10) y) 0 ≡ b
+      go : (b : Bool) → eqb (causeAfter set l y) 0 ≡ b
           → ((j : ℕ) → getD heard (length l + j) Nothing ≡ getD (cond b (y ∷ heardFrom set (y ∷ l) items) (heardFrom set l items)) j Nothing)
           → ((l′ : List Heard) → ValidPast set l′ → Past heard l′ → Rest l′ items
           → FeedHolds set sent heard (length l′ + length (heardFrom set l′ (take i items))) (handsetAfter feedOf (after set l′) (take i items)) x)
           → FeedHolds set sent heard (length l + length (cond b (y ∷ heardFrom set (y ∷ l) (take i items)) (heardFrom set l (take i items))))
           (handsetAfter feedOf (feedOf (after set l) y .handset) (take i items)) x
       go true b rest next =
-          let ok : heardRefusal set (length l % 10) y ≡ 0 = eqb-true (heardRefusal set (length l % 10) y) 0 b in
+          let ok : causeAfter set l y ≡ 0 = eqb-true (causeAfter set l y) 0 b in
           let here : getD heard (length l) Nothing ≡ y = ap (λ (s : ℕ). getD heard s Nothing) (sym (add-zero (length l))) ∙ rest 0 in
           let more : Rest (y ∷ l) items = λ j.
           ap (λ (s : ℕ). getD heard s Nothing) (suc-add (length l) j ∙ sym (add-suc (length l) j)) ∙ rest (suc j) in
@@ -62,7 +64,7 @@ module _ (set : Settings) (good : settingsRefusal set ≡ 0) (sent : ℕ → Sen
           rw (count, ap (λ (f : Fed). f .handset) (accepted-after set good sent schedule heard brings l valid past y ok))
           (next (y ∷ l) (ok, valid) (here, past) more)
       go false b rest next =
-          rw (ap (λ (f : Fed). f .handset) (refused-after set good sent schedule heard brings l valid past y (eqb-false (heardRefusal set (length l % 10) y) 0 b)))
+          rw (ap (λ (f : Fed). f .handset) (refused-after set good sent schedule heard brings l valid past y (eqb-false (causeAfter set l y) 0 b)))
           (next l valid past rest)
 
 -- Making from accepted settings gives a fresh handset.
@@ -88,13 +90,19 @@ run-subframe : (set : Settings) → settingsRefusal set ≡ 0 → (sent : ℕ �
 run-subframe set good sent schedule items brings i s x at =
     rw (at .counted) at (run-feed set good sent schedule items brings i x (at .isFeed) .accepted (at .accepted))
 
+-- What may be told is not refused.
+may-tell : (set : Settings) (n : ℕ) (t : Told) → MayTell set n t → toldRefusal set (sizeOf set n) t ≡ 0
+unfolding toldRefusal
+may-tell set n told.NotTold h = refl
+may-tell set n (told.At m) h = told-fine set n m (h .0) (h .1)
+
 -- The theorem of the third demand: it holds of the engine of this repository.
 pub demand3 : Demand3 feedbackEngine
 demand3 =
     record {
       byFormula = λ set n m c good h top. resource-call set n good m c ∙ paired (set .nrb) (set .n1) (sizeOf set n) m c h top .there;
       oneToOne = calls-one-to-one;
-      givesBack = λ set n m c r b0 b1 there. read-back set n m c r there b0 b1;
+      givesBack = λ set n m c r b0 b1 t may there. read-back set n m c r there t (may-tell set n t may) b0 b1;
       exactlyOne = exactly-one;
       made = made-accepted;
       run = λ set good sent schedule items brings.

@@ -1,9 +1,11 @@
 -- The entries of a window, made k by k from what was sent and what was heard k ago.
 -- Assumes nothing.
-use Prim.Native.Nat.{ℕ, suc, _+_, _<_, _≤_}
+use Prim.Native.Nat.{ℕ, zero, suc, _+_, _<_, _≤_}
 use mathlib.Core.Bool.{Bool, true, false, cond, _||_, false≢true, or-true}
 use mathlib.Core.List.{List, [], _∷_, map}
+use mathlib.Core.Logic.{inl, inr}
 use mathlib.Core.Path.{_≡_, refl, sym, ap, _∙_}
+use native.Mathlib.Nat.{le-of-suc-le-suc, not-suc-le-zero}
 use native.Mathlib.Omega.{arith}
 use lib.Dec.{eqb}
 use lib.ListN.{length, getD}
@@ -11,18 +13,17 @@ use borrow.Author.Tests.{eq-eqb, eqb-true}
 use Rattle.frame.specs.Order.{member, positionOf, timesOf}
 use Rattle.frame.specs.Table.{windowOf}
 use Rattle.frame.proofs.Times.{in-time-order}
-use Rattle.frame.proofs.Windows.{position-window, window-k}
+use Rattle.frame.proofs.Windows.{position-window, window-position, window-k}
 use Rattle.confirmation.specs.declared.Send.{Send}
-use Rattle.confirmation.specs.Sent.{isGrant}
-use Rattle.heard.specs.declared.Grant.{Grant}
+use Rattle.confirmation.specs.Sent.{isPdcch as isSentPdcch}
 use Rattle.heard.specs.declared.Heard.{Heard}
-use Rattle.heard.specs.declared.Heard.the-variants.{Nothing, Granted}
+use Rattle.heard.specs.declared.Heard.the-variants.{Nothing, Granted, Scheduled, Released}
 use Rattle.fold.specs.declared.Seen.{Seen}
 use Rattle.heard.specs.declared.View.{View}
 use Rattle.fold.specs.Fold.{stepOf, seenFrom}
-use Rattle.heard.specs.Heard.{viewOf}
+use Rattle.heard.specs.Heard.{isBlock, viewOf}
 use Rattle.agreement.specs.Run.{RuleFrom, Brings}
-use Rattle.agreement.specs.Window.{Entry, at, isHeard, anyHeard, Last, unheard, heardAt, asLast, later, lastHeard}
+use Rattle.agreement.specs.Window.{Entry, at, isHeard, isPdcch, anyOf, BlockAt, Last, unheard, heardAt, asLast, later, lastHeard}
 use Rattle.agreement.proofs.Folded.{foldIn, Brought, Ruled}
 
 -- P of each number of a list
@@ -61,6 +62,19 @@ of-window c n k e =
     let b = window-k c n (positionOf k (windowOf c n)) (p .0) in
     record { position = p .0; back = p .1; least = omega (arith, p .1); most = omega (arith, p .1) }
 
+-- The k at a position is one of the window's, and no other position has it.
+pub member-at : (c n m : ℕ) → m < length (windowOf c n) → member (getD (windowOf c n) m 0) (windowOf c n) ≡ true
+member-at c n m h = go (windowOf c n) m h
+  where
+    go : (ks : List ℕ) (m : ℕ) → m < length ks → member (getD ks m 0) ks ≡ true
+    go [] m h = absurd (not-suc-le-zero h)
+    go (k ∷ ks) zero h = head-member k ks
+    go (k ∷ ks) (suc m) h = tail-member (getD ks m 0) k ks (go ks m (le-of-suc-le-suc h))
+
+pub same-position : (c n i j : ℕ) → i < length (windowOf c n) → j < length (windowOf c n) → getD (windowOf c n) i 0 ≡ getD (windowOf c n) j 0 → i ≡ j
+same-position c n i j hi hj e =
+    sym (window-position c n i hi) ∙ ap (λ (k : ℕ). positionOf k (windowOf c n)) e ∙ window-position c n j hj
+
 -- Time order has the same k.
 pub in-time : (c n k : ℕ) → member k (timesOf (windowOf c n)) ≡ true → member k (windowOf c n) ≡ true
 in-time c n k e = sym (in-time-order c n .same k) ∙ e
@@ -84,7 +98,7 @@ module _ (S : ℕ → Send) (H : ℕ → Heard) where
 
   pub ruled : (ts : List ℕ) (j : ℕ) → RuleFrom j (map S ts) → Ruled j (map entry ts)
   ruled [] j r = tt
-  ruled (k ∷ ts) j r = (r .0, ruled ts (cond (isGrant (S k)) 1 0 + j) (r .1))
+  ruled (k ∷ ts) j r = (r .0, ruled ts (cond (isSentPdcch (S k)) 1 0 + j) (r .1))
 
   pub brought : (ts : List ℕ) → AllOf (λ (k : ℕ). Brings (S k) (H k)) ts → Brought (map entry ts)
   brought [] h = tt
@@ -94,63 +108,88 @@ module _ (S : ℕ → Send) (H : ℕ → Heard) where
   entries-length [] = refl
   entries-length (k ∷ ts) = ap suc (entries-length ts)
 
-  -- The last heard grant is one of the window.
+  -- The last heard PDCCH is one of the window.
   pub record LastOf (ts : List ℕ) (k c : ℕ) : Type 0 where
     pub inside : member k ts ≡ true
-    pub granted : Grant
-    pub heard : H k ≡ Granted granted
-    pub cce : granted .cce .0 ≡ c
+    pub heard : asLast k (H k) ≡ heardAt k c
 
   no-last : {A : Type 0} (k c : ℕ) → unheard ≡ heardAt k c → A
   no-last k c e = let z : _≡_ {A = ℕ} 0 1 = cc in absurd (omega arith)
 
+  same-k : (j k c d : ℕ) → heardAt j d ≡ heardAt k c → j ≡ k
+  same-k j k c d e = cc
+
+  -- What was heard k ago is the last one by its k.
+  pub own-k : (j k c : ℕ) (x : Heard) → asLast j x ≡ heardAt k c → j ≡ k
+  own-k j k c Nothing e = no-last k c e
+  own-k j k c (Granted g) e = same-k j k c (g .cce .0) e
+  own-k j k c (Scheduled b) e = no-last k c e
+  own-k j k c (Released p) e = same-k j k c (p .cce .0) e
+
   pub last-of : (ts : List ℕ) (k c : ℕ) → lastHeard (map entry ts) ≡ heardAt k c → LastOf ts k c
   last-of [] k c e = no-last k c e
-  last-of (j ∷ ts) k c e = go (lastHeard (map entry ts)) refl (H j) refl (last-of ts) e
+  last-of (j ∷ ts) k c e = go (lastHeard (map entry ts)) refl (last-of ts) e
     where
-      here : (g : Grant) → H j ≡ Granted g → heardAt j (g .cce .0) ≡ heardAt k c → LastOf (j ∷ ts) k c
-      here g h e =
-          let same : j ≡ k = cc in
-          rw (← same) (record { inside = head-member j ts; granted = g; heard = h; cce = cc })
+      here : asLast j (H j) ≡ heardAt k c → LastOf (j ∷ ts) k c
+      here e = let same : j ≡ k = own-k j k c (H j) e in rw (← same) (record { inside = head-member j ts; heard = rw (← same) at e })
 
-      go : (l : Last) → lastHeard (map entry ts) ≡ l → (x : Heard) → H j ≡ x
-          → ((k c : ℕ) → lastHeard (map entry ts) ≡ heardAt k c → LastOf ts k c) → later (asLast j x) l ≡ heardAt k c → LastOf (j ∷ ts) k c
-      go unheard u Nothing h rest e = no-last k c e
-      go unheard u (Granted g) h rest e = here g h e
-      go (heardAt i d) u x h rest e =
+      go : (l : Last) → lastHeard (map entry ts) ≡ l
+          → ((k c : ℕ) → lastHeard (map entry ts) ≡ heardAt k c → LastOf ts k c) → later (asLast j (H j)) l ≡ heardAt k c → LastOf (j ∷ ts) k c
+      go unheard u rest e = here e
+      go (heardAt i d) u rest e =
           let l = rest k c (u ∙ e) in
-          record { inside = tail-member k j ts (l .inside); granted = l .granted; heard = l .heard; cce = l .cce }
+          record { inside = tail-member k j ts (l .inside); heard = l .heard }
 
-  -- A heard grant makes a last one.
-  pub some-last : (ts : List ℕ) → anyHeard (map entry ts) ≡ true → (k c : ℕ) × (lastHeard (map entry ts) ≡ heardAt k c)
+  -- A heard PDCCH makes a last one.
+  pub some-last : (ts : List ℕ) → anyOf isPdcch (map entry ts) ≡ true → (k c : ℕ) × (lastHeard (map entry ts) ≡ heardAt k c)
   some-last [] e = absurd (false≢true e)
-  some-last (j ∷ ts) e = go (H j) (anyHeard (map entry ts)) refl (some-last ts) e
+  some-last (j ∷ ts) e = go (H j) (some-last ts) e
     where
-      later-one : (x : Heard) (l : Last) (k c : ℕ) → l ≡ heardAt k c → later (asLast j x) l ≡ heardAt k c
-      later-one x l k c e = rw e
+      onward : (x : Heard) → (k c : ℕ) × (lastHeard (map entry ts) ≡ heardAt k c)
+          → (k c : ℕ) × (later (asLast j x) (lastHeard (map entry ts)) ≡ heardAt k c)
+      onward x l = (l .0, l .1, rw (l .2))
 
-      either : (l : Last) (g : Grant) → (k c : ℕ) × (later (heardAt j (g .cce .0)) l ≡ heardAt k c)
-      either unheard g = (j, g .cce .0, refl)
-      either (heardAt k c) g = (k, c, refl)
+      either : (l : Last) (d : ℕ) → (k c : ℕ) × (later (heardAt j d) l ≡ heardAt k c)
+      either unheard d = (j, d, refl)
+      either (heardAt k c) d = (k, c, refl)
 
-      go : (x : Heard) (t : Bool) → anyHeard (map entry ts) ≡ t → (anyHeard (map entry ts) ≡ true → (k c : ℕ) × (lastHeard (map entry ts) ≡ heardAt k c))
-          → (isHeard x || anyHeard (map entry ts)) ≡ true → (k c : ℕ) × (later (asLast j x) (lastHeard (map entry ts)) ≡ heardAt k c)
-      go Nothing t u rest e =
-          let l = rest e in
-          (l .0, l .1, later-one Nothing (lastHeard (map entry ts)) (l .0) (l .1) (l .2))
-      go (Granted g) t u rest e = either (lastHeard (map entry ts)) g
+      go : (x : Heard) → (anyOf isPdcch (map entry ts) ≡ true → (k c : ℕ) × (lastHeard (map entry ts) ≡ heardAt k c))
+          → (isPdcch x || anyOf isPdcch (map entry ts)) ≡ true → (k c : ℕ) × (later (asLast j x) (lastHeard (map entry ts)) ≡ heardAt k c)
+      go Nothing rest e = onward Nothing (rest e)
+      go (Granted g) rest e = either (lastHeard (map entry ts)) (g .cce .0)
+      go (Scheduled b) rest e = onward (Scheduled b) (rest e)
+      go (Released p) rest e = either (lastHeard (map entry ts)) (p .cce .0)
 
-  -- Nothing was heard exactly if each k brought nothing.
-  pub none-heard : (ts : List ℕ) → anyHeard (map entry ts) ≡ false → (k : ℕ) → member k ts ≡ true → H k ≡ Nothing
-  none-heard [] e k m = absurd (false≢true m)
-  none-heard (j ∷ ts) e k m = go (H j) refl (eqb j k) refl (none-heard ts) e m
+  -- Without a heard PDCCH there is none.
+  pub none-last : (ts : List ℕ) → anyOf isPdcch (map entry ts) ≡ false → lastHeard (map entry ts) ≡ unheard
+  none-last [] e = refl
+  none-last (j ∷ ts) e = go (H j) (none-last ts) e
     where
-      go : (x : Heard) → H j ≡ x → (b : Bool) → eqb j k ≡ b → (anyHeard (map entry ts) ≡ false → (k : ℕ) → member k ts ≡ true → H k ≡ Nothing)
-          → (isHeard x || anyHeard (map entry ts)) ≡ false → (b || member k ts) ≡ true → H k ≡ Nothing
-      go Nothing h true b rest e m = rw (← eqb-true j k b) h
-      go Nothing h false b rest e m = rest e k m
-      go (Granted g) h c b rest e m = absurd (false≢true (sym e))
+      go : (x : Heard) → (anyOf isPdcch (map entry ts) ≡ false → lastHeard (map entry ts) ≡ unheard)
+          → (isPdcch x || anyOf isPdcch (map entry ts)) ≡ false → later (asLast j x) (lastHeard (map entry ts)) ≡ unheard
+      go Nothing rest e = rw (rest e)
+      go (Granted g) rest e = absurd (false≢true (sym e))
+      go (Scheduled b) rest e = rw (rest e)
+      go (Released p) rest e = absurd (false≢true (sym e))
 
-  pub all-nothing : (ts : List ℕ) → AllOf (λ (k : ℕ). H k ≡ Nothing) ts → anyHeard (map entry ts) ≡ false
-  all-nothing [] h = refl
-  all-nothing (k ∷ ts) h = rw (h .0) (all-nothing ts (h .1))
+  -- A heard scheduled block is one of the window.
+  pub block-at : (ts : List ℕ) (k : ℕ) → BlockAt k (map entry ts) → (member k ts ≡ true) × (isBlock (H k) ≡ true)
+  block-at (j ∷ ts) k (inl p) = (rw (← p .0) (head-member j ts), rw (← p .0) (p .1))
+  block-at (j ∷ ts) k (inr p) = let r = block-at ts k p in (tail-member k j ts (r .0), r .1)
+
+  module _ (test : Heard → Bool) where
+    -- No subframe heard what the test names exactly if none of the k did.
+    pub none-of : (ts : List ℕ) → anyOf test (map entry ts) ≡ false → (k : ℕ) → member k ts ≡ true → test (H k) ≡ false
+    none-of [] e k m = absurd (false≢true m)
+    none-of (j ∷ ts) e k m = go (test (H j)) refl (eqb j k) refl (none-of ts) e m
+      where
+        go : (t : Bool) → test (H j) ≡ t → (b : Bool) → eqb j k ≡ b
+            → (anyOf test (map entry ts) ≡ false → (k : ℕ) → member k ts ≡ true → test (H k) ≡ false)
+            → (t || anyOf test (map entry ts)) ≡ false → (b || member k ts) ≡ true → test (H k) ≡ false
+        go true h b q rest e m = absurd (false≢true (sym e))
+        go false h true q rest e m = rw (← eqb-true j k q) h
+        go false h false q rest e m = rest e k m
+
+    pub all-none : (ts : List ℕ) → AllOf (λ (k : ℕ). test (H k) ≡ false) ts → anyOf test (map entry ts) ≡ false
+    all-none [] h = refl
+    all-none (k ∷ ts) h = rw (h .0) (all-none ts (h .1))

@@ -1,7 +1,7 @@
 -- One feed of a run: the handset after a history is fed, and its answer is what demand 3 says.
 -- Assumes nothing.
 use Prim.Native.Nat.{ℕ, zero, suc, _-_, _%_, _<_, _≤_}
-use mathlib.Core.Bool.{true, false, or-true}
+use mathlib.Core.Bool.{true, false, or-true, false≢true}
 use mathlib.Core.List.{List, [], _∷_, map}
 use mathlib.Core.Logic.{_⊎_, inl, inr, _↔_}
 use mathlib.Core.Path.{_≡_, refl, sym, ap, _∙_}
@@ -12,50 +12,69 @@ use lib.ListN.{length, getD, List·getD-eq-default}
 use borrow.Author.Tests.{eq-eqb, ne-eqb, le-leb, lt-leb}
 use Rattle.frame.specs.declared.Settings.{Settings}
 use Rattle.frame.specs.Layout.{downlink}
-use Rattle.frame.specs.Settings.{bundles, settingsRefusal}
+use Rattle.frame.specs.Order.{member}
+use Rattle.frame.specs.Settings.{hasScheduled, bundles, settingsRefusal}
 use Rattle.frame.specs.Table.{windowOf}
 use Rattle.frame.proofs.Accepted.{Accepted, accepted}
 use Rattle.frame.proofs.Causes.{window-accepted}
 use Rattle.frame.proofs.Windows.{window-uplink, multiplexed-size}
 use Rattle.confirmation.specs.declared.Send.{Send}
-use Rattle.resource.specs.Calls.{resourceOf}
-use Rattle.resource.specs.Formula.{edge}
+use Rattle.confirmation.specs.declared.Send.the-variants as send
+use Rattle.confirmation.specs.Sent.{isBlock as isSentBlock, toldOf}
+use Rattle.resource.specs.declared.Mapped.the-variants as mapped
+use Rattle.resource.specs.Calls.{sizeOf, resourceOf}
 use Rattle.reply.specs.declared.Answer.{Answer}
 use Rattle.reply.specs.declared.Answer.the-variants as answer
-use Rattle.heard.specs.declared.Grant.{Grant}
 use Rattle.heard.specs.declared.Heard.{Heard}
-use Rattle.heard.specs.declared.Heard.the-variants.{Nothing, Granted}
+use Rattle.heard.specs.declared.Heard.the-variants.{Nothing, Granted, Scheduled, Released}
 use Rattle.heard.specs.declared.View.{View}
 use Rattle.fold.specs.Fold.{seenOf}
-use Rattle.heard.specs.Heard.{heardRefusal, viewOf}
+use Rattle.heard.specs.Heard.{isBlock, heardRefusal, causeOf, viewOf}
 use Rattle.heard.specs.Memory.{slotOf, viewAgo}
+use Rattle.heard.proofs.Before.{cause-same}
+use Rattle.heard.proofs.Valid as kinds
 use Rattle.reply.specs.Replies.{bundledAnswer, multiplexedAnswer, windowAnswer}
 use Rattle.handset.specs.declared.Fed.{Fed}
 use Rattle.handset.specs.declared.Handset.{Handset}
 use Rattle.handset.specs.Feed.{answerOf, nextAnswer, feedRefusal, fedAs, feedOf}
 use Rattle.handset.specs.Make.{memory}
-use Rattle.station.specs.Readings.{readOf}
-use Rattle.agreement.specs.Run.{sentAgo, heardAgo, Schedule, Brings, windowAt}
+use Rattle.station.specs.declared.Place.the-variants as place
+use Rattle.station.specs.declared.Reading.{Reading}
+use Rattle.station.specs.declared.Told.{Told}
+use Rattle.station.specs.declared.Told.the-variants as told
+use Rattle.station.specs.Readings.{readAt, toldRefusal, readOf}
+use Rattle.station.proofs.Back.{told-fine, read-there, read-block}
+use Rattle.agreement.specs.Run.{sentOf, asHeard, sentAgo, heardAgo, causeAfter, Schedule, Brings, windowAt}
 use Rattle.agreement.specs.Window.{inTime, Bundled, Multiplexed}
-use Rattle.agreement.proofs.BundledWindow.{bundled-window}
-use Rattle.agreement.proofs.Memory.{ValidPast, after, pushed-after, view-after, low-after, sound-after}
+use Rattle.agreement.proofs.BundledWindow.{LowCce, bundled-window}
+use Rattle.agreement.proofs.Entries.{member-at}
+use Rattle.agreement.proofs.Memory.{ValidPast, after, pushed-after, view-after, low-after, set-after, cause-after, sound-after}
 use Rattle.agreement.proofs.MultiplexedWindow.{multiplexed-window}
 use Rattle.agreement.proofs.NeverRefused.{never-refused}
+use Rattle.confirmation.proofs.Told.{told-position, told-of-block}
+
+-- The station's reading in the window of s, told the position of the block that was sent there.
+abbrev pub readIn : Settings → (ℕ → Send) → ℕ → ℕ → ℕ → ℕ → Reading
+readIn set sent s = readOf set (s % 10) (toldOf (windowAt set s) (sentAgo sent s))
+
+-- The refusal of x at the run's subframe s.
+abbrev pub causeIn : Settings → List Heard → ℕ → Heard → ℕ
+causeIn set heard s x = causeOf set (s % 10) (λ (a : ℕ). isBlock (heardAgo heard s a)) x
 
 -- What demand 3 says of the answer at the run's subframe s, which was fed and not refused.
 pub record Answered (set : Settings) (sent : ℕ → Send) (heard : List Heard) (s : ℕ) (a : Answer) : Type 0 where
   pub taken : downlink (set .config) (s % 10) ≡ true → a ≡ answer.Taken
   pub noWindow : downlink (set .config) (s % 10) ≡ false → windowAt set s ≡ [] → a ≡ answer.NoWindow
   pub bundled : 0 < length (windowAt set s) → (set .mode ≡ 0) ⊎ (length (windowAt set s) ≡ 1)
-      → Bundled set (resourceOf set (s % 10)) (readOf set (s % 10)) (windowAt set s) (inTime (sentAgo sent s) (heardAgo heard s) (windowAt set s)) a
+      → Bundled set (resourceOf set (s % 10)) (readIn set sent s) (windowAt set s) (inTime (sentAgo sent s) (heardAgo heard s) (windowAt set s)) a
   pub multiplexed : 0 < length (windowAt set s) → set .mode ≡ 1 → (length (windowAt set s) ≡ 1 → ⊥)
-      → Multiplexed (resourceOf set (s % 10)) (readOf set (s % 10)) (windowAt set s) (heardAgo heard s) (inTime (sentAgo sent s) (heardAgo heard s) (windowAt set s)) a
+      → Multiplexed set (resourceOf set (s % 10)) (readIn set sent s) (windowAt set s) (heardAgo heard s) (inTime (sentAgo sent s) (heardAgo heard s) (windowAt set s)) a
 
 -- What it says of a feed that brings x to the handset h at the run's next subframe s.
 pub record FeedHolds (set : Settings) (sent : ℕ → Send) (heard : List Heard) (s : ℕ) (h : Handset) (x : Heard) : Type 0 where
-  pub refusedExactly : ((k : ℕ) × (feedOf h x .answer ≡ answer.Refused k)) ↔ (heardRefusal set (s % 10) x ≡ 0 → ⊥)
-  pub refused : (heardRefusal set (s % 10) x ≡ 0 → ⊥) → feedOf h x ≡ record { answer = answer.Refused (heardRefusal set (s % 10) x); handset = h }
-  pub accepted : heardRefusal set (s % 10) x ≡ 0 → Answered set sent heard s (feedOf h x .answer)
+  pub refusedExactly : ((k : ℕ) × (feedOf h x .answer ≡ answer.Refused k)) ↔ (causeIn set heard s x ≡ 0 → ⊥)
+  pub refused : (causeIn set heard s x ≡ 0 → ⊥) → feedOf h x ≡ record { answer = answer.Refused (causeIn set heard s x); handset = h }
+  pub accepted : causeIn set heard s x ≡ 0 → Answered set sent heard s (feedOf h x .answer)
 
 -- The run's list of heard things has the history, newest first, at its subframes.
 abbrev pub Past : List Heard → List Heard → Type 0
@@ -112,8 +131,64 @@ module _ (set : Settings) (good : settingsRefusal set ≡ 0) (sent : ℕ → Sen
   seen : (k : ℕ) → 1 ≤ k → k ≤ 13 → F k ≡ viewOf (heardAgo heard (length l) k)
   seen k least most = view-after set ok l valid k least most ∙ ap viewOf (sym (ago-past heard l past k least))
 
-  low : (k : ℕ) → 1 ≤ k → k ≤ 13 → (g : Grant) → heardAgo heard (length l) k ≡ Granted g → g .cce .0 < edge (set .nrb) 4
-  low k least most g e = low-after set l valid (k - 1) g (sym (ago-past heard l past k least) ∙ e)
+  low : (k : ℕ) → 1 ≤ k → k ≤ 13 → LowCce set (heardAgo heard (length l) k)
+  low k least most = rw (ago-past heard l past k least) (low-after set l valid (k - 1))
+
+  -- a scheduled block that was heard was sent, and has a resource set
+  block-sent : (s : Send) (x : Heard) → Brings s x → isBlock x ≡ true → isSentBlock s ≡ true
+  block-sent s Nothing b e = absurd (false≢true e)
+  block-sent s (Granted g) b e = absurd (false≢true e)
+  block-sent s (Scheduled x) (inl p) e = absurd (false≢true (sym (ap isBlock p) ∙ e))
+  block-sent s (Scheduled x) (inr p) e = ap isSentBlock (sym p)
+  block-sent s (Released p) b e = absurd (false≢true e)
+
+  -- one that was sent has one too
+  block-set : (n : ℕ) (s : Send) → heardRefusal set n (asHeard s) ≡ 0 → isSentBlock s ≡ true → hasScheduled set ≡ true
+  block-set n send.Nothing e b = absurd (false≢true b)
+  block-set n (send.Granted g) e b = absurd (false≢true b)
+  block-set n (send.Scheduled x) e b = kinds.valid set n (asHeard (send.Scheduled x)) e .2
+  block-set n (send.Released p) e b = absurd (false≢true b)
+
+  ago-set : (k : ℕ) → isSentBlock (sentAgo sent (length l) k) ≡ true → hasScheduled set ≡ true
+  ago-set k e = go (decLe k (length l)) e
+    where
+      go : Dec (k ≤ length l) → isSentBlock (sentAgo sent (length l) k) ≡ true → hasScheduled set ≡ true
+      go (yes h) e = block-set ((length l - k) % 10) (sent (length l - k)) (schedule .valid (length l - k)) (rw (le-leb k (length l) h) at e)
+      go (no h) e = absurd (false≢true (rw (lt-leb k (length l) (omega arith)) at e))
+
+  -- what the reading is told, and that it may be
+  told-there : Told
+  told-there = toldOf (windowOf (set .config) n) (sentAgo sent (length l))
+
+  told-right : toldRefusal set (sizeOf set n) told-there ≡ 0
+  unfolding told-there toldRefusal
+  told-right = go (toldOf (windowOf (set .config) n) (sentAgo sent (length l))) refl
+    where
+      go : (t : Told) → toldOf (windowOf (set .config) n) (sentAgo sent (length l)) ≡ t → toldRefusal set (sizeOf set n) t ≡ 0
+      go told.NotTold e = refl
+      go (told.At m) e =
+          let p = told-position (sentAgo sent (length l)) (windowOf (set .config) n) m e in
+          told-fine set n m (p .0) (ago-set (getD (windowOf (set .config) n) m 0) (p .1))
+
+  reads-pdcch : (m c r b0 b1 : ℕ) → resourceOf set n m c ≡ mapped.At (record { 0 = r })
+      → readIn set sent (length l) r b0 b1 ≡ readAt set (sizeOf set n) (place.Pdcch m (record { 0 = c })) b0 b1
+  unfolding told-there
+  reads-pdcch m c r b0 b1 there = read-there set n m c r there told-there told-right b0 b1
+
+  reads-block : 0 < length (windowOf (set .config) n) → (k : ℕ) → member k (windowOf (set .config) n) ≡ true → isBlock (heardAgo heard (length l) k) ≡ true
+      → (m : ℕ) × (m < sizeOf set n) × (getD (windowOf (set .config) n) m 0 ≡ k)
+      × ((b0 b1 : ℕ) → readIn set sent (length l) (set .scheduled) b0 b1 ≡ readAt set (sizeOf set n) (place.Block m) b0 b1)
+  reads-block some k inside h =
+      let S : ℕ → Send = sentAgo sent (length l) in
+      let was = block-sent (S k) (heardAgo heard (length l) k) (ago-brings sent heard brings (length l) k) h in
+      let t = told-of-block S (windowOf (set .config) n) k inside was in
+      let p = told-position S (windowOf (set .config) n) (t .0) (t .1) in
+      let same = schedule .one (length l) (getD (windowOf (set .config) n) (t .0) 0) k (member-at (set .config) n (t .0) (p .0)) inside (p .1) was in (
+        t .0,
+        p .0,
+        same,
+        λ b0 b1. rw (t .1) (read-block set n (t .0) (window-accepted set n good some) (p .0) (ago-set k was) b0 b1),
+      )
 
   bundled-mode : (set .mode ≡ 0) ⊎ (length (windowOf (set .config) n) ≡ 1) → bundles set (length (windowOf (set .config) n)) ≡ true
   unfolding bundles
@@ -151,12 +226,13 @@ module _ (set : Settings) (good : settingsRefusal set ≡ 0) (sent : ℕ → Sen
         bundled = λ some mode.
             rw (bundled-answer some (bundled-mode mode)) at
             (bundled-window set n (window-accepted set n good some) ok (bundled-mode mode) (sentAgo sent (length l)) (heardAgo heard (length l)) F
-            (schedule .rule (length l)) (λ k least most. ago-brings sent heard brings (length l) k) low seen);
+            (readIn set sent (length l)) (schedule .rule (length l)) (λ k least most. ago-brings sent heard brings (length l) k) low seen
+            reads-pdcch (reads-block some));
         multiplexed = λ some mode many.
             let size = multiplexed-size set n ok some (multiplexed-mode mode many) in
             rw (multiplexed-answer some (multiplexed-mode mode many)) at
             (multiplexed-window set n (window-accepted set n good some) (multiplexed-mode mode many) (size .0) (size .1)
-            (sentAgo sent (length l)) (heardAgo heard (length l)) F low seen);
+            (sentAgo sent (length l)) (heardAgo heard (length l)) F (readIn set sent (length l)) low seen reads-pdcch (reads-block some));
       }
 
   -- no answer of an accepted feed is a refusal
@@ -165,18 +241,24 @@ module _ (set : Settings) (good : settingsRefusal set ≡ 0) (sent : ℕ → Sen
   not-refused k e = never-refused set n F k e
 
   -- what a feed of the handset comes to
-  fed-after : (x : Heard) → feedOf (after set l) x ≡ fedAs (heardRefusal set n x) (after set l) x
+  fed-after : (x : Heard) → feedOf (after set l) x ≡ fedAs (causeAfter set l x) (after set l) x
   unfolding feedOf feedRefusal
-  fed-after x = rw (sound-after set good ok l valid)
+  fed-after x = rw (sound-after set good ok l valid, cause-after set l x)
 
-  pub accepted-after : (x : Heard) → heardRefusal set n x ≡ 0 → feedOf (after set l) x ≡ record { answer = nextAnswer (after set l); handset = after set (x ∷ l) }
+  -- the run's cause is the history's
+  pub cause-past : (x : Heard) → causeIn set heard (length l) x ≡ causeAfter set l x
+  cause-past x =
+      cause-same set n (λ (a : ℕ). isBlock (heardAgo heard (length l) a)) (λ (a : ℕ). isBlock (getD l (a - 1) Nothing)) x
+      (λ a least most. ap isBlock (ago-past heard l past a least))
+
+  pub accepted-after : (x : Heard) → causeAfter set l x ≡ 0 → feedOf (after set l) x ≡ record { answer = nextAnswer (after set l); handset = after set (x ∷ l) }
   accepted-after x e = fed-after x ∙ rw (e, pushed-after set l x)
 
-  pub refused-after : (x : Heard) → (heardRefusal set n x ≡ 0 → ⊥)
-      → feedOf (after set l) x ≡ record { answer = answer.Refused (heardRefusal set n x); handset = after set l }
-  refused-after x h = fed-after x ∙ go (heardRefusal set n x) refl
+  pub refused-after : (x : Heard) → (causeAfter set l x ≡ 0 → ⊥)
+      → feedOf (after set l) x ≡ record { answer = answer.Refused (causeAfter set l x); handset = after set l }
+  refused-after x h = fed-after x ∙ go (causeAfter set l x) refl
     where
-      go : (k : ℕ) → heardRefusal set n x ≡ k → fedAs k (after set l) x ≡ record { answer = answer.Refused k; handset = after set l }
+      go : (k : ℕ) → causeAfter set l x ≡ k → fedAs k (after set l) x ≡ record { answer = answer.Refused k; handset = after set l }
       go zero e = absurd (h e)
       go (suc k) e = refl
 
@@ -184,9 +266,11 @@ module _ (set : Settings) (good : settingsRefusal set ≡ 0) (sent : ℕ → Sen
   feed-holds x =
       record {
         refusedExactly = (
-          λ p e. not-refused (p .0) (sym (ap (λ (f : Fed). f .answer) (accepted-after x e)) ∙ p .1),
-          λ h. (heardRefusal set n x, ap (λ (f : Fed). f .answer) (refused-after x h)),
+          λ p e. not-refused (p .0) (sym (ap (λ (f : Fed). f .answer) (accepted-after x (sym (cause-past x) ∙ e))) ∙ p .1),
+          λ h. (causeAfter set l x, ap (λ (f : Fed). f .answer) (refused-after x (λ e. h (cause-past x ∙ e)))),
         );
-        refused = refused-after x;
-        accepted = λ e. rw (← ap (λ (f : Fed). f .answer) (accepted-after x e)) at answered;
+        refused = λ h.
+            refused-after x (λ e. h (cause-past x ∙ e))
+            ∙ ap (λ (k : ℕ). record { answer = answer.Refused k; handset = after set l }) (sym (cause-past x));
+        accepted = λ e. rw (← ap (λ (f : Fed). f .answer) (accepted-after x (sym (cause-past x) ∙ e))) at answered;
       }

@@ -8,7 +8,7 @@ use mathlib.Core.Path.{_≡_, refl, sym, ap, _∙_}
 use native.Mathlib.Omega.{arith}
 use lib.ListN.{length, getD, length-map}
 use Rattle.frame.specs.declared.Settings.{Settings}
-use Rattle.frame.specs.Order.{timesOf}
+use Rattle.frame.specs.Order.{member, timesOf}
 use Rattle.frame.specs.Settings.{bundles, windowRefusal}
 use Rattle.frame.specs.Table.{windowOf}
 use Rattle.frame.proofs.Lists as lists
@@ -28,18 +28,22 @@ use Rattle.symbols.proofs.Reading.{delivered-exactly, set-below, set-bit}
 use Rattle.symbols.proofs.Rows.{silent-exactly, index-heard}
 use Rattle.reply.specs.declared.Answer.the-variants as answer
 use Rattle.confirmation.specs.declared.Send.{Send}
-use Rattle.heard.specs.declared.Grant.{Grant}
+use Rattle.resource.specs.declared.Cce.{Cce}
 use Rattle.heard.specs.declared.Heard.{Heard}
-use Rattle.heard.specs.declared.Heard.the-variants.{Nothing, Granted}
+use Rattle.heard.specs.declared.Heard.the-variants.{Nothing, Granted, Scheduled, Released}
 use Rattle.reply.specs.declared.Reply.{Reply}
 use Rattle.heard.specs.declared.View.{View}
-use Rattle.heard.specs.Heard.{viewOf}
-use Rattle.reply.specs.Replies.{replyOn, stateOf, cceOf, windowState, symbolAnswer, multiplexedAnswer}
+use Rattle.heard.specs.Heard.{isBlock, viewOf}
+use Rattle.reply.specs.Replies.{replyOn, stateOf, carrierOf, windowState, symbolAnswer, multiplexedAnswer}
+use Rattle.station.specs.declared.Place.{Place}
+use Rattle.station.specs.declared.Place.the-variants as place
 use Rattle.station.specs.declared.Reading.{Reading}
-use Rattle.station.specs.Readings.{readOf}
+use Rattle.station.specs.declared.Reading.the-variants as reading
+use Rattle.station.specs.Readings.{placePosition, readAt}
 use Rattle.station.proofs.Back.{read-symbol}
-use Rattle.agreement.specs.Window.{Entry, anyHeard, decodedFirst, decodedSecond, stateIn, MultiplexedReply, Multiplexed}
-use Rattle.agreement.proofs.Entries.{AllOf, all-of, of-all, of-window, in-time, in-window, entry, none-heard, all-nothing}
+use Rattle.agreement.specs.Window.{Entry, isHeard, anyOf, decodedFirst, decodedSecond, stateIn, ReadAs, Carries, MultiplexedReply, Multiplexed}
+use Rattle.agreement.proofs.BundledWindow.{LowCce}
+use Rattle.agreement.proofs.Entries.{AllOf, all-of, of-all, of-window, member-at, same-position, in-time, in-window, entry, none-of, all-none}
 use Rattle.agreement.proofs.Exactly.{sent-exactly}
 
 -- The state that a reply sees is the state of what was heard.
@@ -47,23 +51,20 @@ state-seen : (x : Heard) → stateOf (viewOf x) ≡ stateIn x
 unfolding stateOf viewOf
 state-seen Nothing = refl
 state-seen (Granted g) = refl
+state-seen (Scheduled b) = refl
+state-seen (Released p) = refl
 
-cce-seen : (g : Grant) → cceOf (viewOf (Granted g)) ≡ g .cce .0
-unfolding cceOf viewOf
-cce-seen g = refl
-
--- A position that is not D was heard.
-heard-state : (x : Heard) → (stateIn x ≡ Dtx → ⊥) → (g : Grant) × (x ≡ Granted g)
-heard-state Nothing h = absurd (h refl)
-heard-state (Granted g) h = (g, refl)
-
-dtx-unheard : (x : Heard) → stateIn x ≡ Dtx → x ≡ Nothing
-dtx-unheard Nothing e = refl
-dtx-unheard (Granted g) e = go (decodedFirst (Granted g) && decodedSecond (Granted g)) e
+-- A position is D exactly if it was not heard.
+dtx-unheard : (x : Heard) → stateIn x ≡ Dtx → isHeard x ≡ false
+dtx-unheard x e = go (isHeard x) (decodedFirst x && decodedSecond x) e
   where
-    go : (b : Bool) → cond b Ack Nack ≡ Dtx → Granted g ≡ Nothing
-    go true e = let z : _≡_ {A = ℕ} 0 1 = cc in absurd (omega arith)
-    go false e = let z : _≡_ {A = ℕ} 0 1 = cc in absurd (omega arith)
+    go : (h b : Bool) → cond h (cond b Ack Nack) Dtx ≡ Dtx → h ≡ false
+    go true true e = let z : _≡_ {A = ℕ} 0 1 = cc in absurd (omega arith)
+    go true false e = let z : _≡_ {A = ℕ} 0 1 = cc in absurd (omega arith)
+    go false b e = refl
+
+unheard-dtx : (x : Heard) → isHeard x ≡ false → stateIn x ≡ Dtx
+unheard-dtx x e = rw e
 
 module _ (H : ℕ → Heard) where
   same-states : (F : ℕ → View) (ks : List ℕ) → AllOf (λ (k : ℕ). F k ≡ viewOf (H k)) ks
@@ -71,25 +72,30 @@ module _ (H : ℕ → Heard) where
   same-states F [] h = refl
   same-states F (k ∷ ks) h = rw (h .0, state-seen (H k), same-states F ks (h .1))
 
-  all-dtx : (ks : List ℕ) → AllOf (λ (k : ℕ). H k ≡ Nothing) ks → AllDtx (map (λ (k : ℕ). stateIn (H k)) ks)
+  all-dtx : (ks : List ℕ) → AllOf (λ (k : ℕ). isHeard (H k) ≡ false) ks → AllDtx (map (λ (k : ℕ). stateIn (H k)) ks)
   all-dtx [] h = tt
-  all-dtx (k ∷ ks) h = (rw (h .0), all-dtx ks (h .1))
+  all-dtx (k ∷ ks) h = (unheard-dtx (H k) (h .0), all-dtx ks (h .1))
 
-  dtx-all : (ks : List ℕ) → AllDtx (map (λ (k : ℕ). stateIn (H k)) ks) → AllOf (λ (k : ℕ). H k ≡ Nothing) ks
+  dtx-all : (ks : List ℕ) → AllDtx (map (λ (k : ℕ). stateIn (H k)) ks) → AllOf (λ (k : ℕ). isHeard (H k) ≡ false) ks
   dtx-all [] h = tt
   dtx-all (k ∷ ks) h = (dtx-unheard (H k) (h .0), dtx-all ks (h .1))
 
 -- The index of a multiplexed reply is a position of the window, whatever the engine: no row of the tables has another.
-pub index-inside : {resource : ℕ → ℕ → Mapped} {read : ℕ → ℕ → ℕ → Reading} {ks : List ℕ} {heard : ℕ → Heard} {r : Reply}
-    → (reply : MultiplexedReply resource read ks heard (map (λ (k : ℕ). stateIn (heard k)) ks) r) → reply .index < length ks
+pub index-inside : {set : Settings} {resource : ℕ → ℕ → Mapped} {read : ℕ → ℕ → ℕ → Reading} {ks : List ℕ} {heard : ℕ → Heard} {r : Reply}
+    → (reply : MultiplexedReply set resource read ks heard (map (λ (k : ℕ). stateIn (heard k)) ks) r) → reply .index < length ks
 index-inside {ks = ks} {heard = heard} reply =
     rw (length-map ks (λ (k : ℕ). stateIn (heard k))) at (index-heard _ _ _ _ (reply .isSymbol) .0)
 
 module _ (set : Settings) (n : ℕ) (good : windowRefusal set n ≡ 0) (mode : bundles set (sizeOf set n) ≡ false)
     (least : 2 ≤ sizeOf set n) (most : sizeOf set n ≤ 4)
-    (S : ℕ → Send) (H : ℕ → Heard) (F : ℕ → View)
-    (low : (k : ℕ) → 1 ≤ k → k ≤ 13 → (g : Grant) → H k ≡ Granted g → g .cce .0 < edge (set .nrb) 4)
-    (view : (k : ℕ) → 1 ≤ k → k ≤ 13 → F k ≡ viewOf (H k)) where
+    (S : ℕ → Send) (H : ℕ → Heard) (F : ℕ → View) (read : ℕ → ℕ → ℕ → Reading)
+    (low : (k : ℕ) → 1 ≤ k → k ≤ 13 → LowCce set (H k))
+    (view : (k : ℕ) → 1 ≤ k → k ≤ 13 → F k ≡ viewOf (H k))
+    (reads-pdcch : (m c r b0 b1 : ℕ) → resourceOf set n m c ≡ mapped.At (record { 0 = r })
+    → read r b0 b1 ≡ readAt set (sizeOf set n) (place.Pdcch m (record { 0 = c })) b0 b1)
+    (reads-block : (k : ℕ) → member k (windowOf (set .config) n) ≡ true → isBlock (H k) ≡ true
+    → (m : ℕ) × (m < sizeOf set n) × (getD (windowOf (set .config) n) m 0 ≡ k)
+    × ((b0 b1 : ℕ) → read (set .scheduled) b0 b1 ≡ readAt set (sizeOf set n) (place.Block m) b0 b1)) where
   states : List State
   states = map (λ (k : ℕ). stateIn (H k)) (windowOf (set .config) n)
 
@@ -111,26 +117,82 @@ module _ (set : Settings) (n : ℕ) (good : windowRefusal set n ≡ 0) (mode : b
       (all-of _ (windowOf (set .config) n) (λ k e. let w = of-window (set .config) n k e in view k (w .least) (w .most)))
 
   -- silent exactly where nothing was heard
-  nothing-silent : anyHeard es ≡ false → symbolOf states ≡ symbol.Silent
+  nothing-silent : anyOf isHeard es ≡ false → symbolOf states ≡ symbol.Silent
   unfolding states es
   nothing-silent e =
       silent-exactly states (omega (arith, states-size)) (omega (arith, states-size)) .1
       (all-dtx H (windowOf (set .config) n)
-      (all-of _ (windowOf (set .config) n) (λ k m. none-heard S H (timesOf (windowOf (set .config) n)) e k (in-window (set .config) n k m))))
+      (all-of _ (windowOf (set .config) n) (λ k m. none-of S H isHeard (timesOf (windowOf (set .config) n)) e k (in-window (set .config) n k m))))
 
-  silent-nothing : symbolOf states ≡ symbol.Silent → anyHeard es ≡ false
+  silent-nothing : symbolOf states ≡ symbol.Silent → anyOf isHeard es ≡ false
   unfolding states es
   silent-nothing e =
       let none = dtx-all H (windowOf (set .config) n) (silent-exactly states (omega (arith, states-size)) (omega (arith, states-size)) .0 e) in
-      all-nothing S H (timesOf (windowOf (set .config) n))
+      all-none S H isHeard (timesOf (windowOf (set .config) n))
       (all-of _ (timesOf (windowOf (set .config) n)) (λ k m. of-all _ (windowOf (set .config) n) none k (in-time (set .config) n k m)))
 
-  goes-on : (i b0 b1 : ℕ) (g : Grant) (r : ℕ) → F (getD (windowOf (set .config) n) i 0) ≡ viewOf (Granted g)
-      → resourceOf set n i (g .cce .0) ≡ mapped.At (record { 0 = r })
+  -- what carries a reply at index i, where x was heard: its resource, what it is read as, and how
+  record Carried (i : ℕ) (x : Heard) : Type 0 where
+    resource : ℕ
+    named : Place
+    readAs : ReadAs i x named
+    carries : Carries set (resourceOf set n) named resource
+    seenOn : carrierOf set n i (viewOf x) ≡ mapped.At (record { 0 = resource })
+    position : placePosition named ≡ i
+    isRead : (b0 b1 : ℕ) → read resource b0 b1 ≡ readAt set (sizeOf set n) named b0 b1
+
+  by-pdcch : (i : ℕ) (c : Cce) → i < sizeOf set n → c .0 < edge (set .nrb) 4
+      → (r : ℕ) × (resourceOf set n i (c .0) ≡ mapped.At (record { 0 = r }))
+  by-pdcch i c inside below = let p = calls-one-to-one set n good .into i (c .0) inside below in (p .0, p .3 .there)
+
+  carried : (i : ℕ) → i < sizeOf set n → (x : Heard) → H (getD (windowOf (set .config) n) i 0) ≡ x → isHeard x ≡ true → Carried i x
+  unfolding carrierOf viewOf
+  carried i inside Nothing e h = absurd (false≢true h)
+  carried i inside (Granted g) e h =
+      let b = window-k (set .config) n i inside in
+      let k : ℕ = getD (windowOf (set .config) n) i 0 in
+      let p = by-pdcch i (g .cce) inside (rw e at (low k (omega arith) (omega arith)) k (g .cce .0) refl) in
+      record {
+        resource = p .0;
+        named = place.Pdcch i (g .cce);
+        readAs = refl;
+        carries = p .1;
+        seenOn = p .1;
+        position = refl;
+        isRead = λ b0 b1. reads-pdcch i (g .cce .0) (p .0) b0 b1 (p .1);
+      }
+  carried i inside (Scheduled x) e h =
+      let b = reads-block (getD (windowOf (set .config) n) i 0) (member-at (set .config) n i inside) (ap isBlock e) in
+      let same : b .0 ≡ i = same-position (set .config) n (b .0) i (b .1) inside (b .2) in
+      record {
+        resource = set .scheduled;
+        named = place.Block i;
+        readAs = refl;
+        carries = refl;
+        seenOn = refl;
+        position = refl;
+        isRead = λ b0 b1. rw (← same) (b .3 b0 b1);
+      }
+  carried i inside (Released p) e h =
+      let b = window-k (set .config) n i inside in
+      let k : ℕ = getD (windowOf (set .config) n) i 0 in
+      let q = by-pdcch i (p .cce) inside (rw e at (low k (omega arith) (omega arith)) k (p .cce .0) refl) in
+      record {
+        resource = q .0;
+        named = place.Pdcch i (p .cce);
+        readAs = refl;
+        carries = q .1;
+        seenOn = q .1;
+        position = refl;
+        isRead = λ b0 b1. reads-pdcch i (p .cce .0) (q .0) b0 b1 (q .1);
+      }
+
+  goes-on : (i b0 b1 r : ℕ) (x : Heard) → F (getD (windowOf (set .config) n) i 0) ≡ viewOf x
+      → carrierOf set n i (viewOf x) ≡ mapped.At (record { 0 = r })
       → symbolAnswer set n F (windowOf (set .config) n) (symbol.Sent i b0 b1)
       ≡ answer.Sent (record { kind = 2; resource = record { 0 = r }; b0 = b0; b1 = b1 })
   unfolding symbolAnswer replyOn
-  goes-on i b0 b1 g r seen there = rw (seen, cce-seen g, there)
+  goes-on i b0 b1 r x seen there = rw (seen, there)
 
   -- the delivered positions are those that are A in every state sending the symbol
   exact : (i b0 b1 p : ℕ) → p < sizeOf set n
@@ -149,38 +211,43 @@ module _ (set : Settings) (n : ℕ) (good : windowRefusal set n ≡ 0) (mode : b
   -- the reply of a symbol
   sent : (i b0 b1 : ℕ) → symbolOf states ≡ symbol.Sent i b0 b1
       → (r : Reply) × (symbolAnswer set n F (windowOf (set .config) n) (symbol.Sent i b0 b1) ≡ answer.Sent r)
-      × MultiplexedReply (resourceOf set n) (readOf set n) (windowOf (set .config) n) H states r
+      × MultiplexedReply set (resourceOf set n) read (windowOf (set .config) n) H states r
   sent i b0 b1 e =
       let h = index-heard states i b0 b1 e in
       let inside : i < sizeOf set n = rw states-size at (h .0) in
       let k : ℕ = getD (windowOf (set .config) n) i 0 in
       let b = window-k (set .config) n i inside in
-      let g = heard-state (H k) (λ d. h .1 (state-at i inside ∙ d)) in
-      let p = calls-one-to-one set n good .into i (g .0 .cce .0) inside (low k (omega arith) (omega arith) (g .0) (g .1)) in (
-        record { kind = 2; resource = record { 0 = p .0 }; b0 = b0; b1 = b1 },
-        goes-on i b0 b1 (g .0) (p .0) (view k (omega arith) (omega arith) ∙ ap viewOf (g .1)) (p .3 .there),
+      let heard : isHeard (H k) ≡ true = was-heard (isHeard (H k)) refl (λ u. h .1 (state-at i inside ∙ unheard-dtx (H k) u)) in
+      let c : Carried i (H k) = carried i inside (H k) refl heard in (
+        record { kind = 2; resource = record { 0 = c .resource }; b0 = b0; b1 = b1 },
+        goes-on i b0 b1 (c .resource) (H k) (view k (omega arith) (omega arith)) (c .seenOn),
         record {
           kind = refl;
           index = i;
           isSymbol = e;
-          granted = g .0;
-          isHeard = g .1;
-          onResource = p .3 .there;
+          named = c .named;
+          isHeard = c .readAs;
+          onResource = c .carries;
           delivered = deliveredSet (sizeOf set n) i b0 b1;
-          isRead = read-symbol set n (g .0 .cce .0) (p .0) states i b0 b1 mode states-size e (p .3 .there);
+          isRead = c .isRead b0 b1 ∙ read-symbol set (sizeOf set n) (c .named) states i b0 b1 (c .position) mode states-size e;
           exactly = exact i b0 b1;
           noOther = within i b0 b1;
         },
       )
+    where
+      was-heard : (t : Bool) → isHeard (H (getD (windowOf (set .config) n) i 0)) ≡ t
+          → (isHeard (H (getD (windowOf (set .config) n) i 0)) ≡ false → ⊥) → isHeard (H (getD (windowOf (set .config) n) i 0)) ≡ true
+      was-heard true t none = t
+      was-heard false t none = absurd (none t)
 
   answered : (y : Symbol) → symbolOf states ≡ y
-      → ((anyHeard es ≡ true) ⊎ (anyHeard es ≡ true → ⊥))
-      × (anyHeard es ≡ true → (r : Reply) × (symbolAnswer set n F (windowOf (set .config) n) y ≡ answer.Sent r) × MultiplexedReply (resourceOf set n) (readOf set n) (windowOf (set .config) n) H states r)
-      × ((anyHeard es ≡ true → ⊥) → symbolAnswer set n F (windowOf (set .config) n) y ≡ answer.Silent)
+      → ((anyOf isHeard es ≡ true) ⊎ (anyOf isHeard es ≡ true → ⊥))
+      × (anyOf isHeard es ≡ true → (r : Reply) × (symbolAnswer set n F (windowOf (set .config) n) y ≡ answer.Sent r) × MultiplexedReply set (resourceOf set n) read (windowOf (set .config) n) H states r)
+      × ((anyOf isHeard es ≡ true → ⊥) → symbolAnswer set n F (windowOf (set .config) n) y ≡ answer.Silent)
   unfolding symbolAnswer
-  answered (symbol.Sent i b0 b1) e = (inl (heard (anyHeard es) refl), λ some. sent i b0 b1 e, λ none. absurd (none (heard (anyHeard es) refl)))
+  answered (symbol.Sent i b0 b1) e = (inl (heard (anyOf isHeard es) refl), λ some. sent i b0 b1 e, λ none. absurd (none (heard (anyOf isHeard es) refl)))
     where
-      heard : (t : Bool) → anyHeard es ≡ t → anyHeard es ≡ true
+      heard : (t : Bool) → anyOf isHeard es ≡ t → anyOf isHeard es ≡ true
       heard true t = t
       heard false t = let z : _≡_ {A = ℕ} 0 1 = cc (e, nothing-silent t) in absurd (omega arith)
   answered symbol.Silent e = (
@@ -189,7 +256,7 @@ module _ (set : Settings) (n : ℕ) (good : windowRefusal set n ≡ 0) (mode : b
     λ none. refl,
   )
 
-  pub multiplexed-window : Multiplexed (resourceOf set n) (readOf set n) (windowOf (set .config) n) H
+  pub multiplexed-window : Multiplexed set (resourceOf set n) read (windowOf (set .config) n) H
       (map (entry S H) (timesOf (windowOf (set .config) n))) (multiplexedAnswer set n F (windowOf (set .config) n))
   unfolding multiplexedAnswer states es
   multiplexed-window =

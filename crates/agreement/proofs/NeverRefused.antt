@@ -22,7 +22,7 @@ use Rattle.fold.specs.declared.Seen.{Seen}
 use Rattle.heard.specs.declared.View.{View}
 use Rattle.fold.specs.Fold.{seenOf}
 use Rattle.heard.specs.Memory.{bit}
-use Rattle.reply.specs.Replies.{replyOn, missShown, secondBit, cceOf, windowState, bundledAnswer, symbolAnswer, multiplexedAnswer, windowAnswer}
+use Rattle.reply.specs.Replies.{replyOn, missShown, secondBit, onScheduled, loneAnswer, carrierOf, windowState, bundledAnswer, symbolAnswer, multiplexedAnswer, windowAnswer}
 use Rattle.handset.specs.Feed.{answerOf}
 
 abbrev isRefusal : Answer → Bool
@@ -44,14 +44,20 @@ reply-none kind (mapped.Refused k) b0 b1 = refl
 module _ (s : Settings) (n : ℕ) (view : ℕ → View) where
   symbol-none : (ks : List ℕ) (y : Symbol) → isRefusal (symbolAnswer s n view ks y) ≡ false
   unfolding symbolAnswer
-  symbol-none ks (symbol.Sent i b0 b1) = reply-none 2 (resourceOf s n i (cceOf (view (getD ks i 0)))) b0 b1
+  symbol-none ks (symbol.Sent i b0 b1) = reply-none 2 (carrierOf s n i (view (getD ks i 0))) b0 b1
   symbol-none ks symbol.Silent = refl
+
+  lone-none : (seen : Seen) → isRefusal (loneAnswer s seen) ≡ false
+  unfolding loneAnswer
+  lone-none seen =
+      either (seen .scheduled) (replyOn 1 (onScheduled s) (bit (seen .first)) (secondBit s seen)) answer.Silent
+      (reply-none 1 (onScheduled s) (bit (seen .first)) (secondBit s seen)) refl
 
   bundled-none : (seen : Seen) → isRefusal (bundledAnswer s n seen) ≡ false
   unfolding bundledAnswer
   bundled-none seen =
       let r : Answer = replyOn 1 (resourceOf s n (seen .position) (seen .cce .0)) (bit (seen .first)) (secondBit s seen) in
-      either (eqb (seen .u) 0) answer.Silent (cond (missShown s seen) answer.Silent r) refl
+      either (eqb (seen .u) 0) (loneAnswer s seen) (cond (missShown s seen) answer.Silent r) (lone-none seen)
       (either (missShown s seen) answer.Silent r refl
       (reply-none 1 (resourceOf s n (seen .position) (seen .cce .0)) (bit (seen .first)) (secondBit s seen)))
 

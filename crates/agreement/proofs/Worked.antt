@@ -1,53 +1,71 @@
 -- Runs that meet the hypotheses of demand 3, each with every answer and with the station's reading of every reply: the theorem is
--- about something. N_RB 50, N1 10.
+-- about something. N_RB 50, N1 10; the scheduled resource, where one is set, is 7.
 -- Assumes nothing.
-use Prim.Native.Nat.{ℕ, suc, zero, _+_, _%_, _<_}
+use Prim.Native.Nat.{ℕ, suc, zero, _+_, _<_}
 use mathlib.Core.Bool.{Bool, true, false}
 use mathlib.Core.List.{List, [], _∷_}
 use mathlib.Core.Path.{_≡_, refl, ap}
 use lib.Dec.{T}
 use lib.ListN.{length, getD}
 use Rattle.frame.specs.declared.Settings.{Settings}
-use Rattle.frame.specs.Settings.{settingsRefusal}
+use Rattle.frame.specs.Settings.{settingsRefusal, noResource}
 use Rattle.confirmation.specs.declared.Send.{Send}
 use Rattle.confirmation.specs.declared.Send.the-variants as send
 use Rattle.heard.specs.declared.Heard.{Heard}
-use Rattle.heard.specs.declared.Heard.the-variants.{Nothing, Granted}
-use Rattle.heard.specs.Heard.{heardRefusal}
+use Rattle.heard.specs.declared.Heard.the-variants.{Nothing, Granted, Scheduled, Released}
+use Rattle.heard.specs.Heard.{heardRefusal, secondRefusal, causeOf}
 use Rattle.reply.specs.declared.Answer.{Answer}
 use Rattle.reply.specs.declared.Answer.the-variants as answer
 use Rattle.handset.specs.declared.Fed.{Fed}
 use Rattle.handset.specs.declared.Handset.{Handset}
 use Rattle.handset.specs.Feed.{feedOf}
 use Rattle.handset.specs.Make.{makeOf}
+use Rattle.station.specs.declared.Place.the-variants as place
 use Rattle.station.specs.declared.Reading.{Reading}
 use Rattle.station.specs.declared.Reading.the-variants as reading
-use Rattle.station.specs.Readings.{readOf}
-use Rattle.agreement.specs.Demand3.{feedbackEngine, handsetAt, IsSubframe}
+use Rattle.agreement.specs.Demand3.{feedbackEngine, handsetAt, readingIn, IsSubframe}
 use Rattle.agreement.specs.Run.{Item, feed, itemAt, subframeAt, Schedule, BringsSent}
 use Rattle.agreement.proofs.Computing.{handsets, stations}
 use Rattle.agreement.proofs.Finite.{sending, scheduleTest, feedsTest, scheduled, brought}
 
--- a cell of one block, and one of two
+-- a cell of so many blocks and with this scheduled resource
+abbrev cellWith : ℕ → ℕ → ℕ → ℕ → Settings
+cellWith blocks scheduled config mode = record { config = config; nrb = 50; n1 = 10; mode = mode; blocks = blocks; scheduled = scheduled }
+
+-- a cell of one block and one of two, with no scheduled resource
 abbrev pub cell : ℕ → ℕ → Settings
-cell config mode = record { config = config; nrb = 50; n1 = 10; mode = mode; blocks = 1 }
+cell = cellWith 1 noResource
 
 abbrev pub twoBlockCell : ℕ → ℕ → Settings
-twoBlockCell config mode = record { config = config; nrb = 50; n1 = 10; mode = mode; blocks = 2 }
+twoBlockCell = cellWith 2 noResource
+
+-- the same with the scheduled resource 7
+abbrev pub scheduledCell : ℕ → ℕ → Settings
+scheduledCell = cellWith 1 7
+
+abbrev pub scheduledTwoBlockCell : ℕ → ℕ → Settings
+scheduledTwoBlockCell = cellWith 2 7
 
 -- n times x, then the rest of a list
 abbrev pub times : {A : Type 0} → ℕ → A → List A → List A
 times zero x l = l
 times (suc n) x l = x ∷ times n x l
 
--- what the station sends: nothing, or a grant of b blocks with first CCE c and DAI d
+-- what the station sends: nothing; a grant of b blocks with first CCE c and DAI d; b blocks on the schedule, with no PDCCH; a release
+-- with first CCE c and DAI d
 abbrev pub nothing : Send
 nothing = send.Nothing
 
 abbrev pub grant : ℕ → ℕ → ℕ → Send
 grant b c d = send.Granted (record { blocks = b; cce = record { 0 = c }; dai = d })
 
--- a feed that brings nothing, one that brings a grant of one block, and one of two
+abbrev pub block : ℕ → Send
+block b = send.Scheduled (record { blocks = b })
+
+abbrev pub release : ℕ → ℕ → Send
+release c d = send.Released (record { cce = record { 0 = c }; dai = d })
+
+-- a feed that brings nothing, one that brings a grant of one block, one of two, a sole scheduled block, a release
 abbrev pub hearsNothing : Item
 hearsNothing = feed Nothing
 
@@ -60,15 +78,31 @@ hears c d decoded = feed (heardGrant 1 c d decoded false)
 abbrev pub hearsTwo : ℕ → ℕ → Bool → Bool → Item
 hearsTwo c d first second = feed (heardGrant 2 c d first second)
 
--- a reply, and its reading: kind, resource and bits; position, first CCE and bits or the set of delivered positions
+abbrev pub heardBlock : Bool → Heard
+heardBlock decoded = Scheduled (record { blocks = 1; first = decoded; second = false })
+
+abbrev pub hearsBlock : Bool → Item
+hearsBlock decoded = feed (heardBlock decoded)
+
+abbrev pub hearsRelease : ℕ → ℕ → Item
+hearsRelease c d = feed (Released (record { cce = record { 0 = c }; dai = d }))
+
+-- a reply, and its reading: kind, resource and bits; as a PDCCH its position and first CCE, as a scheduled block its position, with
+-- the bits or the set of delivered positions
 abbrev pub reply : ℕ → ℕ → ℕ → ℕ → Answer
 reply kind r b0 b1 = answer.Sent (record { kind = kind; resource = record { 0 = r }; b0 = b0; b1 = b1 })
 
 abbrev pub bundledRead : ℕ → ℕ → ℕ → ℕ → Reading
-bundledRead m c b0 b1 = reading.Bundled m (record { 0 = c }) b0 b1
+bundledRead m c b0 b1 = reading.Bundled (place.Pdcch m (record { 0 = c })) b0 b1
 
 abbrev pub multiplexedRead : ℕ → ℕ → ℕ → Reading
-multiplexedRead m c delivered = reading.Multiplexed m (record { 0 = c }) delivered
+multiplexedRead m c delivered = reading.Multiplexed (place.Pdcch m (record { 0 = c })) delivered
+
+abbrev pub blockRead : ℕ → ℕ → ℕ → Reading
+blockRead m b0 b1 = reading.Bundled (place.Block m) b0 b1
+
+abbrev pub multiplexedBlockRead : ℕ → ℕ → Reading
+multiplexedBlockRead m delivered = reading.Multiplexed (place.Block m) delivered
 
 -- settings, what the station sends, the feeds, their answers, and the readings of the replies among them
 pub record Run : Type 0 where
@@ -83,24 +117,32 @@ abbrev pub answersOf : (Handset → Heard → Fed) → Handset → List Item →
 answersOf step h [] = []
 answersOf step h (feed x ∷ items) = step h x .answer ∷ answersOf step (step h x .handset) items
 
--- the readings of the replies, each with n = s mod 10 and its own resource and bits; a refused feed is no subframe
-abbrev pub readingsFrom : Settings → ℕ → List Answer → List Reading
-readingsFrom set s [] = []
-readingsFrom set s (answer.Taken ∷ l) = readingsFrom set (s + 1) l
-readingsFrom set s (answer.NoWindow ∷ l) = readingsFrom set (s + 1) l
-readingsFrom set s (answer.Silent ∷ l) = readingsFrom set (s + 1) l
-readingsFrom set s (answer.Sent r ∷ l) = readOf set (s % 10) (r .resource .0) (r .b0) (r .b1) ∷ readingsFrom set (s + 1) l
-readingsFrom set s (answer.Refused k ∷ l) = readingsFrom set s l
+-- the readings of the replies, each with n = s mod 10, its own resource and bits, and told the position of the scheduled block that
+-- was sent in its window; a refused feed is no subframe
+abbrev pub readingsFrom : Settings → (ℕ → Send) → ℕ → List Answer → List Reading
+readingsFrom set sent s [] = []
+readingsFrom set sent s (answer.Taken ∷ l) = readingsFrom set sent (s + 1) l
+readingsFrom set sent s (answer.NoWindow ∷ l) = readingsFrom set sent (s + 1) l
+readingsFrom set sent s (answer.Silent ∷ l) = readingsFrom set sent (s + 1) l
+readingsFrom set sent s (answer.Sent r ∷ l) = readingIn feedbackEngine set sent s (r .resource .0) (r .b0) (r .b1) ∷ readingsFrom set sent (s + 1) l
+readingsFrom set sent s (answer.Refused k ∷ l) = readingsFrom set sent s l
+
+-- the answers of our handset in a run, and the readings of our station
+abbrev pub ourAnswers : Run → List Answer
+ourAnswers r = answersOf feedOf (makeOf (r .set) .handset) (r .items)
+
+abbrev pub ourReadings : Run → List Reading
+ourReadings r = readingsFrom (r .set) (sending (r .sends)) 0 (r .answers)
 
 pub record Worked (r : Run) : Type 0 where
   pub accepted : settingsRefusal (r .set) ≡ 0
   pub schedule : Schedule (r .set) (sending (r .sends))
   pub brings : BringsSent (r .set) (sending (r .sends)) (r .items)
-  pub answered : answersOf feedOf (makeOf (r .set) .handset) (r .items) ≡ r .answers
-  pub read : readingsFrom (r .set) 0 (r .answers) ≡ r .readings
+  pub answered : ourAnswers r ≡ r .answers
+  pub read : ourReadings r ≡ r .readings
 
 worked : (r : Run) → settingsRefusal (r .set) ≡ 0 → T (scheduleTest (r .set) (r .sends)) → T (feedsTest (r .set) (r .sends) (r .items))
-    → answersOf feedOf (makeOf (r .set) .handset) (r .items) ≡ r .answers → readingsFrom (r .set) 0 (r .answers) ≡ r .readings → Worked r
+    → ourAnswers r ≡ r .answers → ourReadings r ≡ r .readings → Worked r
 worked r good s b e f =
     record {
       accepted = good;
@@ -111,16 +153,16 @@ worked r good s b e f =
     }
 
 -- In a worked run: what our handset answers to item i, and what our station reads from the j-th reply.
-pub answer-at : (r : Run) → Worked r → (i : ℕ) → getD (answersOf feedOf (makeOf (r .set) .handset) (r .items)) i answer.Silent ≡ getD (r .answers) i answer.Silent
+pub answer-at : (r : Run) → Worked r → (i : ℕ) → getD (ourAnswers r) i answer.Silent ≡ getD (r .answers) i answer.Silent
 answer-at r w i = ap (λ (l : List Answer). getD l i answer.Silent) (w .answered)
 
-pub reading-at : (r : Run) → Worked r → (j : ℕ) → getD (readingsFrom (r .set) 0 (r .answers)) j (reading.Refused 0) ≡ getD (r .readings) j (reading.Refused 0)
+pub reading-at : (r : Run) → Worked r → (j : ℕ) → getD (ourReadings r) j (reading.Refused 0) ≡ getD (r .readings) j (reading.Refused 0)
 reading-at r w j = ap (λ (l : List Reading). getD l j (reading.Refused 0)) (w .read)
 
 -- Item s is the run's subframe s, fed with nothing.
 pub fed-nothing : (r : Run) (s : ℕ) → s < length (r .items) → itemAt (r .items) s ≡ feed Nothing → subframeAt (r .set) (r .items) s ≡ s
     → IsSubframe (r .set) (r .items) s s Nothing
-unfolding heardRefusal
+unfolding heardRefusal secondRefusal causeOf
 fed-nothing r s inside brings counted = record { isFeed = record { inside = inside; brings = brings }; accepted = refl; counted = counted }
 
 -- Bundled.
@@ -229,6 +271,21 @@ fourHeard =
 pub four-heard : Worked fourHeard
 unfolding handsets stations
 four-heard = worked fourHeard refl tt tt refl refl
+
+-- Configuration 5: six are sent there, the two more in 5 and 6; the first four are heard and decoded, the last two are lost.
+abbrev pub lastTwoLost : Run
+lastTwoLost =
+    record {
+      set = cell 5 0;
+      sends = grant 1 0 1 ∷ grant 1 4 2 ∷ nothing ∷ grant 1 8 3 ∷ grant 1 40 4 ∷ grant 1 0 1 ∷ grant 1 0 2 ∷ [];
+      items = hears 0 1 true ∷ hears 4 2 true ∷ hearsNothing ∷ hears 8 3 true ∷ hears 40 4 true ∷ times 8 hearsNothing [];
+      answers = times 2 answer.Taken (answer.Silent ∷ times 9 answer.Taken (reply 1 317 1 0 ∷ []));
+      readings = bundledRead 3 40 1 0 ∷ [];
+    }
+
+pub last-two-lost : Worked lastTwoLost
+unfolding handsets stations
+last-two-lost = worked lastTwoLost refl tt tt refl refl
 
 -- Configuration 2, mode 0: the window of subframe 7 is -1, 0, 3 and 1, which reaches before the start; the grant in 0 is heard.
 abbrev pub beforeStart : Run
@@ -367,3 +424,207 @@ shared =
 pub symbol-shared : Worked shared
 unfolding handsets stations
 symbol-shared = worked shared refl tt tt refl refl
+
+-- Scheduled blocks and releases (document 02, U1). Most of these runs are in configuration 2, where the window of subframe 12 is 4,
+-- 5, 8 and 6; nothing is sent before it, so that it alone is answered.
+abbrev answersInTwo : Answer → List Answer
+answersInTwo last = times 2 answer.Taken (answer.Silent ∷ times 4 answer.Taken (answer.Silent ∷ times 4 answer.Taken (last ∷ [])))
+
+-- Bundled.
+
+-- The scheduled block in 5 is heard, the grants in 4 and 8 are lost: the reply goes on the scheduled resource and is read as that
+-- block.
+abbrev pub loneBlock : Run
+loneBlock =
+    record {
+      set = scheduledCell 2 0;
+      sends = times 4 nothing (grant 1 3 1 ∷ block 1 ∷ nothing ∷ nothing ∷ grant 1 0 2 ∷ []);
+      items = times 5 hearsNothing (hearsBlock true ∷ times 7 hearsNothing []);
+      answers = answersInTwo (reply 1 7 1 0);
+      readings = blockRead 1 1 0 ∷ [];
+    }
+
+pub lone-block : Worked loneBlock
+unfolding handsets stations
+lone-block = worked loneBlock refl tt tt refl refl
+
+-- In a cell of two blocks a grant in 4 is heard with both blocks decoded; the scheduled block in 8, later than it, is heard and is
+-- not decoded. The reply goes on the grant's resource; both bits are NACK, since a sole block stands for both.
+abbrev pub blockLast : Run
+blockLast =
+    record {
+      set = scheduledTwoBlockCell 2 0;
+      sends = times 4 nothing (grant 2 3 1 ∷ nothing ∷ nothing ∷ nothing ∷ block 1 ∷ []);
+      items = times 4 hearsNothing (hearsTwo 3 1 true true ∷ times 3 hearsNothing (hearsBlock false ∷ times 4 hearsNothing []));
+      answers = answersInTwo (reply 1 13 0 0);
+      readings = bundledRead 0 3 0 0 ∷ [];
+    }
+
+pub block-last : Worked blockLast
+unfolding handsets stations
+block-last = worked blockLast refl tt tt refl refl
+
+-- The scheduled block in 5 is lost, the grants in 4 and 6 are heard: it leaves no trace, and the reading, told its position, names
+-- the grant in 6.
+abbrev pub blockLost : Run
+blockLost =
+    record {
+      set = scheduledCell 2 0;
+      sends = times 4 nothing (grant 1 3 1 ∷ block 1 ∷ grant 1 20 2 ∷ []);
+      items = times 4 hearsNothing (hears 3 1 true ∷ hearsNothing ∷ hears 20 2 true ∷ times 6 hearsNothing []);
+      answers = answersInTwo (reply 1 111 1 0);
+      readings = bundledRead 3 20 1 0 ∷ [];
+    }
+
+pub block-lost : Worked blockLost
+unfolding handsets stations
+block-lost = worked blockLost refl tt tt refl refl
+
+-- The grant in 4 is lost; the scheduled block in 5 and the grant in 8 are heard. The miss is shown, the block counts for nothing.
+abbrev pub missedWithBlock : Run
+missedWithBlock =
+    record {
+      set = scheduledCell 2 0;
+      sends = times 4 nothing (grant 1 3 1 ∷ block 1 ∷ nothing ∷ nothing ∷ grant 1 0 2 ∷ []);
+      items = times 5 hearsNothing (hearsBlock true ∷ times 2 hearsNothing (hears 0 2 true ∷ times 4 hearsNothing []));
+      answers = answersInTwo answer.Silent;
+      readings = [];
+    }
+
+pub missed-with-block : Worked missedWithBlock
+unfolding handsets stations
+missed-with-block = worked missedWithBlock refl tt tt refl refl
+
+-- In a cell of two blocks a grant in 4 and a release in 6 are heard: the reply goes on the release's resource, both bits ACK.
+abbrev pub releaseLast : Run
+releaseLast =
+    record {
+      set = scheduledTwoBlockCell 2 0;
+      sends = times 4 nothing (grant 2 3 1 ∷ nothing ∷ release 5 2 ∷ []);
+      items = times 4 hearsNothing (hearsTwo 3 1 true true ∷ hearsNothing ∷ hearsRelease 5 2 ∷ times 6 hearsNothing []);
+      answers = answersInTwo (reply 1 48 1 1);
+      readings = bundledRead 3 5 1 1 ∷ [];
+    }
+
+pub release-last : Worked releaseLast
+unfolding handsets stations
+release-last = worked releaseLast refl tt tt refl refl
+
+-- Configuration 5, the window of subframe 12: the grants in 0, 1, 3 and 4 are lost and a release, the fifth PDCCH, is heard in 5. U is
+-- 1 and V is 1: the reply is sent.
+abbrev pub fourLostRelease : Run
+fourLostRelease =
+    record {
+      set = cell 5 0;
+      sends = grant 1 0 1 ∷ grant 1 0 2 ∷ nothing ∷ grant 1 0 3 ∷ grant 1 0 4 ∷ release 0 1 ∷ [];
+      items = times 5 hearsNothing (hearsRelease 0 1 ∷ times 7 hearsNothing []);
+      answers = times 2 answer.Taken (answer.Silent ∷ times 9 answer.Taken (reply 1 54 1 0 ∷ []));
+      readings = bundledRead 4 0 1 0 ∷ [];
+    }
+
+pub four-lost-release : Worked fourLostRelease
+unfolding handsets stations
+four-lost-release = worked fourLostRelease refl tt tt refl refl
+
+-- After the scheduled block in 4 a second one in 5, in the same window, is refused 18; then 5 is fed again, with the grant that was
+-- sent there.
+abbrev pub secondBlock : Run
+secondBlock =
+    record {
+      set = scheduledCell 2 0;
+      sends = times 4 nothing (block 1 ∷ grant 1 5 1 ∷ []);
+      items = times 4 hearsNothing (hearsBlock true ∷ hearsBlock true ∷ hears 5 1 true ∷ times 7 hearsNothing []);
+      answers =
+          times 2 answer.Taken (answer.Silent ∷ times 2 answer.Taken (answer.Refused 18
+          ∷ times 2 answer.Taken (answer.Silent ∷ times 4 answer.Taken (reply 1 26 1 0 ∷ []))));
+      readings = bundledRead 1 5 1 0 ∷ [];
+    }
+
+pub second-block : Worked secondBlock
+unfolding handsets stations
+second-block = worked secondBlock refl tt tt refl refl
+
+-- Configuration 1 with no scheduled resource: a scheduled block in 0 is refused 18, and 0 is fed again.
+abbrev pub noResourceSet : Run
+noResourceSet =
+    record {
+      set = cell 1 0;
+      sends = grant 1 3 1 ∷ grant 1 10 2 ∷ [];
+      items = hearsBlock true ∷ hears 3 1 true ∷ hears 10 2 true ∷ times 6 hearsNothing [];
+      answers = answer.Refused 18 ∷ times 2 answer.Taken (times 2 answer.Silent (times 3 answer.Taken (reply 1 31 1 0 ∷ [])));
+      readings = bundledRead 1 10 1 0 ∷ [];
+    }
+
+pub no-resource-set : Worked noResourceSet
+unfolding handsets stations
+no-resource-set = worked noResourceSet refl tt tt refl refl
+
+pub eighteen-left : Left secondBlock 5 × Left noResourceSet 0
+unfolding handsets
+eighteen-left = (refl, refl)
+
+-- Configuration 1: scheduled blocks in 0 and 5, one in the window of subframe 7 and one in that of 12. Both are taken and answered;
+-- the second is not decoded.
+abbrev pub blockInEach : Run
+blockInEach =
+    record {
+      set = scheduledCell 1 0;
+      sends = block 1 ∷ times 4 nothing (block 1 ∷ []);
+      items = hearsBlock true ∷ times 4 hearsNothing (hearsBlock false ∷ times 7 hearsNothing []);
+      answers =
+          times 2 answer.Taken (times 2 answer.Silent (times 3 answer.Taken (reply 1 7 1 0
+          ∷ answer.Silent ∷ times 3 answer.Taken (reply 1 7 0 0 ∷ []))));
+      readings = blockRead 0 1 0 ∷ blockRead 0 0 0 ∷ [];
+    }
+
+pub block-in-each : Worked blockInEach
+unfolding handsets stations
+block-in-each = worked blockInEach refl tt tt refl refl
+
+-- Multiplexed.
+
+-- A grant in 4 and the scheduled block in 5 are heard and decoded. The state is A,A,D,D; its symbol's index is 1, the block's: the
+-- reply goes on the scheduled resource and is read as that block.
+abbrev pub blockAtIndex : Run
+blockAtIndex =
+    record {
+      set = scheduledCell 2 1;
+      sends = times 4 nothing (grant 1 0 1 ∷ block 1 ∷ []);
+      items = times 4 hearsNothing (hears 0 1 true ∷ hearsBlock true ∷ times 7 hearsNothing []);
+      answers = answersInTwo (reply 2 7 1 0);
+      readings = multiplexedBlockRead 1 3 ∷ [];
+    }
+
+pub block-at-index : Worked blockAtIndex
+unfolding handsets stations
+block-at-index = worked blockAtIndex refl tt tt refl refl
+
+-- The scheduled block in 4 and a grant in 5: the same state and symbol, whose index is the grant's. It goes on the grant's resource.
+abbrev pub blockNotAtIndex : Run
+blockNotAtIndex =
+    record {
+      set = scheduledCell 2 1;
+      sends = times 4 nothing (block 1 ∷ grant 1 5 1 ∷ []);
+      items = times 4 hearsNothing (hearsBlock true ∷ hears 5 1 true ∷ times 7 hearsNothing []);
+      answers = answersInTwo (reply 2 26 1 0);
+      readings = multiplexedRead 1 5 3 ∷ [];
+    }
+
+pub block-not-at-index : Worked blockNotAtIndex
+unfolding handsets stations
+block-not-at-index = worked blockNotAtIndex refl tt tt refl refl
+
+-- A release in 5 alone is heard, which is A: the state is D,A,D,D.
+abbrev pub releaseAtIndex : Run
+releaseAtIndex =
+    record {
+      set = scheduledCell 2 1;
+      sends = times 5 nothing (release 5 1 ∷ []);
+      items = times 5 hearsNothing (hearsRelease 5 1 ∷ times 7 hearsNothing []);
+      answers = answersInTwo (reply 2 26 0 1);
+      readings = multiplexedRead 1 5 2 ∷ [];
+    }
+
+pub release-at-index : Worked releaseAtIndex
+unfolding handsets stations
+release-at-index = worked releaseAtIndex refl tt tt refl refl

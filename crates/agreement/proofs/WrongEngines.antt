@@ -4,66 +4,98 @@
 -- WrongStations.antt; here is what both use.
 --
 -- Demand3
---   byFormula       all ends number the resources from the top of the range down            not-top-down
---   oneToOne        the inverse answers position and first CCE exchanged (into)             not-back-exchanged
---                   a single resource for everyone (once)                                   not-one-for-all
---                   a position beyond the window is taken for its last one (once)           not-last-for-beyond
---   givesBack       bits that 14 refuses are read as the first pair                         not-refused-as-first
---   made            every cell is refused                                                   not-refuses-to-make
---   run             by its fields, below; over a whole list: the first window only          not-first-only
+--   byFormula       all ends number the dynamic resources from the top of the range down   not-top-down
+--   oneToOne        the inverse answers position and first CCE exchanged (into)            not-back-exchanged
+--                   a single resource for everyone (once)                                  not-one-for-all
+--                   a position beyond the window is taken for its last one (once)          not-last-for-beyond
+--   givesBack       bits that 14 refuses are read as the first pair                        not-refused-as-first
+--                   told a scheduled position, it refuses every dynamic resource with 13   not-scheduled-only
+--   made            every cell is refused                                                  not-refuses-to-make
+--   run             by its fields, below; over a whole list: the first window only         not-first-only
 -- HoldsAfter
---   refusedExactly  every feed is refused                                                   not-refuses-all
---                   8 where there is nothing to send                                        not-refuses-silence
---                   "taken" where a cause is met                                            not-refuses-none
---   leaves          9 whatever the cause                                                    not-refuses-with-nine
---                   the handset moves on at a refused feed                                  not-moves-on
---   taken           "silent" for "taken"                                                    not-silent-for-taken
---   noWindow        "silent" for "no window"                                                not-silent-for-no-window
+--   refusedExactly  every feed is refused                                                  not-refuses-all
+--                   8 where there is nothing to send                                       not-refuses-silence
+--                   "taken" where a cause is met                                           not-refuses-none
+--                   18 is not known: a second scheduled block of a window is taken         not-takes-second-block
+--                       and one where no resource is set                                   not-takes-unset-block
+--                   18 for a scheduled block after one in another window                   not-refuses-across
+--   leaves          9 whatever the cause                                                   not-refuses-with-nine
+--                   the handset moves on at a refused feed                                 not-moves-on
+--   taken           "silent" for "taken"                                                   not-silent-for-taken
+--   noWindow        "silent" for "no window"                                               not-silent-for-no-window
 -- SentExactly, bundled and multiplexed
---   sent when due   always silent                                not-always-silent, not-always-silent-multiplexed
---                   silent as if missed before any grant                                    not-as-if-missed
---   due when sent   V is held against the value for U + 1                                   not-counts-one-more
---                   a reply in every window                                                 not-never-silent-multiplexed
+--   sent when due   always silent                                                  not-always-silent, not-always-silent-multiplexed
+--                   silent as if missed before any grant                                   not-as-if-missed
+--                   silent where the reply goes on the scheduled resource  not-silent-on-scheduled, not-silent-on-scheduled-multiplexed
+--                   deaf to scheduled blocks                                               not-deaf-to-blocks
+--                   a scheduled block counts in U, and shows a miss                        not-counts-block
+--   due when sent   V is held against the value for U + 1                                  not-counts-one-more
+--                   a scheduled block counts in U, and hides a miss                        not-counts-block-missed
+--                   a scheduled block is answered where a miss is shown                    not-answers-missed
+--                   a reply in every window                                                not-never-silent-multiplexed
 --   the reply       by its fields, below
---   else silent     "no window" for "silent"       not-no-window-for-silent, not-no-window-for-silent-multiplexed
+--   else silent     "no window" for "silent"                         not-no-window-for-silent, not-no-window-for-silent-multiplexed
 -- BundledReply
---   kind            a bundled reply goes out as a multiplexed one                           not-other-kind
---   isRead          on the resource of the first heard grant                                not-on-first
---                   both ends raised by 4000 resources                                      not-both-raised
---                   the station refuses every bit pattern with 14                           not-refuses-bits
---   first           the bits exchanged                                                      not-exchanged-first
---                   the first bit is that of the last heard grant alone                     not-last-alone
---   second          the bits exchanged                                                      not-exchanged-second
---   bits            the second bit set in a cell of one block                               not-second-set
---                   the first block's NACK goes out as 2, the second's ACK       not-nack-as-two, not-ack-as-two
+--   kind            a bundled reply goes out as a multiplexed one                          not-other-kind
+--   isRead          on the resource of the first heard grant                               not-on-first
+--                   on the scheduled resource where a block was heard too                  not-on-scheduled-too
+--                   deaf to releases: on the resource of the grant before                  not-deaf-to-releases
+--                   both ends raised by 4000 resources                                     not-both-raised
+--                   on the last heard first CCE's resource at position 0 (the k of m)      not-on-first-position
+--                   the station refuses every bit pattern with 14 (read)                   not-refuses-bits
+--   alone           a scheduled block is answered as a grant with first CCE 0              not-grants-block
+--                   both ends raised by 4000 resources                                     not-both-raised-alone
+--                   the station takes the block for position 0 (the k of m)                not-told-as-first
+--                   it does not listen to what it is told (read)                           not-untold
+--   first           ACK though one is not decoded: the bits exchanged                      not-exchanged-first
+--                       the first bit is that of the last heard grant alone                not-last-alone
+--                       a scheduled block does not join the AND                            not-skips-block
+--                   NACK though all are decoded: always                                    not-nacks-first
+--                       a release counts as not decoded                                    not-fails-release
+--   second          ACK though one is not decoded: a block does not join the AND           not-skips-block-second
+--                   NACK though all are decoded: the bits exchanged                        not-exchanged-second
+--   bits            the second bit set in a cell of one block                              not-second-set
+--                   the first block's NACK goes out as 2, the second's ACK                 not-nack-as-two, not-ack-as-two
 -- MultiplexedReply
---   kind            a multiplexed reply goes out as a bundled one                           not-other-kind-multiplexed
---   isSymbol        the bits exchanged: another row's symbol                                not-exchanged-symbol
---   isHeard         the right position with the first CCE of another heard grant            not-on-first-cce
---   onResource      on the resource of the first heard grant                                not-on-first-multiplexed
---                   both ends raised by 4000 resources                                      not-both-raised-multiplexed
---   isRead          the station refuses every bit pattern with 14                           not-refuses-bits-multiplexed
---   exactly         the station marks no position delivered                                 not-delivers-nothing
---                   it marks those that are A in one of the symbol's rows                   not-delivers-one-row
---   noOther         it marks a position beyond the window                                   not-delivers-beyond
+--   kind            a multiplexed reply goes out as a bundled one                          not-other-kind-multiplexed
+--   isSymbol        the bits exchanged: another row's symbol                               not-exchanged-symbol
+--                   deaf to scheduled blocks                                               not-deaf-to-blocks-multiplexed
+--                   a release counts as not decoded                                        not-fails-release-multiplexed
+--   isHeard         the right position with the first CCE of another heard grant           not-on-first-cce
+--                   a scheduled block is answered as a grant with first CCE 0              not-grants-block-multiplexed
+--   onResource      on the resource of the first heard grant                               not-on-first-multiplexed
+--                   both ends raised by 4000 resources                           not-both-raised-multiplexed, not-both-raised-block
+--   isRead          the station refuses every bit pattern with 14                          not-refuses-bits-multiplexed
+--                   it does not listen to what it is told                                  not-untold-multiplexed
+--                   it takes the scheduled block for position 0                            not-told-as-first-multiplexed
+--   exactly         the station marks no position delivered                                not-delivers-nothing
+--                   it marks those that are A in one of the symbol's rows                  not-delivers-one-row
+--   noOther         it marks a position beyond the window                                  not-delivers-beyond
 --
--- The other fields no engine can break: `exactlyOne` speaks of the table of windows alone; `index`, `granted` and `delivered` are
+-- The other fields no engine can break: `exactlyOne` speaks of the table of windows alone; `index`, `named` and `delivered` are
 -- witnesses, which `isSymbol`, `isHeard` and `isRead` settle; `onto` of the one-to-one map follows from `into` and `back`, which give
 -- M × N_4 pairs as many different resources of the range. That the index is a position of the window needs no field: it follows from
--- `isSymbol`, since the tables give no other (`index-inside` in MultiplexedWindow.antt). `refusedExactly` is broken by no engine
--- alone: of accepted settings it follows from the other fields of HoldsAfter, for a feed whose cause is met is refused by `leaves`,
--- and any other is answered by one of the four after it. It stays, since it is 01's sentence.
+-- `isSymbol`, since the tables give no other (`index-inside` in MultiplexedWindow.antt). That m is one, `m < length ks` in `isRead` and
+-- `alone`, follows from the part beside it, `getD ks m 0 ≡ k`: beyond the list getD gives 0, and no k of a window is 0. It stays, said
+-- outright. `refusedExactly` is broken by no engine alone: of accepted settings it follows from the other fields of HoldsAfter, for a
+-- feed whose cause is met is refused by `leaves`, and any other is answered by one of the four after it. It stays, since it is 01's
+-- sentence.
 -- Assumes nothing.
-use Prim.Native.Nat.{ℕ, _+_, _%_}
-use mathlib.Core.Bool.{cond}
-use mathlib.Core.Logic.{inl}
+use Prim.Native.Nat.{ℕ, _+_, _%_, _<_}
+use mathlib.Core.Bool.{Bool, true, false, cond, false≢true}
+use mathlib.Core.List.{List}
+use mathlib.Core.Logic.{_⊎_, inl, ⊎-elim}
 use mathlib.Core.Path.{_≡_, refl, ap, sym, _∙_}
 use native.Mathlib.Omega.{arith}
 use lib.Dec.{eqb}
+use lib.ListN.{length, getD}
 use Rattle.frame.specs.declared.Settings.{Settings}
 use Rattle.resource.specs.declared.Inverted.{Inverted}
 use Rattle.resource.specs.declared.Mapped.{Mapped}
+use Rattle.resource.specs.declared.Mapped.the-variants as mapped
+use Rattle.resource.specs.declared.Resource.{Resource}
 use Rattle.resource.specs.Calls.{resourceOf, inverseOf}
+use Rattle.symbols.specs.declared.State.{State}
 use Rattle.symbols.specs.declared.Symbol.{Symbol}
 use Rattle.symbols.specs.declared.Symbol.the-variants as symbol
 use Rattle.heard.specs.declared.Heard.{Heard}
@@ -77,17 +109,18 @@ use Rattle.handset.specs.declared.Made.{Made}
 use Rattle.handset.specs.Feed.{feedOf}
 use Rattle.handset.specs.Make.{makeOf}
 use Rattle.station.specs.declared.Reading.{Reading}
+use Rattle.station.specs.declared.Told.{Told}
 use Rattle.station.specs.Readings.{readOf}
-use Rattle.agreement.specs.Demand3.{Engine, fedAt, HoldsAfter, Demand3}
-use Rattle.agreement.specs.Run.{heardInRun, sentAgo, heardAgo, windowAt}
-use Rattle.agreement.specs.Window.{inTime, Bundled, Multiplexed}
+use Rattle.agreement.specs.Demand3.{Engine, fedAt, readingIn, HoldsAfter, Demand3}
+use Rattle.agreement.specs.Run.{feed, itemAt, heardInRun, subframeAt, sentAgo, heardAgo, windowAt}
+use Rattle.agreement.specs.Window.{inTime, Bundled, ReadAs, MultiplexedReply, Multiplexed}
 use Rattle.agreement.proofs.Computing.{schedules}
 use Rattle.agreement.proofs.Finite.{sending}
-use Rattle.agreement.proofs.Worked.{Run, Worked, fed-nothing, allHeard, all-heard, missed, first-missed, oneUndecoded, one-undecoded, twoWindows, two-windows, shared, symbol-shared}
+use Rattle.agreement.proofs.Worked.{Run, Worked, fed-nothing, allHeard, all-heard, missed, first-missed, oneUndecoded, one-undecoded, twoWindows, two-windows, shared, symbol-shared, loneBlock, lone-block, blockLast, block-last, missedWithBlock, missed-with-block, releaseLast, release-last, blockAtIndex, block-at-index, releaseAtIndex, release-at-index}
 
 -- The engine of this repository, with another making, feeding, resource call, inverse or reading.
 abbrev pub engine : (Settings → Made) → (Handset → Heard → Fed) → (Settings → ℕ → ℕ → ℕ → Mapped) → (Settings → ℕ → ℕ → Inverted)
-    → (Settings → ℕ → ℕ → ℕ → ℕ → Reading) → Engine
+    → (Settings → ℕ → Told → ℕ → ℕ → ℕ → Reading) → Engine
 engine make step onto back read = record { make = make; feed = step; resource = onto; inverse = back; read = read }
 
 abbrev pub madeBy : (Settings → Made) → Engine
@@ -102,7 +135,7 @@ mappedBy onto = engine makeOf feedOf onto inverseOf readOf
 abbrev pub invertedBy : (Settings → ℕ → ℕ → Inverted) → Engine
 invertedBy back = engine makeOf feedOf resourceOf back readOf
 
-abbrev pub readBy : (Settings → ℕ → ℕ → ℕ → ℕ → Reading) → Engine
+abbrev pub readBy : (Settings → ℕ → Told → ℕ → ℕ → ℕ → Reading) → Engine
 readBy read = engine makeOf feedOf resourceOf inverseOf read
 
 -- Our handset with its answers changed, by what it knows before the feed and by what it would answer; it remembers as ours does.
@@ -138,15 +171,28 @@ abbrev pub withBits : Reply → ℕ → ℕ → Answer
 withBits r b0 b1 = answer.Sent (record { kind = r .kind; resource = r .resource; b0 = b0; b1 = b1 })
 
 -- An answer by a number: two answers with different numbers are not the same.
-abbrev numberOf : Answer → ℕ
-numberOf = answering 0 1 2 (λ (r : Reply). 3) (λ (k : ℕ). 4 + k)
+abbrev answerNumber : Answer → ℕ
+answerNumber = answering 0 1 2 (λ (r : Reply). 3) (λ (k : ℕ). 4 + k)
 
-pub same-answer : {a b c : Answer} → a ≡ b → a ≡ c → numberOf b ≡ numberOf c
-same-answer e f = ap numberOf (sym e ∙ f)
+pub same-answer : {a b c : Answer} → a ≡ b → a ≡ c → answerNumber b ≡ answerNumber c
+same-answer e f = ap answerNumber (sym e ∙ f)
 
--- A symbol's parts.
+-- One resource, and a symbol's parts.
+pub same-resource : (a b : Resource) → mapped.At a ≡ mapped.At b → a .0 ≡ b .0
+same-resource a b e = ap (λ (r : Resource). r .0) (let f : a ≡ b = cc in f)
+
 pub symbol-parts : (i b0 b1 i′ b0′ b1′ : ℕ) → _≡_ {A = Symbol} (symbol.Sent i b0 b1) (symbol.Sent i′ b0′ b1′) → (i ≡ i′) × (b0 ≡ b0′) × (b1 ≡ b1′)
 symbol-parts i b0 b1 i′ b0′ b1′ e = (cc, cc, cc)
+
+-- What a multiplexed reply is read as, where its index is known.
+pub named-at : {set : Settings} {resource : ℕ → ℕ → Mapped} {read : ℕ → ℕ → ℕ → Reading} {ks : List ℕ} {heard : ℕ → Heard} {states : List State} {r : Reply}
+    → (m : MultiplexedReply set resource read ks heard states r) (i : ℕ) → i ≡ m .index → ReadAs i (heard (getD ks i 0)) (m .named)
+named-at m i e = rw (← e) at (m .isHeard)
+
+-- Of a window with a PDCCH heard and one lost before it no reply is due.
+pub one-lost : {b : Bool}
+    → ((true ≡ true) × ((_≡_ {A = ℕ} 1 0) ⊎ (_≡_ {A = ℕ} 1 4) ⊎ (_≡_ {A = ℕ} 1 8))) ⊎ ((true ≡ false) × (b ≡ true)) → ⊥
+one-lost due = ⊎-elim (λ p. ⊎-elim (λ e. omega arith) (⊎-elim (λ e. omega arith) (λ e. omega arith)) (p .1)) (λ p. false≢true (sym (p .0))) due
 
 -- In a worked run the statement holds; it gives the reply at the uplink subframe s, which item s feeds with nothing.
 pub holds-in : (e : Engine) → Demand3 e → (r : Run) → Worked r → HoldsAfter e (r .set) (sending (r .sends)) (r .items)
@@ -154,43 +200,78 @@ holds-in e d r w = d .run (r .set) (w .accepted) (sending (r .sends)) (w .schedu
 
 abbrev pub BundledIn : Engine → Run → ℕ → Type 0
 BundledIn e r s =
-    Bundled (r .set) (e .resource (r .set) (s % 10)) (e .read (r .set) (s % 10)) (windowAt (r .set) s)
+    Bundled (r .set) (e .resource (r .set) (s % 10)) (readingIn e (r .set) (sending (r .sends)) s) (windowAt (r .set) s)
     (inTime (sentAgo (sending (r .sends)) s) (heardAgo (heardInRun (r .set) (r .items)) s) (windowAt (r .set) s)) (fedAt e (r .set) (r .items) s Nothing .answer)
 
 abbrev pub MultiplexedIn : Engine → Run → ℕ → Type 0
 MultiplexedIn e r s =
-    Multiplexed (e .resource (r .set) (s % 10)) (e .read (r .set) (s % 10)) (windowAt (r .set) s) (heardAgo (heardInRun (r .set) (r .items)) s)
+    Multiplexed (r .set) (e .resource (r .set) (s % 10)) (readingIn e (r .set) (sending (r .sends)) s) (windowAt (r .set) s) (heardAgo (heardInRun (r .set) (r .items)) s)
     (inTime (sentAgo (sending (r .sends)) s) (heardAgo (heardInRun (r .set) (r .items)) s) (windowAt (r .set) s)) (fedAt e (r .set) (r .items) s Nothing .answer)
 
 module _ (e : Engine) (d : Demand3 e) where
+  bundled-in : (r : Run) → Worked r → (s : ℕ) → s < length (r .items) → itemAt (r .items) s ≡ feed Nothing → subframeAt (r .set) (r .items) s ≡ s
+      → 0 < length (windowAt (r .set) s) → r .set .mode ≡ 0 → BundledIn e r s
+  bundled-in r w s inside brings counted some mode = holds-in e d r w .bundled s s Nothing (fed-nothing r s inside brings counted) some (inl mode)
+
+  multiplexed-in : (r : Run) → Worked r → (s : ℕ) → s < length (r .items) → itemAt (r .items) s ≡ feed Nothing → subframeAt (r .set) (r .items) s ≡ s
+      → 1 < length (windowAt (r .set) s) → r .set .mode ≡ 1 → MultiplexedIn e r s
+  multiplexed-in r w s inside brings counted more mode =
+      holds-in e d r w .multiplexed s s Nothing (fed-nothing r s inside brings counted) (omega arith) mode (λ one. omega arith)
+
   -- Two grants are heard, in 0 and 1, and answered at 7.
   pub in-all-heard : BundledIn e allHeard 7
   unfolding schedules
-  in-all-heard = holds-in e d allHeard all-heard .bundled 7 7 Nothing (fed-nothing allHeard 7 (omega arith) refl refl) (omega arith) (inl refl)
+  in-all-heard = bundled-in allHeard all-heard 7 (omega arith) refl refl (omega arith) refl
 
   -- The first of them is lost.
   pub in-missed : BundledIn e missed 7
   unfolding schedules
-  in-missed = holds-in e d missed first-missed .bundled 7 7 Nothing (fed-nothing missed 7 (omega arith) refl refl) (omega arith) (inl refl)
+  in-missed = bundled-in missed first-missed 7 (omega arith) refl refl (omega arith) refl
 
   -- Of their four blocks the first one of the earlier grant is not decoded.
   pub in-one-undecoded : BundledIn e oneUndecoded 7
   unfolding schedules
-  in-one-undecoded =
-      holds-in e d oneUndecoded one-undecoded .bundled 7 7 Nothing (fed-nothing oneUndecoded 7 (omega arith) refl refl) (omega arith) (inl refl)
+  in-one-undecoded = bundled-in oneUndecoded one-undecoded 7 (omega arith) refl refl (omega arith) refl
 
   -- Two grants, in two windows, are heard; the second is answered at 7.
   pub in-two-windows : BundledIn e twoWindows 7
   unfolding schedules
-  in-two-windows = holds-in e d twoWindows two-windows .bundled 7 7 Nothing (fed-nothing twoWindows 7 (omega arith) refl refl) (omega arith) (inl refl)
+  in-two-windows = bundled-in twoWindows two-windows 7 (omega arith) refl refl (omega arith) refl
 
   -- Multiplexed: the state A,A,D,D is answered at 12; nothing was heard before 7.
   pub in-shared : MultiplexedIn e shared 12
   unfolding schedules
-  in-shared =
-      holds-in e d shared symbol-shared .multiplexed 12 12 Nothing (fed-nothing shared 12 (omega arith) refl refl) (omega arith) refl (λ one. omega arith)
+  in-shared = multiplexed-in shared symbol-shared 12 (omega arith) refl refl (omega arith) refl
 
   pub in-shared-before : MultiplexedIn e shared 7
   unfolding schedules
-  in-shared-before =
-      holds-in e d shared symbol-shared .multiplexed 7 7 Nothing (fed-nothing shared 7 (omega arith) refl refl) (omega arith) refl (λ one. omega arith)
+  in-shared-before = multiplexed-in shared symbol-shared 7 (omega arith) refl refl (omega arith) refl
+
+  -- Answered at 12: a scheduled block, at position 1, is the only thing heard.
+  pub in-lone-block : BundledIn e loneBlock 12
+  unfolding schedules
+  in-lone-block = bundled-in loneBlock lone-block 12 (omega arith) refl refl (omega arith) refl
+
+  -- A grant is heard and decoded, a scheduled block after it is not decoded.
+  pub in-block-last : BundledIn e blockLast 12
+  unfolding schedules
+  in-block-last = bundled-in blockLast block-last 12 (omega arith) refl refl (omega arith) refl
+
+  -- A block and a grant are heard, a grant before them is lost.
+  pub in-missed-with-block : BundledIn e missedWithBlock 12
+  unfolding schedules
+  in-missed-with-block = bundled-in missedWithBlock missed-with-block 12 (omega arith) refl refl (omega arith) refl
+
+  -- A grant and then a release are heard.
+  pub in-release-last : BundledIn e releaseLast 12
+  unfolding schedules
+  in-release-last = bundled-in releaseLast release-last 12 (omega arith) refl refl (omega arith) refl
+
+  -- Multiplexed: a scheduled block stands at the symbol's index; a release does.
+  pub in-block-at-index : MultiplexedIn e blockAtIndex 12
+  unfolding schedules
+  in-block-at-index = multiplexed-in blockAtIndex block-at-index 12 (omega arith) refl refl (omega arith) refl
+
+  pub in-release-at-index : MultiplexedIn e releaseAtIndex 12
+  unfolding schedules
+  in-release-at-index = multiplexed-in releaseAtIndex release-at-index 12 (omega arith) refl refl (omega arith) refl

@@ -1,44 +1,49 @@
 -- Handsets with one fault each, and the field of the statement that shuts each of them out; WrongEngines.antt lists them.
 -- Assumes nothing.
 use Prim.Native.Nat.{ℕ, _+_, _-_}
-use mathlib.Core.Bool.{true, false, cond, false≢true}
-use mathlib.Core.List.{List, reverse}
-use mathlib.Core.Logic.{inl, ⊎-elim}
+use mathlib.Core.Bool.{Bool, true, false, cond, _&&_, _||_, false≢true}
+use mathlib.Core.List.{List, [], _∷_, reverse}
+use mathlib.Core.Logic.{inl, inr}
 use mathlib.Core.Path.{_≡_, refl, ap}
 use native.Mathlib.Omega.{arith}
 use lib.Dec.{eqb, ltb}
 use lib.ListN.{getD}
 use Rattle.frame.specs.declared.Settings.{Settings}
 use Rattle.frame.specs.Order.{orderOf}
+use Rattle.frame.specs.Settings.{orElse}
 use Rattle.frame.specs.Table.{windowOf}
 use Rattle.resource.specs.declared.Inverted.{Inverted}
 use Rattle.resource.specs.declared.Inverted.the-variants as inverted
 use Rattle.resource.specs.declared.Mapped.{Mapped}
-use Rattle.resource.specs.declared.Mapped.the-variants as mapped
 use Rattle.resource.specs.Calls.{resourceOf, inverseOf}
 use Rattle.resource.proofs.OneToOne.{calls-one-to-one, resource-range}
-use Rattle.heard.specs.declared.Grant.{Grant}
 use Rattle.heard.specs.declared.Heard.{Heard}
-use Rattle.heard.specs.declared.Heard.the-variants.{Nothing, Granted}
+use Rattle.heard.specs.declared.Heard.the-variants.{Nothing, Granted, Scheduled, Released}
+use Rattle.heard.specs.declared.Release.{Release}
+use Rattle.heard.specs.declared.ScheduledBlock.{ScheduledBlock}
+use Rattle.heard.specs.declared.Slot.{Slot}
 use Rattle.heard.specs.declared.View.{View}
-use Rattle.heard.specs.Memory.{bit, viewAgo}
+use Rattle.heard.specs.Heard.{isBlock, viewOf}
+use Rattle.heard.specs.Memory.{none, bit, heardIn, viewAgo}
 use Rattle.fold.specs.declared.Seen.{Seen}
 use Rattle.fold.specs.Fold.{unseen, stepOf, seenFrom, seenOf}
 use Rattle.reply.specs.declared.Answer.{Answer}
 use Rattle.reply.specs.declared.Answer.the-variants as answer
 use Rattle.reply.specs.declared.Reply.{Reply}
-use Rattle.reply.specs.Replies.{replyOn, bundledAnswer}
+use Rattle.reply.specs.Replies.{replyOn, loneAnswer, bundledAnswer, windowAnswer}
 use Rattle.handset.specs.declared.Fed.{Fed}
 use Rattle.handset.specs.declared.Handset.{Handset}
 use Rattle.handset.specs.declared.Made.{Made}
-use Rattle.handset.specs.Feed.{pushed, feedOf}
+use Rattle.handset.specs.Feed.{pushed, feedRefusal, fedAs, feedOf}
 use Rattle.handset.specs.Make.{makeOf}
+use Rattle.station.specs.declared.Place.the-variants as place
 use Rattle.station.specs.declared.Reading.{Reading}
+use Rattle.station.specs.declared.Told.{Told}
 use Rattle.station.specs.Readings.{readOf}
 use Rattle.agreement.specs.Demand3.{Engine, Demand3}
 use Rattle.agreement.proofs.Computing.{schedules, handsets, stations}
-use Rattle.agreement.proofs.Worked.{answer-at, fed-nothing, cell, heardGrant, reply, allHeard, all-heard, missed, first-missed, oneUndecoded, one-undecoded, refusedFeeds, refused-feeds, twoWindows, two-windows, shared, symbol-shared}
-use Rattle.agreement.proofs.WrongEngines.{engine, madeBy, fedBy, changed, knowsBy, answersBy, answering, replying, replyingIn, sentOn, withBits, same-answer, holds-in, symbol-parts, in-all-heard, in-missed, in-one-undecoded, in-two-windows, in-shared, in-shared-before}
+use Rattle.agreement.proofs.Worked.{answer-at, fed-nothing, cell, scheduledTwoBlockCell, heardGrant, heardBlock, reply, allHeard, all-heard, missed, first-missed, oneUndecoded, one-undecoded, refusedFeeds, refused-feeds, twoWindows, two-windows, shared, symbol-shared, loneBlock, lone-block, secondBlock, second-block, noResourceSet, no-resource-set, blockInEach, block-in-each, blockAtIndex, block-at-index}
+use Rattle.agreement.proofs.WrongEngines.{engine, madeBy, fedBy, changed, knowsBy, answersBy, answering, replying, replyingIn, sentOn, withBits, same-answer, same-resource, symbol-parts, named-at, one-lost, holds-in, in-all-heard, in-missed, in-one-undecoded, in-two-windows, in-shared, in-shared-before, in-lone-block, in-block-last, in-missed-with-block, in-release-last, in-block-at-index, in-release-at-index}
 
 -- Making.
 
@@ -107,6 +112,38 @@ not-moves-on d =
     (record { inside = omega arith; brings = refl }) (λ e. omega arith) in
     omega (arith, ap (λ (f : Fed). f .handset .next) l)
 
+-- One that does not know 18: it takes a second scheduled block of a window, and one with no resource set.
+abbrev pub takesEighteen : Handset → Heard → Fed
+takesEighteen h x = fedAs (cond (eqb (feedRefusal h x) 18) 0 (feedRefusal h x)) h x
+
+pub not-takes-second-block : Demand3 (fedBy takesEighteen) → ⊥
+unfolding handsets
+not-takes-second-block d =
+    let r = holds-in (fedBy takesEighteen) d secondBlock second-block .refusedExactly 5 (heardBlock true)
+    (record { inside = omega arith; brings = refl }) .1 (λ e. omega arith) in
+    omega (arith, same-answer {b = answer.Taken} refl (r .1))
+
+pub not-takes-unset-block : Demand3 (fedBy takesEighteen) → ⊥
+unfolding handsets
+not-takes-unset-block d =
+    let r = holds-in (fedBy takesEighteen) d noResourceSet no-resource-set .refusedExactly 0 (heardBlock true)
+    (record { inside = omega arith; brings = refl }) .1 (λ e. omega arith) in
+    omega (arith, same-answer {b = answer.Taken} refl (r .1))
+
+-- One that refuses 18 for a scheduled block where it remembers another, of whatever window.
+abbrev remembersBlock : List Slot → Bool
+remembersBlock [] = false
+remembersBlock (t ∷ ts) = isBlock (heardIn t) || remembersBlock ts
+
+abbrev pub refusesAcross : Handset → Heard → Fed
+refusesAcross h x = fedAs (orElse (feedRefusal h x) (cond (isBlock x && remembersBlock (h .past)) 18 0)) h x
+
+pub not-refuses-across : Demand3 (fedBy refusesAcross) → ⊥
+unfolding handsets
+not-refuses-across d =
+    holds-in (fedBy refusesAcross) d blockInEach block-in-each .refusedExactly 5 (heardBlock false) (record { inside = omega arith; brings = refl }) .0
+    (18, refl) refl
+
 -- Subframes without a reply.
 
 -- "Silent" for "taken".
@@ -154,7 +191,7 @@ alwaysSilent = replying (λ (r : Reply). answer.Silent)
 pub not-always-silent : Demand3 (answersBy alwaysSilent) → ⊥
 unfolding schedules
 not-always-silent d =
-    let r = in-all-heard (answersBy alwaysSilent) d .0 .1 (refl, inl refl) in
+    let r = in-all-heard (answersBy alwaysSilent) d .0 .1 (inl (refl, inl refl)) in
     omega (arith, same-answer (ap alwaysSilent (answer-at allHeard all-heard 7)) (r .1))
 
 pub not-always-silent-multiplexed : Demand3 (answersBy alwaysSilent) → ⊥
@@ -170,32 +207,73 @@ asIfMissed = replyingIn 1 (λ (r : Reply). answer.Silent)
 pub not-as-if-missed : Demand3 (answersBy asIfMissed) → ⊥
 unfolding schedules
 not-as-if-missed d =
-    let r = in-all-heard (answersBy asIfMissed) d .0 .1 (refl, inl refl) in
+    let r = in-all-heard (answersBy asIfMissed) d .0 .1 (inl (refl, inl refl)) in
     omega (arith, same-answer (ap asIfMissed (answer-at allHeard all-heard 7)) (r .1))
 
+-- A handset silent where the reply would go on the scheduled resource.
+abbrev pub silentOnScheduled : Handset → Answer → Answer
+silentOnScheduled h = replying (λ (r : Reply). cond (eqb (r .resource .0) (h .settings .scheduled)) answer.Silent (answer.Sent r))
+
+pub not-silent-on-scheduled : Demand3 (knowsBy silentOnScheduled) → ⊥
+unfolding handsets
+not-silent-on-scheduled d =
+    let r = in-lone-block (knowsBy silentOnScheduled) d .0 .1 (inr (refl, refl)) in
+    omega (arith, same-answer {b = answer.Silent} refl (r .1))
+
+pub not-silent-on-scheduled-multiplexed : Demand3 (knowsBy silentOnScheduled) → ⊥
+unfolding handsets
+not-silent-on-scheduled-multiplexed d =
+    let r = in-block-at-index (knowsBy silentOnScheduled) d .0 .1 refl in
+    omega (arith, same-answer {b = answer.Silent} refl (r .1))
+
 -- What a handset has of the window that it is to answer: the printed K, what stood k ago, and the fold.
-abbrev windowIn : Handset → List ℕ
-windowIn h = windowOf (h .settings .config) (h .next)
+abbrev ownWindow : Handset → List ℕ
+ownWindow h = windowOf (h .settings .config) (h .next)
 
-abbrev viewIn : Handset → ℕ → View
-viewIn h = viewAgo (h .past)
+abbrev ownView : Handset → ℕ → View
+ownView h = viewAgo (h .past)
 
-abbrev seenIn : Handset → Seen
-seenIn h = seenOf (viewIn h) (windowIn h)
+abbrev ownSeen : Handset → Seen
+ownSeen h = seenOf (ownView h) (ownWindow h)
+
+-- Our handset with another count U in its bundled replies. (In a multiplexed window it is silent only where nothing is heard.)
+abbrev countsBy : (Seen → ℕ) → Handset → Answer → Answer
+countsBy count h =
+    let seen : Seen = ownSeen h in
+    let other : Answer = bundledAnswer (h .settings) (h .next)
+    (record { u = count seen; v = seen .v; position = seen .position; cce = seen .cce; first = seen .first; second = seen .second; scheduled = seen .scheduled }) in
+    answering answer.Taken answer.NoWindow other (λ (r : Reply). cond (eqb (r .kind) 1) other (answer.Sent r)) answer.Refused
 
 -- A handset that holds V against the value for U + 1: it answers where one grant was lost, and is silent where none was.
-abbrev oneMore : Seen → Seen
-oneMore seen = record { u = cond (eqb (seen .u) 0) 0 (seen .u + 1); v = seen .v; position = seen .position; cce = seen .cce; first = seen .first; second = seen .second }
-
 abbrev pub countsOneMore : Handset → Answer → Answer
-countsOneMore h =
-    let other : Answer = bundledAnswer (h .settings) (h .next) (oneMore (seenIn h)) in
-    answering answer.Taken answer.NoWindow other (λ (r : Reply). cond (eqb (r .kind) 1) other (answer.Sent r)) answer.Refused
+countsOneMore = countsBy (λ (seen : Seen). cond (eqb (seen .u) 0) 0 (seen .u + 1))
 
 pub not-counts-one-more : Demand3 (knowsBy countsOneMore) → ⊥
 unfolding handsets
-not-counts-one-more d =
-    ⊎-elim (λ e. omega arith) (⊎-elim (λ e. omega arith) (λ e. omega arith)) (in-missed (knowsBy countsOneMore) d .0 .0 (_, refl) .1)
+not-counts-one-more d = one-lost (in-missed (knowsBy countsOneMore) d .0 .0 (_, refl))
+
+-- One that counts a heard scheduled block in U: it is silent where a grant and a block were heard and none was lost, and answers
+-- where one was lost.
+abbrev pub countsBlock : Handset → Answer → Answer
+countsBlock = countsBy (λ (seen : Seen). seen .u + bit (seen .scheduled))
+
+pub not-counts-block : Demand3 (knowsBy countsBlock) → ⊥
+unfolding handsets
+not-counts-block d =
+    let r = in-block-last (knowsBy countsBlock) d .0 .1 (inl (refl, inl refl)) in
+    omega (arith, same-answer {b = answer.Silent} refl (r .1))
+
+pub not-counts-block-missed : Demand3 (knowsBy countsBlock) → ⊥
+unfolding handsets
+not-counts-block-missed d = one-lost (in-missed-with-block (knowsBy countsBlock) d .0 .0 (_, refl))
+
+-- One that answers for a heard scheduled block, on its resource, where a miss is shown.
+abbrev pub answersMissed : Handset → Answer → Answer
+answersMissed h = answering answer.Taken answer.NoWindow (loneAnswer (h .settings) (ownSeen h)) answer.Sent answer.Refused
+
+pub not-answers-missed : Demand3 (knowsBy answersMissed) → ⊥
+unfolding handsets
+not-answers-missed d = one-lost (in-missed-with-block (knowsBy answersMissed) d .0 .0 (_, refl))
 
 -- A reply in every window: on resource 10 where there is none to send.
 abbrev pub neverSilent : Answer → Answer
@@ -207,25 +285,25 @@ not-never-silent-multiplexed d =
     false≢true (in-shared-before (answersBy neverSilent) d .0 .0 (_, ap neverSilent (answer-at shared symbol-shared 7)))
 
 -- A handset that answers its first window and is silent after. It marks itself by expecting ten more.
-abbrev marked : Handset → Handset
-marked h = record { settings = h .settings; next = h .next + 10; past = h .past }
+abbrev tenMore : Handset → Handset
+tenMore h = record { settings = h .settings; next = h .next + 10; past = h .past }
 
-abbrev unmarked : Handset → Handset
-unmarked h = record { settings = h .settings; next = h .next - 10; past = h .past }
+abbrev tenLess : Handset → Handset
+tenLess h = record { settings = h .settings; next = h .next - 10; past = h .past }
 
-abbrev markedAfter : Handset → Answer → Handset
-markedAfter h = answering h h h (λ (r : Reply). marked h) (λ (k : ℕ). h)
+abbrev tenMoreAfter : Handset → Answer → Handset
+tenMoreAfter h = answering h h h (λ (r : Reply). tenMore h) (λ (k : ℕ). h)
 
 abbrev pub firstOnly : Handset → Heard → Fed
 firstOnly h x =
     cond (ltb (h .next) 10)
-    (record { answer = feedOf h x .answer; handset = markedAfter (feedOf h x .handset) (feedOf h x .answer) })
-    (record { answer = alwaysSilent (feedOf (unmarked h) x .answer); handset = marked (feedOf (unmarked h) x .handset) })
+    (record { answer = feedOf h x .answer; handset = tenMoreAfter (feedOf h x .handset) (feedOf h x .answer) })
+    (record { answer = alwaysSilent (feedOf (tenLess h) x .answer); handset = tenMore (feedOf (tenLess h) x .handset) })
 
 pub not-first-only : Demand3 (fedBy firstOnly) → ⊥
 unfolding handsets
 not-first-only d =
-    let r = in-two-windows (fedBy firstOnly) d .0 .1 (refl, inl refl) in
+    let r = in-two-windows (fedBy firstOnly) d .0 .1 (inl (refl, inl refl)) in
     omega (arith, same-answer {b = answer.Silent} refl (r .1))
 
 -- What the reply is.
@@ -262,16 +340,89 @@ not-exchanged-symbol d =
     let m = in-shared (answersBy exchanged) d .1 _ (ap exchanged (answer-at shared symbol-shared 12)) in
     omega (arith, symbol-parts 1 1 0 _ _ _ (m .isSymbol) .1)
 
+-- The first block is always NACK.
+abbrev pub nacksFirst : Answer → Answer
+nacksFirst = replyingIn 1 (λ (r : Reply). withBits r 0 (r .b1))
+
+pub not-nacks-first : Demand3 (answersBy nacksFirst) → ⊥
+unfolding schedules
+not-nacks-first d =
+    omega (arith, in-all-heard (answersBy nacksFirst) d .1 _ (ap nacksFirst (answer-at allHeard all-heard 7)) .first .1 (refl, (refl, tt)))
+
 -- The first bit of a bundled reply is that of the last heard grant alone.
 abbrev lastSeen : Handset → Seen
-lastSeen h = stepOf unseen (seenIn h .position) (viewIn h (getD (windowIn h) (seenIn h .position) 0))
+lastSeen h = stepOf unseen (ownSeen h .position) (ownView h (getD (ownWindow h) (ownSeen h .position) 0))
 
 abbrev pub lastAlone : Handset → Answer → Answer
-lastAlone h = replyingIn 1 (λ (r : Reply). withBits r (bit (lastSeen h .first)) (r .b1))
+lastAlone h = replyingIn 1 (λ (r : Reply). withBits r (cond (eqb (ownSeen h .u) 0) (r .b0) (bit (lastSeen h .first))) (r .b1))
 
 pub not-last-alone : Demand3 (knowsBy lastAlone) → ⊥
 unfolding handsets
 not-last-alone d = false≢true (in-one-undecoded (knowsBy lastAlone) d .1 _ refl .first .0 refl .0)
+
+-- Our handset, answering as if something else had been heard for a scheduled block or for a release.
+abbrev takenFor : (ScheduledBlock → Heard) → (Release → Heard) → Heard → Heard
+takenFor block release Nothing = Nothing
+takenFor block release (Granted g) = Granted g
+takenFor block release (Scheduled b) = block b
+takenFor block release (Released p) = release p
+
+abbrev hearsBy : (ScheduledBlock → Heard) → (Release → Heard) → Handset → Answer → Answer
+hearsBy block release h =
+    let other : Answer = windowAnswer (h .settings) (h .next) (λ (k : ℕ). viewOf (takenFor block release (heardIn (getD (h .past) (k - 1) none)))) in
+    answering answer.Taken answer.NoWindow other (λ (r : Reply). other) answer.Refused
+
+-- A scheduled block does not join the AND: it counts as decoded.
+abbrev pub skipsBlock : Handset → Answer → Answer
+skipsBlock = hearsBy (λ (b : ScheduledBlock). Scheduled (record { blocks = b .blocks; first = true; second = true })) Released
+
+pub not-skips-block : Demand3 (knowsBy skipsBlock) → ⊥
+unfolding handsets
+not-skips-block d = false≢true (in-block-last (knowsBy skipsBlock) d .1 _ refl .first .0 refl .1 .1 .1 .0)
+
+pub not-skips-block-second : Demand3 (knowsBy skipsBlock) → ⊥
+unfolding handsets
+not-skips-block-second d = false≢true (in-block-last (knowsBy skipsBlock) d .1 _ refl .second refl .0 refl .1 .1 .1 .0)
+
+-- A scheduled block is not heard.
+abbrev pub deafToBlocks : Handset → Answer → Answer
+deafToBlocks = hearsBy (λ (b : ScheduledBlock). Nothing) Released
+
+pub not-deaf-to-blocks : Demand3 (knowsBy deafToBlocks) → ⊥
+unfolding handsets
+not-deaf-to-blocks d =
+    let r = in-lone-block (knowsBy deafToBlocks) d .0 .1 (inr (refl, refl)) in
+    omega (arith, same-answer {b = answer.Silent} refl (r .1))
+
+pub not-deaf-to-blocks-multiplexed : Demand3 (knowsBy deafToBlocks) → ⊥
+unfolding handsets
+not-deaf-to-blocks-multiplexed d =
+    let m = in-block-at-index (knowsBy deafToBlocks) d .1 _ refl in
+    omega (arith, symbol-parts 1 1 0 _ _ _ (m .isSymbol) .2)
+
+-- A release counts as a grant whose block is not decoded.
+abbrev pub failsRelease : Handset → Answer → Answer
+failsRelease = hearsBy Scheduled (λ (p : Release). Granted (record { blocks = 1; first = false; second = false; cce = p .cce; dai = p .dai }))
+
+pub not-fails-release : Demand3 (knowsBy failsRelease) → ⊥
+unfolding handsets
+not-fails-release d = omega (arith, in-release-last (knowsBy failsRelease) d .1 _ refl .first .1 (refl, (refl, (refl, (refl, tt)))))
+
+pub not-fails-release-multiplexed : Demand3 (knowsBy failsRelease) → ⊥
+unfolding handsets
+not-fails-release-multiplexed d =
+    let m = in-release-at-index (knowsBy failsRelease) d .1 _ refl in
+    omega (arith, symbol-parts 1 0 1 _ _ _ (m .isSymbol) .2)
+
+-- A release is not heard.
+abbrev pub deafToReleases : Handset → Answer → Answer
+deafToReleases = hearsBy Scheduled (λ (p : Release). Nothing)
+
+pub not-deaf-to-releases : Demand3 (knowsBy deafToReleases) → ⊥
+unfolding handsets
+not-deaf-to-releases d =
+    let m = in-release-last (knowsBy deafToReleases) d .1 _ refl .isRead 6 5 refl in
+    omega (arith, calls-one-to-one (scheduledTwoBlockCell 2 0) 2 refl .once (m .0) 5 0 3 13 (m .3) refl .1)
 
 -- The second bit of a bundled reply is set in a cell of one block.
 abbrev pub secondSet : Handset → Answer → Answer
@@ -299,52 +450,90 @@ unfolding schedules
 not-ack-as-two d =
     omega (arith, in-one-undecoded (answersBy ackAsTwo) d .1 _ (ap ackAsTwo (answer-at oneUndecoded one-undecoded 7)) .bits .1)
 
--- The right bits go out on the resource of the first heard grant.
+-- The right bits go out on another resource than that of the PDCCH with position m and first CCE c; a reply on the scheduled resource
+-- goes out as it is.
+abbrev movedTo : (ℕ → ℕ → Mapped) → Reply → Inverted → Answer
+movedTo other r (inverted.At m c) = replyOn (r .kind) (other m (c .0)) (r .b0) (r .b1)
+movedTo other r (inverted.Refused k) = answer.Sent r
+
+abbrev moved : (Handset → ℕ → ℕ → Mapped) → Handset → Reply → Answer
+moved other h r = movedTo (other h) r (inverseOf (h .settings) (h .next) (r .resource .0))
+
+-- On that of the first heard PDCCH.
 abbrev firstSeen : Handset → Seen
-firstSeen h = seenFrom (viewIn h) (windowIn h) (reverse (orderOf (windowIn h))) unseen
+firstSeen h = seenFrom (ownView h) (ownWindow h) (reverse (orderOf (ownWindow h))) unseen
 
 abbrev pub onFirst : Handset → Answer → Answer
-onFirst h =
-    replying (λ (r : Reply). replyOn (r .kind) (resourceOf (h .settings) (h .next) (firstSeen h .position) (firstSeen h .cce .0)) (r .b0) (r .b1))
+onFirst h = replying (moved (λ h m c. resourceOf (h .settings) (h .next) (firstSeen h .position) (firstSeen h .cce .0)) h)
 
 pub not-on-first : Demand3 (knowsBy onFirst) → ⊥
-unfolding handsets
+unfolding handsets stations
 not-on-first d =
     let m = in-all-heard (knowsBy onFirst) d .1 _ refl .isRead 6 10 refl in
     omega (arith, calls-one-to-one (cell 1 0) 7 refl .once (m .0) 10 0 3 13 (m .3) refl .1)
 
 pub not-on-first-multiplexed : Demand3 (knowsBy onFirst) → ⊥
-unfolding handsets
+unfolding handsets stations
 not-on-first-multiplexed d =
     let m = in-shared (knowsBy onFirst) d .1 _ refl in
-    omega (arith, calls-one-to-one (cell 2 1) 2 refl .once (m .index) (m .granted .cce .0) 0 0 10 (m .onResource) refl .0, symbol-parts 1 1 0 _ _ _ (m .isSymbol) .0)
+    let named : m .named ≡ place.Pdcch 1 (record { 0 = 5 }) = named-at m 1 (symbol-parts 1 1 0 _ _ _ (m .isSymbol) .0) in
+    omega (arith, same-resource _ _ (rw named at (m .onResource)))
 
--- Multiplexed, the right position goes with the first CCE of the first heard grant. The station reads that pair: both ends agree.
-abbrev withFirstCce : Handset → Inverted → Mapped
-withFirstCce h (inverted.At m c) = resourceOf (h .settings) (h .next) m (firstSeen h .cce .0)
-withFirstCce h (inverted.Refused k) = mapped.Refused k
+-- Bundled, on that of the last heard PDCCH's first CCE at position 0. The station reads that pair: both ends agree.
+abbrev pub onFirstPosition : Handset → Answer → Answer
+onFirstPosition h = replyingIn 1 (moved (λ h m c. resourceOf (h .settings) (h .next) 0 c) h)
 
+pub not-on-first-position : Demand3 (knowsBy onFirstPosition) → ⊥
+unfolding handsets stations
+not-on-first-position d =
+    let m = in-all-heard (knowsBy onFirstPosition) d .1 _ refl .isRead 6 10 refl in
+    let first : m .0 ≡ 0 = calls-one-to-one (cell 1 0) 7 refl .once (m .0) 10 0 10 20 (m .3) refl .0 in
+    omega (arith, rw first at (m .2))
+
+-- Multiplexed, on that of the right position with the first CCE of the first heard PDCCH. The station reads that pair: both ends agree.
 abbrev pub onFirstCce : Handset → Answer → Answer
-onFirstCce h = replyingIn 2 (λ (r : Reply). replyOn (r .kind) (withFirstCce h (inverseOf (h .settings) (h .next) (r .resource .0))) (r .b0) (r .b1))
-
-same-grant : (g g′ : Grant) → Granted g ≡ Granted g′ → g ≡ g′
-same-grant g g′ e = cc
+onFirstCce h = replyingIn 2 (moved (λ h m c. resourceOf (h .settings) (h .next) m (firstSeen h .cce .0)) h)
 
 pub not-on-first-cce : Demand3 (knowsBy onFirstCce) → ⊥
 unfolding handsets stations
 not-on-first-cce d =
     let m = in-shared (knowsBy onFirstCce) d .1 _ refl in
-    let index : 1 ≡ m .index = symbol-parts 1 1 0 _ _ _ (m .isSymbol) .0 in
-    let cce : m .granted .cce .0 ≡ 0 = calls-one-to-one (cell 2 1) 2 refl .once (m .index) (m .granted .cce .0) 1 0 21 (m .onResource) refl .1 in
-    let heard : heardGrant 1 5 2 true false ≡ Granted (m .granted) = rw (← index) at (m .isHeard) in
-    omega (arith, ap (λ (g : Grant). g .cce .0) (same-grant _ _ heard))
+    let named : m .named ≡ place.Pdcch 1 (record { 0 = 5 }) = named-at m 1 (symbol-parts 1 1 0 _ _ _ (m .isSymbol) .0) in
+    omega (arith, same-resource _ _ (rw named at (m .onResource)))
+
+-- Bundled, on the scheduled resource wherever a scheduled block was heard, though a PDCCH was heard too.
+abbrev pub onScheduledToo : Handset → Answer → Answer
+onScheduledToo h = replyingIn 1 (λ (r : Reply). cond (ownSeen h .scheduled) (sentOn r (h .settings .scheduled)) (answer.Sent r))
+
+pub not-on-scheduled-too : Demand3 (knowsBy onScheduledToo) → ⊥
+unfolding handsets
+not-on-scheduled-too d =
+    let m = in-block-last (knowsBy onScheduledToo) d .1 _ refl .isRead 8 3 refl in
+    omega (arith, resource-range (scheduledTwoBlockCell 2 0) 2 refl (m .0) 3 7 (m .3) .0)
+
+-- A scheduled block counts as a grant with first CCE 0 and DAI 1, on whose resource it is answered. The station reads that pair: both
+-- ends agree.
+abbrev pub grantsBlock : Handset → Answer → Answer
+grantsBlock =
+    hearsBy (λ (b : ScheduledBlock). Granted (record { blocks = b .blocks; first = b .first; second = b .second; cce = record { 0 = 0 }; dai = 1 })) Released
+
+pub not-grants-block : Demand3 (knowsBy grantsBlock) → ⊥
+unfolding handsets
+not-grants-block d = omega (arith, in-lone-block (knowsBy grantsBlock) d .1 _ refl .alone 7 refl (inr (inl (refl, refl))) .3)
+
+pub not-grants-block-multiplexed : Demand3 (knowsBy grantsBlock) → ⊥
+unfolding handsets
+not-grants-block-multiplexed d =
+    let m = in-block-at-index (knowsBy grantsBlock) d .1 _ refl in
+    let named : m .named ≡ place.Block 1 = named-at m 1 (symbol-parts 1 1 0 _ _ _ (m .isSymbol) .0) in
+    omega (arith, rw named at (m .onResource))
 
 -- Every reply goes out 4000 resources higher, and the station reads it so: the two agree, and with nobody else.
 abbrev pub raised : Answer → Answer
 raised = replying (λ (r : Reply). sentOn r (r .resource .0 + 4000))
 
-abbrev pub raisedReading : Settings → ℕ → ℕ → ℕ → ℕ → Reading
-raisedReading s n r b0 b1 = readOf s n (cond (ltb r 4000) r (r - 4000)) b0 b1
+abbrev pub raisedReading : Settings → ℕ → Told → ℕ → ℕ → ℕ → Reading
+raisedReading s n told r b0 b1 = readOf s n told (cond (ltb r 4000) r (r - 4000)) b0 b1
 
 abbrev pub bothRaised : Engine
 bothRaised = engine makeOf (changed (λ (h : Handset). raised)) resourceOf inverseOf raisedReading
@@ -355,8 +544,21 @@ not-both-raised d =
     let m = in-all-heard bothRaised d .1 _ (ap raised (answer-at allHeard all-heard 7)) .isRead 6 10 refl in
     omega (arith, resource-range (cell 1 0) 7 refl (m .0) 10 4031 (m .3) .1)
 
-pub not-both-raised-multiplexed : Demand3 bothRaised → ⊥
+pub not-both-raised-alone : Demand3 bothRaised → ⊥
 unfolding schedules
+not-both-raised-alone d =
+    omega (arith, in-lone-block bothRaised d .1 _ (ap raised (answer-at loneBlock lone-block 12)) .alone 7 refl (inr (inl (refl, refl))) .3)
+
+pub not-both-raised-multiplexed : Demand3 bothRaised → ⊥
+unfolding handsets
 not-both-raised-multiplexed d =
     let m = in-shared bothRaised d .1 _ (ap raised (answer-at shared symbol-shared 12)) in
-    omega (arith, resource-range (cell 2 1) 2 refl (m .index) (m .granted .cce .0) 4026 (m .onResource) .1)
+    let named : m .named ≡ place.Pdcch 1 (record { 0 = 5 }) = named-at m 1 (symbol-parts 1 1 0 _ _ _ (m .isSymbol) .0) in
+    omega (arith, same-resource _ _ (rw named at (m .onResource)))
+
+pub not-both-raised-block : Demand3 bothRaised → ⊥
+unfolding handsets
+not-both-raised-block d =
+    let m = in-block-at-index bothRaised d .1 _ (ap raised (answer-at blockAtIndex block-at-index 12)) in
+    let named : m .named ≡ place.Block 1 = named-at m 1 (symbol-parts 1 1 0 _ _ _ (m .isSymbol) .0) in
+    omega (arith, rw named at (m .onResource))

@@ -13,7 +13,7 @@ use Rattle.resource.proofs.Counts.{resources-least}
 use Rattle.resource.proofs.OneToOne.{resource-range}
 use Rattle.resource.proofs.Sized.{resource-told}
 use Rattle.claims.specs.declared.ClaimedWindow.{ClaimedWindow}
-use Rattle.claims.specs.Claims.{positionIn, cceIn, claimed, resourcesOf, roomOf, isResource}
+use Rattle.claims.specs.Claims.{claimPosition, claimCce, claimed, resourcesOf, roomOf, isResource}
 use Rattle.claims.specs.Marking.{Has, AcceptedWindow, Byte}
 use Rattle.claims.proofs.Share.{has-resource}
 
@@ -22,7 +22,7 @@ module _ (w : ClaimedWindow) (known : AcceptedWindow w) (claim c : ℕ) (a : Map
     (asked : a ≡ resourceSized (w .s) (w .size) (claim / 256) c) where
   answer : claimed (w .s) (w .n) claim ≡ a
   answer =
-      sym (resource-told (w .s) (w .n) _ refl (positionIn claim) (cceIn claim))
+      sym (resource-told (w .s) (w .n) _ refl (claimPosition claim) (claimCce claim))
       ∙ rw (← known .positions, ← cce) (sym asked)
 
   module _ (x : Resource) (r : ℕ) (at : a ≡ mapped.At x) (number : r ≡ x .0) where
@@ -30,14 +30,14 @@ module _ (w : ClaimedWindow) (known : AcceptedWindow w) (claim c : ℕ) (a : Map
     has = rw number (answer ∙ at)
 
     pub from-n1 : w .s .n1 ≤ r
-    from-n1 = resource-range (w .s) (w .n) (known .accepted) (positionIn claim) (cceIn claim) r has .0
+    from-n1 = resource-range (w .s) (w .n) (known .accepted) (claimPosition claim) (claimCce claim) r has .0
 
     pub byte-given : Byte (w .s) (w .n) claim (r - w .s .n1)
     unfolding roomOf resourcesOf
     byte-given =
         let back : r ≡ r - w .s .n1 + w .s .n1 = omega (arith, from-n1) in
         record {
-          below = omega (arith, from-n1, resource-range (w .s) (w .n) (known .accepted) (positionIn claim) (cceIn claim) r has .1);
+          below = omega (arith, from-n1, resource-range (w .s) (w .n) (known .accepted) (claimPosition claim) (claimCce claim) r has .1);
           resource = λ good. rw back at has;
         }
 

@@ -1,4 +1,4 @@
--- The answer is clean exactly when nothing is refused, no claim is bad and no claim equals an earlier one.
+-- The answer is clean exactly when nothing is refused, no claim is bad and no claim clashes with an earlier one.
 -- Assumes nothing.
 use Prim.Native.Nat.{ℕ, zero, suc, _<_}
 use mathlib.Core.Bool.{Bool, true, false, cond, _||_, false≢true}
@@ -15,7 +15,6 @@ use Rattle.claims.specs.declared.Checked.the-variants.{Clean, Clash, Ref
 use Rattle.claims.specs.Claims.{isBad, firstBad, clashes, earlier, firstClash, scratchRefusal, refusedOr, checkedOn, checkedOf}
 use Rattle.claims.specs.Clean.{AllClean}
 use Rattle.claims.proofs.First.{first-none, first-bad, first-clash}
-use Rattle.claims.proofs.Share.{no-clash-apart, apart-no-clash}
 
 -- Of two tests neither passes.
 neither : (a b : Bool) → (a || b) ≡ false → (a ≡ false) × (b ≡ false)
@@ -53,8 +52,7 @@ module _ (s : Settings) (n : ℕ) (claims : List ℕ) (lent : ℕ) where
         accepted = f .0;
         good = λ i h. first-bad s n claims .before i (omega arith) (omega arith);
         apart = λ i j h b.
-            no-clash-apart s n (getD claims i 0) (getD claims j 0)
-            (none-earlier s n claims (getD claims j 0) j (first-clash s n claims .before j (omega arith) (omega arith)) i h);
+            none-earlier s n claims (getD claims j 0) j (first-clash s n claims .before j (omega arith) (omega arith)) i h;
       }
 
   clean-from : AllClean s n claims lent → checkedOf s n claims lent ≡ Clean
@@ -62,7 +60,7 @@ module _ (s : Settings) (n : ℕ) (claims : List ℕ) (lent : ℕ) where
   clean-from a =
       let bad = first-none (λ (i : ℕ). isBad s n (getD claims i 0)) (length claims) (length claims) (a .good) (le-refl _) (le-refl _) in
       let clash = first-none (λ (i : ℕ). earlier s n claims i (getD claims i 0)) (length claims) (length claims)
-      (λ j h. earlier-none s n claims (getD claims j 0) j λ i b. apart-no-clash s n (getD claims i 0) (getD claims j 0) (a .apart i j b h))
+      (λ j h. earlier-none s n claims (getD claims j 0) j λ i b. a .apart i j b h)
       (le-refl _) (le-refl _) in
       rw (a .accepted, le-ltb (firstBad s n claims) (length claims) (omega arith), le-ltb (firstClash s n claims) (length claims) (omega arith))
 

@@ -15,15 +15,15 @@ use Rattle.claims.specs.declared.Checked.{Checked}
 use Rattle.claims.specs.declared.Checked.the-variants.{Clean, Clash, Refused}
 
 -- A claim is m × 256 + first CCE.
-abbrev pub positionIn : ℕ → ℕ
-positionIn claim = claim / 256
+abbrev pub claimPosition : ℕ → ℕ
+claimPosition claim = claim / 256
 
-abbrev pub cceIn : ℕ → ℕ
-cceIn claim = claim % 256
+abbrev pub claimCce : ℕ → ℕ
+claimCce claim = claim % 256
 
 -- The resource call's answer for a claim.
 abbrev pub claimed : Settings → ℕ → ℕ → Mapped
-claimed s n claim = resourceOf s n (positionIn claim) (cceIn claim)
+claimed s n claim = resourceOf s n (claimPosition claim) (claimCce claim)
 
 -- M × N_4, the number of resources of the window.
 unfoldable pub resourcesOf : Settings → ℕ → ℕ
@@ -35,7 +35,7 @@ roomOf s n = resourcesOf s n
 
 -- 16: m not below M or CCE not below N_4.
 unfoldable pub isBad : Settings → ℕ → ℕ → Bool
-isBad s n claim = not (ltb (positionIn claim) (sizeOf s n) && ltb (cceIn claim) (edge (s .nrb) 4))
+isBad s n claim = not (ltb (claimPosition claim) (sizeOf s n) && ltb (claimCce claim) (edge (s .nrb) 4))
 
 -- The first index, of `count` from i on, at which the test passes; the one after them where it passes at none.
 abbrev pub firstIndex : (ℕ → Bool) → ℕ → ℕ → ℕ

@@ -1,4 +1,4 @@
--- What is confirmed, exactly, whatever was heard: the definition's tests said in words, both ways.
+-- What is confirmed, exactly, whatever was heard: the definition's tests said in words (specs/Exactly.antt), both ways.
 -- Assumes nothing.
 use Prim.Native.Nat.{ℕ, _/_, _%_, _^_, _<_, _≤_}
 use mathlib.Core.Bool.{Bool, true, false, _&&_, _||_, and-false, or-true, false≢true}
@@ -6,84 +6,95 @@ use mathlib.Core.List.{List}
 use mathlib.Core.Logic.{_⊎_, inl, inr, _↔_, ⊎-elim}
 use mathlib.Core.Path.{_≡_, refl}
 use native.Mathlib.Decide.{ℕ-discrete}
+use native.Mathlib.Omega.{arith}
 use lib.Dec.{eqb, leb, ltb}
 use lib.ListN.{length, getD}
 use borrow.Author.Tests.{ltb-true, lt-ltb, leb-true, le-leb, eqb-true, eq-eqb, ne-eqb}
 use Rattle.frame.specs.Order.{timesOf}
+use Rattle.station.specs.declared.Place.{Place}
+use Rattle.station.specs.declared.Place.the-variants as place
 use Rattle.station.specs.declared.Reading.{Reading}
 use Rattle.station.specs.declared.Reading.the-variants as reading
 use Rattle.confirmation.specs.declared.Send.{Send}
-use Rattle.confirmation.specs.Confirmed.{namedSent, sentUpTo, holdsFor, acknowledged, saysAck, confirmed}
-use Rattle.confirmation.specs.Sent.{blocksOf, hasCce}
+use Rattle.confirmation.specs.declared.Send.the-variants as send
+use Rattle.confirmation.specs.declared.SentRelease.{SentRelease}
+use Rattle.confirmation.specs.Confirmed.{namedSent, sentUpTo, speaksFor, holdsFor, acknowledged, saysAck, confirmed}
+use Rattle.confirmation.specs.Exactly.{WasSent, Acknowledges, BundledConfirmed, BlockConfirmed, MultiplexedConfirmed}
+use Rattle.confirmation.specs.Sent.{isPdcch, isBlock, blocksOf, hasCce}
 
 pub both : (a b : Bool) → (a && b) ≡ true → (a ≡ true) × (b ≡ true)
 both true b e = (refl, e)
 both false b e = absurd (false≢true e)
 
--- What an ACK confirms, in words: the grant that it names was sent, with that first CCE; the block is one that the grant at position
--- m carries; that grant is the named one, or one before it in time where at most four were sent up to and with the named one; and
--- the block's own bit is ACK, either bit where it is a sole block.
-pub record BundledConfirmed (ks : List ℕ) (sent : ℕ → Send) (named c b0 b1 m block : ℕ) : Type 0 where
-  pub place : named < length ks
-  pub there : hasCce (sent (getD ks named 0)) c ≡ true
-  pub inside : m < length ks
-  pub carries : block < blocksOf (sent (getD ks m 0))
-  pub upTo : (getD ks m 0 ≡ getD ks named 0) ⊎ ((sentUpTo sent (getD ks named 0) (timesOf ks) ≤ 4) × (getD ks named 0 ≤ getD ks m 0))
-  pub first : blocksOf (sent (getD ks m 0)) ≡ 2 → block ≡ 0 → b0 ≡ 1
-  pub second : blocksOf (sent (getD ks m 0)) ≡ 2 → (block ≡ 0 → ⊥) → b1 ≡ 1
-  pub sole : (blocksOf (sent (getD ks m 0)) ≡ 2 → ⊥) → (b0 ≡ 1) ⊎ (b1 ≡ 1)
-
--- What a multiplexed reading confirms: the grant at its index was sent, with that first CCE; the block is one that the grant at a
--- delivered position carries.
-pub record MultiplexedConfirmed (ks : List ℕ) (sent : ℕ → Send) (named c positions m block : ℕ) : Type 0 where
-  pub place : named < length ks
-  pub there : hasCce (sent (getD ks named 0)) c ≡ true
-  pub inside : m < length ks
-  pub carries : block < blocksOf (sent (getD ks m 0))
-  pub delivered : positions / 2 ^ m % 2 ≡ 1
-
 either : (p q : Bool) → (p || q) ≡ true → (p ≡ true) ⊎ (q ≡ true)
 either true q e = inl refl
 either false q e = inr e
 
--- The bits acknowledge a block exactly as the last three lines say.
-acknowledged-says : (x : Send) (block b0 b1 : ℕ) → acknowledged x block b0 b1 ≡ true
-    → (blocksOf x ≡ 2 → block ≡ 0 → b0 ≡ 1) × (blocksOf x ≡ 2 → (block ≡ 0 → ⊥) → b1 ≡ 1) × ((blocksOf x ≡ 2 → ⊥) → (b0 ≡ 1) ⊎ (b1 ≡ 1))
+-- The bits acknowledge a block exactly as the words say.
+pub acknowledged-says : (x : Send) (block b0 b1 : ℕ) → acknowledged x block b0 b1 ≡ true → Acknowledges x block b0 b1
 acknowledged-says x block b0 b1 e = (
   λ two zero. eqb-true b0 1 (rw (eq-eqb (blocksOf x) 2 two, eq-eqb block 0 zero) at e),
   λ two other. eqb-true b1 1 (rw (eq-eqb (blocksOf x) 2 two, ne-eqb block 0 other) at e),
   λ one. ⊎-elim (λ p. inl (eqb-true b0 1 p)) (λ p. inr (eqb-true b1 1 p)) (either (eqb b0 1) (eqb b1 1) (rw (ne-eqb (blocksOf x) 2 one) at e)),
 )
 
-says-acknowledged : (x : Send) (block b0 b1 : ℕ) → (blocksOf x ≡ 2 → block ≡ 0 → b0 ≡ 1) → (blocksOf x ≡ 2 → (block ≡ 0 → ⊥) → b1 ≡ 1)
-    → ((blocksOf x ≡ 2 → ⊥) → (b0 ≡ 1) ⊎ (b1 ≡ 1)) → acknowledged x block b0 b1 ≡ true
-says-acknowledged x block b0 b1 first second sole = go (ℕ-discrete (blocksOf x) 2) (ℕ-discrete block 0)
+says-acknowledged : (x : Send) (block b0 b1 : ℕ) → Acknowledges x block b0 b1 → acknowledged x block b0 b1 ≡ true
+says-acknowledged x block b0 b1 a = go (ℕ-discrete (blocksOf x) 2) (ℕ-discrete block 0)
   where
     one-of : (b0 ≡ 1) ⊎ (b1 ≡ 1) → (eqb b0 1 || eqb b1 1) ≡ true
     one-of (inl e) = rw (eq-eqb b0 1 e)
     one-of (inr e) = rw (eq-eqb b1 1 e) (or-true (eqb b0 1))
 
     go : Dec (blocksOf x ≡ 2) → Dec (block ≡ 0) → acknowledged x block b0 b1 ≡ true
-    go (yes two) (yes zero) = rw (eq-eqb (blocksOf x) 2 two, eq-eqb block 0 zero, eq-eqb b0 1 (first two zero))
-    go (yes two) (no other) = rw (eq-eqb (blocksOf x) 2 two, ne-eqb block 0 other, eq-eqb b1 1 (second two other))
-    go (no one) b = rw (ne-eqb (blocksOf x) 2 one) (one-of (sole one))
+    go (yes two) (yes zero) = rw (eq-eqb (blocksOf x) 2 two, eq-eqb block 0 zero, eq-eqb b0 1 (a .0 two zero))
+    go (yes two) (no other) = rw (eq-eqb (blocksOf x) 2 two, ne-eqb block 0 other, eq-eqb b1 1 (a .1 two other))
+    go (no one) b = rw (ne-eqb (blocksOf x) 2 one) (one-of (a .2 one))
 
--- The grants for which an ACK holds.
-holds-says : (ks : List ℕ) (sent : ℕ → Send) (named k : ℕ) → holdsFor ks sent named k ≡ true
-    → (k ≡ named) ⊎ ((sentUpTo sent named (timesOf ks) ≤ 4) × (named ≤ k))
-holds-says ks sent named k e =
-    ⊎-elim (λ p. inl (eqb-true k named p))
-    (λ p. let q = both (leb (sentUpTo sent named (timesOf ks)) 4) (leb named k) p in inr (leb-true (sentUpTo sent named (timesOf ks)) 4 (q .0), leb-true named k (q .1)))
-    (either (eqb k named) (leb (sentUpTo sent named (timesOf ks)) 4 && leb named k) e)
+-- What is never true is false.
+never : (b : Bool) → (b ≡ true → ⊥) → b ≡ false
+never true h = absurd (h refl)
+never false h = refl
 
-pub says-holds : (ks : List ℕ) (sent : ℕ → Send) (named k : ℕ) → (k ≡ named) ⊎ ((sentUpTo sent named (timesOf ks) ≤ 4) × (named ≤ k))
-    → holdsFor ks sent named k ≡ true
-says-holds ks sent named k (inl e) = rw (eq-eqb k named e)
-says-holds ks sent named k (inr e) =
-    rw (le-leb (sentUpTo sent named (timesOf ks)) 4 (e .0), le-leb named k (e .1)) (or-true (eqb k named))
+-- What was sent is not both.
+apart : (x : Send) → isPdcch x ≡ true → isBlock x ≡ true → ⊥
+apart send.Nothing p b = false≢true p
+apart (send.Granted g) p b = false≢true b
+apart (send.Scheduled s) p b = false≢true p
+apart (send.Released r) p b = false≢true b
 
 module _ (ks : List ℕ) (sent : ℕ → Send) where
-  -- A confirmed block stands at a position of the window, in a grant that carries it, and the reading acknowledges it.
+  -- The PDCCHs for which a reply that names one of them speaks.
+  speaks-says : (named k : ℕ) → speaksFor ks sent named k ≡ true
+      → (isPdcch (sent k) ≡ true) × ((k ≡ named) ⊎ ((sentUpTo sent named (timesOf ks) ≤ 4) × (named ≤ k)))
+  speaks-says named k e =
+      let few : Bool = leb (sentUpTo sent named (timesOf ks)) 4 in
+      let p = both (isPdcch (sent k)) (eqb k named || (few && leb named k)) e in (
+        p .0,
+        ⊎-elim (λ q. inl (eqb-true k named q))
+            (λ q. let r = both few (leb named k) q in inr (leb-true (sentUpTo sent named (timesOf ks)) 4 (r .0), leb-true named k (r .1)))
+            (either (eqb k named) (few && leb named k) (p .1)),
+      )
+
+  pub says-speaks : (named k : ℕ) → isPdcch (sent k) ≡ true → (k ≡ named) ⊎ ((sentUpTo sent named (timesOf ks) ≤ 4) × (named ≤ k))
+      → speaksFor ks sent named k ≡ true
+  says-speaks named k pdcch (inl e) = rw (pdcch, eq-eqb k named e)
+  says-speaks named k pdcch (inr e) =
+      rw (pdcch, le-leb (sentUpTo sent named (timesOf ks)) 4 (e .0), le-leb named k (e .1)) (or-true (eqb k named))
+
+  -- What is named was sent.
+  named-says : (p : Place) → namedSent ks sent p ≡ true → WasSent ks sent p
+  named-says (place.Pdcch m c) e =
+      let p = both (ltb m (length ks)) (hasCce (sent (getD ks m 0)) (c .0)) e in
+      (ltb-true m (length ks) (p .0), p .1)
+  named-says (place.Block m) e =
+      let p = both (ltb m (length ks)) (isBlock (sent (getD ks m 0))) e in
+      (ltb-true m (length ks) (p .0), p .1)
+
+  says-named : (p : Place) → WasSent ks sent p → namedSent ks sent p ≡ true
+  says-named (place.Pdcch m c) w = rw (lt-ltb m (length ks) (w .0), w .1)
+  says-named (place.Block m) w = rw (lt-ltb m (length ks) (w .0), w .1)
+
+  -- A confirmed block stands at a position of the window, what was sent there carries it, and the reading acknowledges it.
   pub carried : (read : Reading) (m block : ℕ) → confirmed ks sent read m block ≡ true
       → (m < length ks) × (block < blocksOf (sent (getD ks m 0))) × (saysAck ks sent read m block ≡ true)
   unfolding confirmed
@@ -92,70 +103,106 @@ module _ (ks : List ℕ) (sent : ℕ → Send) where
       let b = both (ltb m (length ks)) (ltb block (blocksOf (sent (getD ks m 0)))) (a .0) in
       (ltb-true m (length ks) (b .0), ltb-true block (blocksOf (sent (getD ks m 0))) (b .1), a .1)
 
+  carries-on : (read : Reading) (m block : ℕ) → m < length ks → block < blocksOf (sent (getD ks m 0)) → saysAck ks sent read m block ≡ true
+      → confirmed ks sent read m block ≡ true
+  unfolding confirmed
+  carries-on read m block inside carries says =
+      rw (lt-ltb m (length ks) inside, lt-ltb block (blocksOf (sent (getD ks m 0))) carries, says)
+
+  -- A bundled reading, whatever it names.
+  record Bundles (p : Place) (b0 b1 m block : ℕ) : Type 0 where
+    pub there : WasSent ks sent p
+    pub inside : m < length ks
+    pub holds : holdsFor ks sent p (getD ks m 0) ≡ true
+    pub carries : block < blocksOf (sent (getD ks m 0))
+    pub bits : Acknowledges (sent (getD ks m 0)) block b0 b1
+
+  bundled-says : (p : Place) (b0 b1 m block : ℕ) → confirmed ks sent (reading.Bundled p b0 b1) m block ≡ true → Bundles p b0 b1 m block
+  bundled-says p b0 b1 m block e =
+      let c = carried (reading.Bundled p b0 b1) m block e in
+      let a = both (namedSent ks sent p && holdsFor ks sent p (getD ks m 0)) (acknowledged (sent (getD ks m 0)) block b0 b1) (c .2) in
+      let n = both (namedSent ks sent p) (holdsFor ks sent p (getD ks m 0)) (a .0) in
+      record {
+        there = named-says p (n .0);
+        inside = c .0;
+        holds = n .1;
+        carries = c .1;
+        bits = acknowledged-says (sent (getD ks m 0)) block b0 b1 (a .1);
+      }
+
+  says-bundled : (p : Place) (b0 b1 m block : ℕ) → Bundles p b0 b1 m block → confirmed ks sent (reading.Bundled p b0 b1) m block ≡ true
+  says-bundled p b0 b1 m block b =
+      carries-on (reading.Bundled p b0 b1) m block (b .inside) (b .carries)
+      (rw (says-named p (b .there), b .holds, says-acknowledged (sent (getD ks m 0)) block b0 b1 (b .bits)))
+
   -- Exactly these blocks are confirmed: no other, above all none where what the reading names was not sent there with that first CCE.
   pub bundled-exactly : (named c b0 b1 m block : ℕ)
-      → (confirmed ks sent (reading.Bundled named (record { 0 = c }) b0 b1) m block ≡ true) ↔ BundledConfirmed ks sent named c b0 b1 m block
-  unfolding confirmed
+      → (confirmed ks sent (reading.Bundled (place.Pdcch named (record { 0 = c })) b0 b1) m block ≡ true) ↔ BundledConfirmed ks sent named c b0 b1 m block
   bundled-exactly named c b0 b1 m block = (to, from)
     where
-      to : confirmed ks sent (reading.Bundled named (record { 0 = c }) b0 b1) m block ≡ true → BundledConfirmed ks sent named c b0 b1 m block
+      to : confirmed ks sent (reading.Bundled (place.Pdcch named (record { 0 = c })) b0 b1) m block ≡ true → BundledConfirmed ks sent named c b0 b1 m block
       to e =
-          let p = carried (reading.Bundled named (record { 0 = c }) b0 b1) m block e in
-          let q = both (namedSent ks sent named c && holdsFor ks sent (getD ks named 0) (getD ks m 0)) (acknowledged (sent (getD ks m 0)) block b0 b1) (p .2) in
-          let r = both (namedSent ks sent named c) (holdsFor ks sent (getD ks named 0) (getD ks m 0)) (q .0) in
-          let n = both (ltb named (length ks)) (hasCce (sent (getD ks named 0)) c) (r .0) in
-          let a = acknowledged-says (sent (getD ks m 0)) block b0 b1 (q .1) in
-          record {
-            place = ltb-true named (length ks) (n .0);
-            there = n .1;
-            inside = p .0;
-            carries = p .1;
-            upTo = holds-says ks sent (getD ks named 0) (getD ks m 0) (r .1);
-            first = a .0;
-            second = a .1;
-            sole = a .2;
-          }
+          let b = bundled-says (place.Pdcch named (record { 0 = c })) b0 b1 m block e in
+          let s = speaks-says (getD ks named 0) (getD ks m 0) (b .holds) in
+          record { there = b .there; inside = b .inside; pdcch = s .0; carries = b .carries; upTo = s .1; bits = b .bits }
 
-      from : BundledConfirmed ks sent named c b0 b1 m block → confirmed ks sent (reading.Bundled named (record { 0 = c }) b0 b1) m block ≡ true
+      from : BundledConfirmed ks sent named c b0 b1 m block → confirmed ks sent (reading.Bundled (place.Pdcch named (record { 0 = c })) b0 b1) m block ≡ true
       from b =
-          rw (
-            lt-ltb m (length ks) (b .inside),
-            lt-ltb block (blocksOf (sent (getD ks m 0))) (b .carries),
-            lt-ltb named (length ks) (b .place),
-            b .there,
-            says-holds ks sent (getD ks named 0) (getD ks m 0) (b .upTo),
-            says-acknowledged (sent (getD ks m 0)) block b0 b1 (b .first) (b .second) (b .sole),
-          )
+          says-bundled (place.Pdcch named (record { 0 = c })) b0 b1 m block
+          (record { there = b .there; inside = b .inside; holds = says-speaks (getD ks named 0) (getD ks m 0) (b .pdcch) (b .upTo); carries = b .carries; bits = b .bits })
 
-  pub multiplexed-exactly : (named c positions m block : ℕ)
-      → (confirmed ks sent (reading.Multiplexed named (record { 0 = c }) positions) m block ≡ true) ↔ MultiplexedConfirmed ks sent named c positions m block
-  unfolding confirmed
-  multiplexed-exactly named c positions m block = (to, from)
+  -- Read as the scheduled block: the blocks that it carries, and nothing else.
+  pub block-exactly : (named b0 b1 m block : ℕ)
+      → (confirmed ks sent (reading.Bundled (place.Block named) b0 b1) m block ≡ true) ↔ BlockConfirmed ks sent named b0 b1 m block
+  block-exactly named b0 b1 m block = (to, from)
     where
-      to : confirmed ks sent (reading.Multiplexed named (record { 0 = c }) positions) m block ≡ true → MultiplexedConfirmed ks sent named c positions m block
+      to : confirmed ks sent (reading.Bundled (place.Block named) b0 b1) m block ≡ true → BlockConfirmed ks sent named b0 b1 m block
       to e =
-          let p = carried (reading.Multiplexed named (record { 0 = c }) positions) m block e in
-          let q = both (namedSent ks sent named c) (eqb (positions / 2 ^ m % 2) 1) (p .2) in
-          let n = both (ltb named (length ks)) (hasCce (sent (getD ks named 0)) c) (q .0) in
-          record {
-            place = ltb-true named (length ks) (n .0);
-            there = n .1;
-            inside = p .0;
-            carries = p .1;
-            delivered = eqb-true (positions / 2 ^ m % 2) 1 (q .1);
-          }
+          let b = bundled-says (place.Block named) b0 b1 m block e in
+          record { there = b .there; inside = b .inside; same = eqb-true (getD ks m 0) (getD ks named 0) (b .holds); carries = b .carries; bits = b .bits }
 
-      from : MultiplexedConfirmed ks sent named c positions m block → confirmed ks sent (reading.Multiplexed named (record { 0 = c }) positions) m block ≡ true
+      from : BlockConfirmed ks sent named b0 b1 m block → confirmed ks sent (reading.Bundled (place.Block named) b0 b1) m block ≡ true
       from b =
-          rw (
-            lt-ltb m (length ks) (b .inside),
-            lt-ltb block (blocksOf (sent (getD ks m 0))) (b .carries),
-            lt-ltb named (length ks) (b .place),
-            b .there,
-            eq-eqb (positions / 2 ^ m % 2) 1 (b .delivered),
-          )
+          says-bundled (place.Block named) b0 b1 m block
+          (record { there = b .there; inside = b .inside; holds = eq-eqb (getD ks m 0) (getD ks named 0) (b .same); carries = b .carries; bits = b .bits })
+
+  pub multiplexed-exactly : (named : Place) (positions m block : ℕ)
+      → (confirmed ks sent (reading.Multiplexed named positions) m block ≡ true) ↔ MultiplexedConfirmed ks sent named positions m block
+  multiplexed-exactly named positions m block = (to, from)
+    where
+      to : confirmed ks sent (reading.Multiplexed named positions) m block ≡ true → MultiplexedConfirmed ks sent named positions m block
+      to e =
+          let c = carried (reading.Multiplexed named positions) m block e in
+          let n = both (namedSent ks sent named) (eqb (positions / 2 ^ m % 2) 1) (c .2) in
+          record { there = named-says named (n .0); inside = c .0; carries = c .1; delivered = eqb-true (positions / 2 ^ m % 2) 1 (n .1) }
+
+      from : MultiplexedConfirmed ks sent named positions m block → confirmed ks sent (reading.Multiplexed named positions) m block ≡ true
+      from b =
+          carries-on (reading.Multiplexed named positions) m block (b .inside) (b .carries)
+          (rw (says-named named (b .there), eq-eqb (positions / 2 ^ m % 2) 1 (b .delivered)))
 
   -- A refused reading confirms nothing.
   pub refused-none : (k m block : ℕ) → confirmed ks sent (reading.Refused k) m block ≡ false
   unfolding confirmed
   refused-none k m block = and-false (ltb m (length ks) && ltb block (blocksOf (sent (getD ks m 0))))
+
+  -- Of a release nothing is confirmed: it carries no block.
+  pub release-none : (m : ℕ) (p : SentRelease) → sent (getD ks m 0) ≡ send.Released p → (read : Reading) (block : ℕ)
+      → confirmed ks sent read m block ≡ false
+  release-none m p is read block =
+      never (confirmed ks sent read m block) (λ e. let none : block < 0 = rw is at (carried read m block e .1) in omega arith)
+
+  -- The ACK of a PDCCH confirms no scheduled block, and that of a scheduled block nothing that a PDCCH granted.
+  pub pdcch-no-block : (named c b0 b1 m block : ℕ) → isBlock (sent (getD ks m 0)) ≡ true
+      → confirmed ks sent (reading.Bundled (place.Pdcch named (record { 0 = c })) b0 b1) m block ≡ false
+  pdcch-no-block named c b0 b1 m block is =
+      never (confirmed ks sent (reading.Bundled (place.Pdcch named (record { 0 = c })) b0 b1) m block)
+      (λ e. apart (sent (getD ks m 0)) (bundled-exactly named c b0 b1 m block .0 e .pdcch) is)
+
+  pub block-no-pdcch : (named b0 b1 m block : ℕ) → isPdcch (sent (getD ks m 0)) ≡ true
+      → confirmed ks sent (reading.Bundled (place.Block named) b0 b1) m block ≡ false
+  block-no-pdcch named b0 b1 m block is =
+      never (confirmed ks sent (reading.Bundled (place.Block named) b0 b1) m block)
+      (λ e.
+      let b = block-exactly named b0 b1 m block .0 e in
+      apart (sent (getD ks m 0)) is (rw (b .same) (b .there .1)))

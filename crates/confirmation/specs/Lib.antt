@@ -1,2 +1,3 @@
 pub mod Confirmed
+pub mod Exactly
 pub mod Sent

@@ -2,7 +2,8 @@
 -- Assumes nothing.
 use mathlib.Core.Path.{_≡_, sym, ap, _∙_}
 use Rattle.feedback.specs.Answers.{resourceAnswer, inverseAnswer, readingAnswer, claimsAnswer, fedAnswer}
-use Rattle.feedback.specs.Back.{mappedIn, invertedIn, readingIn, checkedIn, fedIn, AnswersComeBack, Apart, SameNumbers, KindsOfAnswers}
+use Rattle.feedback.specs.Back.{windowIn, mappedIn, invertedIn, readingIn, checkedIn, fedIn, AnswersComeBack, Apart, SameNumbers, KindsOfAnswers}
+use Rattle.feedback.proofs.WindowKept.{window-back}
 use Rattle.feedback.proofs.ResourceKept.{resource-back}
 use Rattle.feedback.proofs.InverseKept.{inverse-back}
 use Rattle.feedback.proofs.ReadingKept.{reading-kept}
@@ -12,9 +13,10 @@ use Rattle.feedback.proofs.FeedKept.{feed-kept}
 pub answers-come-back : AnswersComeBack
 answers-come-back =
     record {
+      window = window-back;
       resource = resource-back;
       inverse = inverse-back;
-      reading = λ s n r b0 b1. reading-kept s n r b0 b1 .0;
+      reading = λ s n t r b0 b1. reading-kept s n t r b0 b1 .0;
       claims = λ s n list lent. claims-kept s n list lent .0;
       feed = λ h x. feed-kept h x .0;
     }
@@ -26,9 +28,10 @@ pub same-numbers : SameNumbers
 same-numbers =
     let l : AnswersComeBack = answers-come-back in
     record {
+      window = λ s t n n' e. sym (l .window s n) ∙ ap windowIn e ∙ l .window t n';
       resource = λ s t n m c n' m' c'. alike resourceAnswer mappedIn (l .resource s n m c) (l .resource t n' m' c');
       inverse = λ s t n r n' r'. alike inverseAnswer invertedIn (l .inverse s n r) (l .inverse t n' r');
-      reading = λ s t n r b0 b1 n' r' c0 c1. alike readingAnswer readingIn (l .reading s n r b0 b1) (l .reading t n' r' c0 c1);
+      reading = λ s s' n t r b0 b1 n' t' r' c0 c1. alike readingAnswer readingIn (l .reading s n t r b0 b1) (l .reading s' n' t' r' c0 c1);
       claims = λ s t n n' list list' lent lent'. alike claimsAnswer checkedIn (l .claims s n list lent) (l .claims t n' list' lent');
       feed = λ h i x y. alike fedAnswer fedIn (l .feed h x) (l .feed i y);
     }
@@ -36,7 +39,7 @@ same-numbers =
 pub kinds-of-answers : KindsOfAnswers
 kinds-of-answers =
     record {
-      reading = λ s n r b0 b1. reading-kept s n r b0 b1 .1;
+      reading = λ s n t r b0 b1. reading-kept s n t r b0 b1 .1;
       claims = λ s n list lent. claims-kept s n list lent .1;
       feed = λ h x. feed-kept h x .1;
     }

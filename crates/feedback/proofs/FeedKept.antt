@@ -24,7 +24,7 @@ use Rattle.fold.specs.declared.Seen.{Seen}
 use Rattle.heard.specs.declared.View.{View}
 use Rattle.fold.specs.Fold.{seenOf}
 use Rattle.heard.specs.Memory.{bit, viewAgo}
-use Rattle.reply.specs.Replies.{replyOn, missShown, secondBit, cceOf, windowState, bundledAnswer, symbolAnswer, multiplexedAnswer, windowAnswer}
+use Rattle.reply.specs.Replies.{replyOn, missShown, secondBit, onScheduled, loneAnswer, carrierOf, windowState, bundledAnswer, symbolAnswer, multiplexedAnswer, windowAnswer}
 use Rattle.handset.specs.declared.Fed.{Fed}
 use Rattle.handset.specs.declared.Handset.{Handset}
 use Rattle.handset.specs.Feed.{answerOf, nextAnswer, pushed, feedRefusal, fedAs, feedOf}
@@ -50,13 +50,20 @@ reply-kept kind own (mapped.Refused k) b0 b1 = λ h. (refl, (refl, refl))
 symbol-kept : (s : Settings) (n : ℕ) (view : ℕ → View) (ks : List ℕ) (y : Symbol) → AnswerKept (symbolAnswer s n view ks y)
 unfolding symbolAnswer
 symbol-kept s n view ks (symbol.Sent i b0 b1) =
-    reply-kept kindMultiplexed (λ r b0 b1 h. (refl, (refl, refl))) (resourceOf s n i (cceOf (view (getD ks i 0)))) b0 b1
+    reply-kept kindMultiplexed (λ r b0 b1 h. (refl, (refl, refl))) (carrierOf s n i (view (getD ks i 0))) b0 b1
 symbol-kept s n view ks symbol.Silent = λ h. (refl, (refl, refl))
+
+lone-kept : (s : Settings) (seen : Seen) → AnswerKept (loneAnswer s seen)
+unfolding loneAnswer
+lone-kept s seen =
+    either AnswerKept (seen .scheduled) _ _
+    (reply-kept kindBundled (λ r b0 b1 h. (refl, (refl, refl))) (onScheduled s) (bit (seen .first)) (secondBit s seen))
+    (λ h. (refl, (refl, refl)))
 
 bundled-kept : (s : Settings) (n : ℕ) (seen : Seen) → AnswerKept (bundledAnswer s n seen)
 unfolding bundledAnswer
 bundled-kept s n seen =
-    either AnswerKept (eqb (seen .u) 0) _ _ (λ h. (refl, (refl, refl)))
+    either AnswerKept (eqb (seen .u) 0) _ _ (lone-kept s seen)
     (either AnswerKept (missShown s seen) _ _ (λ h. (refl, (refl, refl)))
     (reply-kept kindBundled (λ r b0 b1 h. (refl, (refl, refl))) (resourceOf s n (seen .position) (seen .cce .0)) (bit (seen .first)) (secondBit s seen)))
 

@@ -5,3 +5,4 @@ pub mod FeedKept
 pub mod InverseKept
 pub mod ReadingKept
 pub mod ResourceKept
+pub mod WindowKept

@@ -1,7 +1,7 @@
--- Document 01's refusal number and values for each case of an answer, as a C caller gets them.
+-- The papers' refusal number and values for each case of an answer, as a C caller gets them.
 -- Assumes nothing.
 use Prim.Native.Nat.{ℕ, zero, suc}
-use mathlib.Core.Bool.{not}
+use mathlib.Core.Bool.{cond, not}
 use mathlib.Core.List.{List, []}
 use lib.Dec.{eqb}
 use lib.ListN.{length}
@@ -14,14 +14,18 @@ use Rattle.resource.specs.declared.Mapped.{Mapped}
 use Rattle.resource.specs.declared.Mapped.the-variants as mapped
 use Rattle.resource.specs.declared.Inverted.{Inverted}
 use Rattle.resource.specs.declared.Inverted.the-variants as inverted
+use Rattle.station.specs.declared.Place.{Place}
+use Rattle.station.specs.declared.Place.the-variants as place
 use Rattle.station.specs.declared.Reading.{Reading}
 use Rattle.station.specs.declared.Reading.the-variants as reading
+use Rattle.station.specs.declared.Told.{Told}
+use Rattle.station.specs.declared.Told.the-variants as told
 use Rattle.claims.specs.declared.Checked.{Checked}
 use Rattle.claims.specs.declared.Checked.the-variants as checked
 use Rattle.reply.specs.declared.Answer.{Answer}
 use Rattle.reply.specs.declared.Answer.the-variants as answer
 use Rattle.heard.specs.declared.Heard.{Heard}
-use Rattle.heard.specs.declared.Heard.the-variants.{Granted}
+use Rattle.heard.specs.declared.Heard.the-variants.{Granted, Scheduled, Released}
 use Rattle.handset.specs.declared.Fed.{Fed}
 use Rattle.handset.specs.declared.Handset.{Handset}
 use Rattle.feedback.specs.declared.ClaimsAnswer.{ClaimsAnswer}
@@ -49,13 +53,22 @@ abbrev pub inverseAnswer : Inverted → InverseAnswer
 inverseAnswer (inverted.At m c) = record { refusal = 0; position = m; cce = c .0 }
 inverseAnswer (inverted.Refused k) = record { refusal = k; position = 0; cce = 0 }
 
+-- A position as a C caller tells it: 65535 where none is told.
+abbrev pub toldPosition : ℕ → Told
+toldPosition position = cond (eqb position 65535) told.NotTold (told.At position)
+
+-- A reading that is not refused, of a PDCCH with its first CCE or of the scheduled block, which has none.
+abbrev pub placeAnswer : Place → ℕ → ℕ → ℕ → ℕ → ReadingAnswer
+placeAnswer (place.Pdcch m c) kind b0 b1 delivered =
+    record { refusal = 0; kind = kind; position = m; cce = c .0; b0 = b0; b1 = b1; delivered = delivered; scheduled = 0 }
+placeAnswer (place.Block m) kind b0 b1 delivered =
+    record { refusal = 0; kind = kind; position = m; cce = 0; b0 = b0; b1 = b1; delivered = delivered; scheduled = 1 }
+
 abbrev pub readingAnswer : Reading → ReadingAnswer
-readingAnswer (reading.Bundled m c b0 b1) =
-    record { refusal = 0; kind = kindBundled; position = m; cce = c .0; b0 = b0; b1 = b1; delivered = 0 }
-readingAnswer (reading.Multiplexed m c positions) =
-    record { refusal = 0; kind = kindMultiplexed; position = m; cce = c .0; b0 = 0; b1 = 0; delivered = positions }
+readingAnswer (reading.Bundled named b0 b1) = placeAnswer named kindBundled b0 b1 0
+readingAnswer (reading.Multiplexed named positions) = placeAnswer named kindMultiplexed 0 0 positions
 readingAnswer (reading.Refused k) =
-    record { refusal = k; kind = kindRefused; position = 0; cce = 0; b0 = 0; b1 = 0; delivered = 0 }
+    record { refusal = k; kind = kindRefused; position = 0; cce = 0; b0 = 0; b1 = 0; delivered = 0; scheduled = 0 }
 
 abbrev pub claimsAnswer : Checked → ClaimsAnswer
 claimsAnswer checked.Clean = record { refusal = 0; kind = claimsClean; index = 0 }
@@ -80,3 +93,10 @@ fedAnswer f = answerNumbers (f .answer) (f .handset)
 abbrev pub grantOf : ℕ → ℕ → ℕ → ℕ → ℕ → Heard
 grantOf blocks first second cce dai =
     Granted (record { blocks = blocks; first = not (eqb first 0); second = not (eqb second 0); cce = record { 0 = cce }; dai = dai })
+
+-- A scheduled block and a release as a C caller feeds them.
+abbrev pub blockOf : ℕ → ℕ → ℕ → Heard
+blockOf blocks first second = Scheduled (record { blocks = blocks; first = not (eqb first 0); second = not (eqb second 0) })
+
+abbrev pub releaseOf : ℕ → ℕ → Heard
+releaseOf cce dai = Released (record { cce = record { 0 = cce }; dai = dai })

@@ -1,17 +1,24 @@
--- The way back from the numbers of a C answer to the answer, and that no answer of a call is lost on the way there. The answers of
--- feedback_window, feedback_answered and feedback_make are numbers of the engine as they are: there is nothing to lose.
+-- The way back from the numbers of a C answer to the answer, and that no answer of a call is lost on the way there. feedback_answered
+-- and feedback_make hand on the engine's own structs, `answeredOf` and `makeOf`: there is no way there on which to lose something.
 -- Assumes nothing.
 use Prim.Native.Nat.{ℕ, zero, suc}
 use mathlib.Core.Bool.{true, cond, not}
 use mathlib.Core.List.{List}
 use mathlib.Core.Path.{_≡_}
 use lib.Dec.{eqb, leb}
+use lib.ListN.{take}
 use Rattle.frame.specs.declared.Settings.{Settings}
+use Rattle.frame.specs.Order.{orderOf}
+use Rattle.frame.specs.Settings.{windowRefusal}
+use Rattle.frame.specs.Table.{windowOf}
 use Rattle.resource.specs.declared.Mapped.{Mapped}
 use Rattle.resource.specs.declared.Inverted.{Inverted}
 use Rattle.resource.specs.Calls.{mappedAs, invertedAs, resourceOf, inverseOf}
+use Rattle.station.specs.declared.Place.{Place}
+use Rattle.station.specs.declared.Place.the-variants as place
 use Rattle.station.specs.declared.Reading.{Reading}
 use Rattle.station.specs.declared.Reading.the-variants as reading
+use Rattle.station.specs.declared.Told.{Told}
 use Rattle.station.specs.Readings.{readOf}
 use Rattle.claims.specs.declared.Checked.{Checked}
 use Rattle.claims.specs.declared.Checked.the-variants as checked
@@ -27,10 +34,26 @@ use Rattle.feedback.specs.declared.FedAnswer.{FedAnswer}
 use Rattle.feedback.specs.declared.ReadingAnswer.{ReadingAnswer}
 use Rattle.feedback.specs.declared.ResourceAnswer.{ResourceAnswer}
 use Rattle.feedback.specs.declared.InverseAnswer.{InverseAnswer}
-use Rattle.feedback.specs.Answers.{resourceAnswer, inverseAnswer, readingAnswer, claimsAnswer, fedAnswer}
+use Rattle.feedback.specs.declared.WindowAnswer.{WindowAnswer}
+use Rattle.feedback.specs.Answers.{windowAnswer, resourceAnswer, inverseAnswer, readingAnswer, claimsAnswer, fedAnswer}
 use Rattle.feedback.specs.Kinds.{kindBundled, kindSilent, kindTaken, kindNoWindow, claimsClash, kindMultiplexed}
 
+-- What feedback_window answers before it stands in arrays of nine: a refusal, or K as printed and its positions in time order.
+pub data ToldWindow : Type 0 where
+  Refused : ℕ → ToldWindow
+  Window : List ℕ → List ℕ → ToldWindow
+
+abbrev pub toldAs : ℕ → List ℕ → List ℕ → ToldWindow
+toldAs zero ks order = Window ks order
+toldAs (suc r) ks order = Refused (suc r)
+
+unfoldable pub toldWindow : Settings → ℕ → ToldWindow
+toldWindow s n = toldAs (windowRefusal s n) (windowOf (s .config) n) (orderOf (windowOf (s .config) n))
+
 -- In every answer a refusal other than 0 is the answer; where it is 0 the kind, if there is one, says what the values are.
+abbrev pub windowIn : WindowAnswer → ToldWindow
+windowIn a = toldAs (a .refusal) (take (a .size) (a .k)) (take (a .size) (a .order))
+
 abbrev pub mappedIn : ResourceAnswer → Mapped
 mappedIn a = mappedAs (a .refusal) (a .resource)
 
@@ -41,11 +64,13 @@ abbrev pub readingAs : ℕ → Reading → Reading
 readingAs zero told = told
 readingAs (suc k) told = reading.Refused (suc k)
 
+abbrev pub placeIn : ReadingAnswer → Place
+placeIn a = cond (eqb (a .scheduled) 0) (place.Pdcch (a .position) (record { 0 = a .cce })) (place.Block (a .position))
+
 abbrev pub readingIn : ReadingAnswer → Reading
 readingIn a =
     readingAs (a .refusal)
-    (cond (eqb (a .kind) kindBundled) (reading.Bundled (a .position) (record { 0 = a .cce }) (a .b0) (a .b1))
-    (reading.Multiplexed (a .position) (record { 0 = a .cce }) (a .delivered)))
+    (cond (eqb (a .kind) kindBundled) (reading.Bundled (placeIn a) (a .b0) (a .b1)) (reading.Multiplexed (placeIn a) (a .delivered)))
 
 abbrev pub checkedAs : ℕ → ℕ → Checked → Checked
 checkedAs zero index told = told
@@ -72,9 +97,10 @@ fedIn a = record { answer = answerIn a; handset = a .handset }
 
 -- Every answer of every call comes back from its numbers.
 pub record AnswersComeBack : Type 0 where
+  pub window : (s : Settings) (n : ℕ) → windowIn (windowAnswer s n) ≡ toldWindow s n
   pub resource : (s : Settings) (n m c : ℕ) → mappedIn (resourceAnswer (resourceOf s n m c)) ≡ resourceOf s n m c
   pub inverse : (s : Settings) (n r : ℕ) → invertedIn (inverseAnswer (inverseOf s n r)) ≡ inverseOf s n r
-  pub reading : (s : Settings) (n r b0 b1 : ℕ) → readingIn (readingAnswer (readOf s n r b0 b1)) ≡ readOf s n r b0 b1
+  pub reading : (s : Settings) (n : ℕ) (t : Told) (r b0 b1 : ℕ) → readingIn (readingAnswer (readOf s n t r b0 b1)) ≡ readOf s n t r b0 b1
   pub claims : (s : Settings) (n : ℕ) (list : List ℕ) (lent : ℕ)
       → checkedIn (claimsAnswer (checkedOf s n list lent)) ≡ checkedOf s n list lent
   pub feed : (h : Handset) (x : Heard) → fedIn (fedAnswer (feedOf h x)) ≡ feedOf h x
@@ -84,22 +110,23 @@ abbrev pub Apart : {A N : Type 0} → (A → N) → A → A → Type 0
 Apart numbers x y = numbers x ≡ numbers y → x ≡ y
 
 pub record SameNumbers : Type 0 where
+  pub window : (s t : Settings) (n n' : ℕ) → windowAnswer s n ≡ windowAnswer t n' → toldWindow s n ≡ toldWindow t n'
   pub resource : (s t : Settings) (n m c n' m' c' : ℕ) → Apart resourceAnswer (resourceOf s n m c) (resourceOf t n' m' c')
   pub inverse : (s t : Settings) (n r n' r' : ℕ) → Apart inverseAnswer (inverseOf s n r) (inverseOf t n' r')
-  pub reading : (s t : Settings) (n r b0 b1 n' r' c0 c1 : ℕ) → Apart readingAnswer (readOf s n r b0 b1) (readOf t n' r' c0 c1)
+  pub reading : (s s' : Settings) (n : ℕ) (t : Told) (r b0 b1 n' : ℕ) (t' : Told) (r' c0 c1 : ℕ) → Apart readingAnswer (readOf s n t r b0 b1) (readOf s' n' t' r' c0 c1)
   pub claims : (s t : Settings) (n n' : ℕ) (list list' : List ℕ) (lent lent' : ℕ)
       → Apart claimsAnswer (checkedOf s n list lent) (checkedOf t n' list' lent')
   pub feed : (h i : Handset) (x y : Heard) → Apart fedAnswer (feedOf h x) (feedOf i y)
 
 -- Where an answer has a kind, it is 0 exactly where the refusal is not 0, and it is one of those that Kinds.antt names, the last of
--- which is `most`: a caller may look at either, and a struct of zeros is no answer of a call. So a feed's answer that is not
+-- which is `most`: a caller may look at either, and a struct of zeros is no such answer. So a feed's answer that is not
 -- refused, silent, taken or without a window is a bundled or a multiplexed reply.
 abbrev pub KindFor : ℕ → ℕ → ℕ → Type 0
 KindFor most kind refusal = (eqb kind 0 ≡ not (eqb refusal 0)) × (leb kind most ≡ true)
 
 pub record KindsOfAnswers : Type 0 where
-  pub reading : (s : Settings) (n r b0 b1 : ℕ)
-      → KindFor kindMultiplexed (readingAnswer (readOf s n r b0 b1) .kind) (readingAnswer (readOf s n r b0 b1) .refusal)
+  pub reading : (s : Settings) (n : ℕ) (t : Told) (r b0 b1 : ℕ)
+      → KindFor kindMultiplexed (readingAnswer (readOf s n t r b0 b1) .kind) (readingAnswer (readOf s n t r b0 b1) .refusal)
   pub claims : (s : Settings) (n : ℕ) (list : List ℕ) (lent : ℕ)
       → KindFor claimsClash (claimsAnswer (checkedOf s n list lent) .kind) (claimsAnswer (checkedOf s n list lent) .refusal)
   pub feed : (h : Handset) (x : Heard) → KindFor kindNoWindow (fedAnswer (feedOf h x) .kind) (fedAnswer (feedOf h x) .refusal)

@@ -8,22 +8,45 @@ use handset::Handset;
 use handset::Made;
 use heard::Grant;
 use heard::Heard;
+use heard::Release;
+use heard::ScheduledBlock;
 use reply::Answer;
 use resource::Cce;
 use resource::Inverted;
 use resource::Mapped;
 use resource::Resource;
+use station::Place;
 use station::Reading;
+use station::Told;
 ghost use mathlib.Core.Path.{_≡_};
 ghost use Rattle.frame.specs.Distance.{answeredOf};
 ghost use Rattle.resource.specs.Calls.{resourceOf, inverseOf};
 ghost use Rattle.station.specs.Readings.{readOf};
 ghost use Rattle.claims.specs.Claims.{checkedOf, scratchOf};
 ghost use lib.ListN.{length};
-ghost use Rattle.feedback.specs.Answers.{windowAnswer, resourceAnswer, inverseAnswer, readingAnswer, claimsAnswer, noReply, answerNumbers, fedAnswer, grantOf};
+ghost use Rattle.feedback.specs.Answers.{windowAnswer, resourceAnswer, inverseAnswer, toldPosition, placeAnswer, readingAnswer, claimsAnswer, noReply, answerNumbers, fedAnswer, grantOf, blockOf, releaseOf};
 ghost use Rattle.handset.specs.Feed.{feedOf};
 ghost use Rattle.handset.specs.Make.{makeOf};
 ghost use Rattle.heard.specs.declared.Heard.the-variants.{Nothing};
+
+// The kinds of a reading and of a feed, then those of claims, as specs/Kinds.antt has them.
+const KIND_REFUSED: u16 = 0;
+
+const KIND_BUNDLED: u16 = 1;
+
+const KIND_MULTIPLEXED: u16 = 2;
+
+const KIND_SILENT: u16 = 3;
+
+const KIND_TAKEN: u16 = 4;
+
+const KIND_NO_WINDOW: u16 = 5;
+
+const CLAIMS_REFUSED: u16 = 0;
+
+const CLAIMS_CLEAN: u16 = 1;
+
+const CLAIMS_CLASH: u16 = 2;
 
 // `size` is M, `k` has K in the print's order and `order` its positions in time order, zeros after the M entries of both; all 0 where
 // refused.
@@ -49,7 +72,7 @@ pub struct InverseAnswer {
 }
 
 // Kind 1 is a bundled reading with the ACK bits, 2 a multiplexed one with the delivered positions, bit p for position p; 0 where
-// refused.
+// refused. `scheduled` is 1 where the reply is read as the scheduled block, which has no CCE.
 #[repr(C)]
 pub struct ReadingAnswer {
     pub refusal: u16,
@@ -59,6 +82,7 @@ pub struct ReadingAnswer {
     pub b0: u16,
     pub b1: u16,
     pub delivered: u16,
+    pub scheduled: u16,
 }
 
 // Kind 1 is clean, 2 a clash with the index of the first claim equal to an earlier one; 0 where refused, and 16 has the index of the
@@ -113,36 +137,60 @@ fn inverse_numbers(x: Inverted) -> InverseAnswer
     }
 }
 
-fn reading_numbers(x: Reading) -> ReadingAnswer
-    ensures { λ r. ⌜ r ≡ readingAnswer x ⌝ }
+// The position that a C caller tells, 65535 for none.
+fn told_position(position: u16) -> Told
+    ensures { λ r. ⌜ r ≡ toldPosition position ⌝ }
+{
+    if position == 65535 {
+        return Told::NotTold;
+    }
+    Told::At(position)
+}
+
+fn place_numbers(x: Place, kind: u16, b0: u16, b1: u16, delivered: u16) -> ReadingAnswer
+    ensures { λ r. ⌜ r ≡ placeAnswer x kind b0 b1 delivered ⌝ }
 {
     match x {
-        Reading::Bundled(m, c, b0, b1) => ReadingAnswer {
+        Place::Pdcch(m, c) => ReadingAnswer {
             refusal: 0,
-            kind: 1,
+            kind,
             position: m,
             cce: c.number(),
             b0,
             b1,
-            delivered: 0,
+            delivered,
+            scheduled: 0,
         },
-        Reading::Multiplexed(m, c, positions) => ReadingAnswer {
+        Place::Block(m) => ReadingAnswer {
             refusal: 0,
-            kind: 2,
+            kind,
             position: m,
-            cce: c.number(),
-            b0: 0,
-            b1: 0,
-            delivered: positions,
+            cce: 0,
+            b0,
+            b1,
+            delivered,
+            scheduled: 1,
         },
+    }
+}
+
+fn reading_numbers(x: Reading) -> ReadingAnswer
+    ensures { λ r. ⌜ r ≡ readingAnswer x ⌝ }
+{
+    match x {
+        Reading::Bundled(place, b0, b1) => place_numbers(place, KIND_BUNDLED, b0, b1, 0),
+        Reading::Multiplexed(place, positions) => {
+            place_numbers(place, KIND_MULTIPLEXED, 0, 0, positions)
+        }
         Reading::Refused(k) => ReadingAnswer {
             refusal: k,
-            kind: 0,
+            kind: KIND_REFUSED,
             position: 0,
             cce: 0,
             b0: 0,
             b1: 0,
             delivered: 0,
+            scheduled: 0,
         },
     }
 }
@@ -153,17 +201,17 @@ fn claims_numbers(x: Checked) -> ClaimsAnswer
     match x {
         Checked::Clean => ClaimsAnswer {
             refusal: 0,
-            kind: 1,
+            kind: CLAIMS_CLEAN,
             index: 0,
         },
         Checked::Clash(i) => ClaimsAnswer {
             refusal: 0,
-            kind: 2,
+            kind: CLAIMS_CLASH,
             index: i as u64,
         },
         Checked::Refused(k, i) => ClaimsAnswer {
             refusal: k,
-            kind: 0,
+            kind: CLAIMS_REFUSED,
             index: i as u64,
         },
     }
@@ -186,10 +234,10 @@ fn answer_numbers(x: Answer, handset: Handset) -> FedAnswer
     ensures { λ r. ⌜ r ≡ answerNumbers x handset ⌝ }
 {
     match x {
-        Answer::Taken => no_reply(0, 4, handset),
-        Answer::NoWindow => no_reply(0, 5, handset),
-        Answer::Silent => no_reply(0, 3, handset),
-        Answer::Refused(k) => no_reply(k, 0, handset),
+        Answer::Taken => no_reply(0, KIND_TAKEN, handset),
+        Answer::NoWindow => no_reply(0, KIND_NO_WINDOW, handset),
+        Answer::Silent => no_reply(0, KIND_SILENT, handset),
+        Answer::Refused(k) => no_reply(k, KIND_REFUSED, handset),
         Answer::Sent(r) => {
             let resource = r.resource;
             FedAnswer {
@@ -214,10 +262,10 @@ fn fed_numbers(f: Fed) -> FedAnswer
 
 // The number of the structs' layout, which the name carries too: a program that was compiled for another layout does not link.
 #[no_mangle]
-pub extern "C" fn feedback_layout_1() -> u16
-    ensures { λ r. ⌜ r ≡ 1 ⌝ }
+pub extern "C" fn feedback_layout_2() -> u16
+    ensures { λ r. ⌜ r ≡ 2 ⌝ }
 {
-    1
+    2
 }
 
 #[no_mangle]
@@ -270,17 +318,20 @@ pub extern "C" fn feedback_inverse(settings: Settings, n: u16, resource: u16) ->
     inverse_numbers(resource::inverse_of(settings, n, Resource::new(resource)))
 }
 
+// `position` is that of the scheduled block that was sent in the window, 65535 where none was.
 #[no_mangle]
 pub extern "C" fn feedback_reading(
     settings: Settings,
     n: u16,
+    position: u16,
     resource: u16,
     b0: u16,
     b1: u16,
 ) -> ReadingAnswer
-    ensures { λ r. ⌜ r ≡ readingAnswer (readOf settings n resource b0 b1) ⌝ }
+    ensures { λ r. ⌜ r ≡ readingAnswer (readOf settings n (toldPosition position) resource b0 b1) ⌝ }
 {
-    reading_numbers(station::read(settings, n, Resource::new(resource), b0, b1))
+    let told = told_position(position);
+    reading_numbers(station::read(settings, n, told, Resource::new(resource), b0, b1))
 }
 
 #[no_mangle]
@@ -330,4 +381,32 @@ pub extern "C" fn feedback_feed_grant(
         dai,
     };
     fed_numbers(handset::feed(handset, Heard::Granted(grant)))
+}
+
+#[no_mangle]
+pub extern "C" fn feedback_feed_scheduled(
+    handset: Handset,
+    blocks: u16,
+    first: u16,
+    second: u16,
+) -> FedAnswer
+    ensures { λ r. ⌜ r ≡ fedAnswer (feedOf handset (blockOf blocks first second)) ⌝ }
+{
+    let block = ScheduledBlock {
+        blocks,
+        first: first != 0,
+        second: second != 0,
+    };
+    fed_numbers(handset::feed(handset, Heard::Scheduled(block)))
+}
+
+#[no_mangle]
+pub extern "C" fn feedback_feed_release(handset: Handset, cce: u16, dai: u16) -> FedAnswer
+    ensures { λ r. ⌜ r ≡ fedAnswer (feedOf handset (releaseOf cce dai)) ⌝ }
+{
+    let release = Release {
+        cce: Cce::new(cce),
+        dai,
+    };
+    fed_numbers(handset::feed(handset, Heard::Released(release)))
 }

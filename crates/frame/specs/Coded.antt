@@ -36,9 +36,9 @@ abbrev pub digits : ℕ → (ℕ → ℕ) → ℕ
 digits zero f = 0
 digits (suc n) f = f 0 + 16 * digits n (λ (i : ℕ). f (suc i))
 
--- the number with these five digits, the first one lowest
-abbrev pub fiveDigits : ℕ → ℕ → ℕ → ℕ → ℕ → ℕ
-fiveDigits a b c d e = a + 16 * b + 256 * c + 4096 * d + 65536 * e
+-- the number with the digits of a half-frame (TS 36.211), which has five subframes, the first one lowest
+abbrev pub halfFrameDigits : ℕ → ℕ → ℕ → ℕ → ℕ → ℕ
+halfFrameDigits a b c d e = a + 16 * b + 256 * c + 4096 * d + 65536 * e
 
 -- digit n, counted from the lowest, which is 0
 abbrev pub digitAt : ℕ → ℕ → ℕ

@@ -3,7 +3,7 @@
 ghost use mathlib.Core.Path.{_≡_};
 ghost use Prim.Native.Nat.{_%_};
 ghost use lib.ListN.{getD};
-ghost use Rattle.frame.specs.Coded.{digits, fiveDigits, digitAt};
+ghost use Rattle.frame.specs.Coded.{digits, halfFrameDigits, digitAt};
 
 // The low four bits of a letter: D has 4, S has 3, U has 5.
 fn low(letter: u8) -> u64
@@ -12,9 +12,9 @@ fn low(letter: u8) -> u64
     (letter % 16) as u64
 }
 
-// Five letters, the digits of five subframes in a row.
-fn five_letters(a: u8, b: u8, c: u8, d: u8, e: u8) -> u64
-    ensures { λ r. ⌜ r ≡ fiveDigits (a % 16) (b % 16) (c % 16) (d % 16) (e % 16) ⌝ }
+// The letters of a half-frame (TS 36.211), which has five subframes, as digits.
+fn half_frame_digits(a: u8, b: u8, c: u8, d: u8, e: u8) -> u64
+    ensures { λ r. ⌜ r ≡ halfFrameDigits (a % 16) (b % 16) (c % 16) (d % 16) (e % 16) ⌝ }
 {
     low(a) + 0x10 * low(b) + 0x100 * low(c) + 0x1000 * low(d) + 0x10000 * low(e)
 }
@@ -23,8 +23,8 @@ fn five_letters(a: u8, b: u8, c: u8, d: u8, e: u8) -> u64
 pub fn packed(l: [u8; 10]) -> u64
     ensures { λ r. ⌜ r ≡ digits 10 (λ i. getD l i 0 % 16) ⌝ }
 {
-    five_letters(l[0], l[1], l[2], l[3], l[4])
-        + 0x100000 * five_letters(l[5], l[6], l[7], l[8], l[9])
+    half_frame_digits(l[0], l[1], l[2], l[3], l[4])
+        + 0x100000 * half_frame_digits(l[5], l[6], l[7], l[8], l[9])
 }
 
 // A number of 64 bits has 16 digits, and 0 after them.

@@ -176,6 +176,11 @@ pub call-accepted : (s : Settings) (n m c : ℕ) (x : Resource) → resourceOf s
 unfolding resourceOf
 call-accepted s n m c x e = not-refused (windowRefusal s n) _ _ x e
 
+-- What refuses the settings or the subframe is what the inverse answers, whatever the resource.
+pub inverse-refused : (s : Settings) (n k : ℕ) → windowRefusal s n ≡ suc k → (r : ℕ) → inverseOf s n r ≡ inverted.Refused (suc k)
+unfolding inverseOf
+inverse-refused s n k e r = rw e
+
 -- The inverse gives back the pair whose resource the call gave.
 pub call-back : (s : Settings) (n m c r : ℕ) → resourceOf s n m c ≡ mapped.At (record { 0 = r }) → inverseOf s n r ≡ inverted.At m (record { 0 = c })
 call-back s n m c r e =

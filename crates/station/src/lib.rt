@@ -5,7 +5,9 @@ use resource::Inverted;
 use resource::Resource;
 use symbols::Delivery;
 ghost use mathlib.Core.Path.{_≡_};
-ghost use Rattle.station.specs.Readings.{bundledReading, readAt, readOf};
+ghost use Rattle.frame.specs.Settings.{orElse, windowRefusal};
+ghost use Rattle.resource.specs.Calls.{inverseSized};
+ghost use Rattle.station.specs.Readings.{placePosition, bundledReading, readAt, readInverted, toldRefusal, readOf};
 
 // What a reply is read as: the PDCCH at a position, with its first CCE, or the scheduled block at a position.
 pub enum Place {
@@ -27,9 +29,9 @@ pub enum Reading {
     Refused(u16),
 }
 
-// The bits of a bundled reply at position m.
-fn read_bundled(s: Settings, m: u16, c: Cce, b0: u16, b1: u16) -> Reading
-    ensures { λ r. ⌜ r ≡ bundledReading s m c b0 b1 ⌝ }
+// The bits of a bundled reply that is read as `place`.
+fn read_bundled(s: Settings, place: Place, b0: u16, b1: u16) -> Reading
+    ensures { λ r. ⌜ r ≡ bundledReading s place b0 b1 ⌝ }
 {
     if 1 < b0 {
         return Reading::Refused(14);
@@ -42,29 +44,91 @@ fn read_bundled(s: Settings, m: u16, c: Cce, b0: u16, b1: u16) -> Reading
             return Reading::Refused(14);
         }
     }
-    Reading::Bundled(m, c, b0, b1)
+    Reading::Bundled(place, b0, b1)
 }
 
-// The reading at position m of a window of `size` positions.
-fn read_at(s: Settings, size: u16, m: u16, c: Cce, b0: u16, b1: u16) -> Reading
-    ensures { λ r. ⌜ r ≡ readAt s size m c b0 b1 ⌝ }
+// The position of what a reply is read as.
+fn position_of(place: Place) -> u16
+    ensures { λ r. ⌜ r ≡ placePosition place ⌝ }
+{
+    match place {
+        Place::Pdcch(m, _) => m,
+        Place::Block(m) => m,
+    }
+}
+
+// The reading at a place in a window of `size` positions.
+fn read_at(s: Settings, size: u16, place: Place, b0: u16, b1: u16) -> Reading
+    ensures { λ r. ⌜ r ≡ readAt s size place b0 b1 ⌝ }
 {
     if frame::is_bundled(s, size) {
-        return read_bundled(s, m, c, b0, b1);
+        return read_bundled(s, place, b0, b1);
     }
-    match symbols::delivered(size, m, b0, b1) {
-        Delivery::Set(positions) => Reading::Multiplexed(m, c, positions),
+    match symbols::delivered(size, position_of(place), b0, b1) {
+        Delivery::Set(positions) => Reading::Multiplexed(place, positions),
         Delivery::NoRow => Reading::Refused(14),
     }
 }
 
-// The reply that came on resource r in uplink subframe n with the bits b0 and b1, the second 0 in a one-bit reply.
-pub fn read(s: Settings, n: u16, r: Resource, b0: u16, b1: u16) -> Reading
-    ensures { λ x. ⌜ x ≡ readOf s n (r .0) b0 b1 ⌝ }
+// The reading of a dynamic resource in a window of `size` positions: settings and size are tested here, with the resource.
+fn read_dynamic(s: Settings, size: u16, r: Resource, b0: u16, b1: u16) -> Reading
+    ensures { λ x. ⌜ x ≡ readInverted s size (inverseSized s size (r .0)) b0 b1 ⌝ }
 {
-    let size = frame::size_of(s.config, n);
     match resource::inverse_sized(s, size, r) {
         Inverted::Refused(k) => Reading::Refused(k),
-        Inverted::At(m, c) => read_at(s, size, m, c, b0, b1),
+        Inverted::At(m, c) => read_at(s, size, Place::Pdcch(m, c), b0, b1),
+    }
+}
+
+// What a told position m is refused by, in a window of `size` positions: 11 and 18; 0 if it is not refused.
+fn told_refusal(s: Settings, size: u16, m: u16) -> u16
+    ensures { λ k. ⌜ k ≡ toldRefusal s size (Told.At m) ⌝ }
+{
+    if size <= m {
+        return 11;
+    }
+    if frame::has_scheduled(s) {
+        return 0;
+    }
+    18
+}
+
+// The refusal of a told position comes after those of settings and subframe.
+fn first_refusal(s: Settings, n: u16, told: u16) -> u16
+    ensures { λ k. ⌜ k ≡ orElse (windowRefusal s n) told ⌝ }
+{
+    let refusal = frame::window_refusal(s, n);
+    if refusal != 0 {
+        return refusal;
+    }
+    told
+}
+
+// The reading that is told position m: any resource but the scheduled one is dynamic. The settings are tested once on each way.
+fn read_told(s: Settings, n: u16, m: u16, r: Resource, b0: u16, b1: u16) -> Reading
+    ensures { λ x. ⌜ x ≡ readOf s n (Told.At m) (r .0) b0 b1 ⌝ }
+{
+    let size = frame::size_of(s.config, n);
+    let told = told_refusal(s, size, m);
+    if told != 0 {
+        return Reading::Refused(first_refusal(s, n, told));
+    }
+    if r.number() != s.scheduled {
+        return read_dynamic(s, size, r, b0, b1);
+    }
+    let refusal = frame::window_refusal(s, n);
+    if refusal != 0 {
+        return Reading::Refused(refusal);
+    }
+    read_at(s, size, Place::Block(m), b0, b1)
+}
+
+// The reply that came on resource r in uplink subframe n with the bits b0 and b1, the second 0 in a one-bit reply.
+pub fn read(s: Settings, n: u16, told: Told, r: Resource, b0: u16, b1: u16) -> Reading
+    ensures { λ x. ⌜ x ≡ readOf s n told (r .0) b0 b1 ⌝ }
+{
+    match told {
+        Told::At(m) => read_told(s, n, m, r, b0, b1),
+        Told::NotTold => read_dynamic(s, frame::size_of(s.config, n), r, b0, b1),
     }
 }

@@ -8,15 +8,20 @@
 
 use feedback_tests::c::{
     feedback_answered, feedback_claims, feedback_feed_grant, feedback_feed_nothing,
-    feedback_inverse, feedback_make, feedback_reading, feedback_resource, feedback_window,
+    feedback_feed_release, feedback_feed_scheduled, feedback_inverse, feedback_make,
+    feedback_reading, feedback_resource, feedback_window,
 };
+use feedback_tests::compare::plain_feed;
 use feedback_tests::model::{bundles, edge, is_uplink, Model, Window};
 use feedback_tests::plain::{
-    plain_answered, plain_claims, plain_feed_grant, plain_feed_nothing, plain_inverse, plain_make,
-    plain_reading, plain_resource, plain_window,
+    plain_answered, plain_claims, plain_inverse, plain_make, plain_reading, plain_resource,
+    plain_window,
 };
 use feedback_tests::random::Random;
-use feedback_tests::{AnsweredAnswer, ClaimsAnswer, Fed, Grant, Handset, Settings, WindowAnswer};
+use feedback_tests::{
+    AnsweredAnswer, Block, ClaimsAnswer, Fed, Grant, Handset, Heard, ReadingAnswer, Release,
+    Settings, WindowAnswer, NOT_TOLD,
+};
 use std::hint::black_box;
 use std::time::Instant;
 
@@ -31,13 +36,14 @@ const RUNS: usize = 200;
 
 /// One allowed input of the calls on numbers: the subframe is the one at the
 /// position, the resource is that of the pair, and the bits are a reply that is
-/// read.
+/// read, told of a scheduled block or not.
 struct Input {
     settings: Settings,
     n: u16,
     subframe: u16,
     position: u16,
     cce: u16,
+    told: u16,
     resource: u16,
     bits: (u16, u16),
 }
@@ -46,7 +52,7 @@ struct Input {
 #[derive(Clone, Copy)]
 struct Feed {
     handset: Handset,
-    heard: Option<Grant>,
+    heard: Heard,
 }
 
 /// Which feeds of the runs belong to a row.
@@ -55,7 +61,7 @@ type Fits<'a> = &'a dyn Fn(&Feed) -> bool;
 /// A whole run: its settings, and what each subframe hears.
 struct Run {
     settings: Settings,
-    heard: Vec<Option<Grant>>,
+    heard: Vec<Heard>,
 }
 
 /// A list of claims for a window.
@@ -79,7 +85,9 @@ do so less.
 The numbers are allowed ones over all configurations, bandwidths, modes and blocks.
 The feeds are those of {RUNS} runs of 20 frames: a grant in seven of ten downlink
 subframes, one in twenty of them lost, nine of ten blocks decoded. A feed checks
-the whole state that it is lent, and a list of claims clears its scratch.
+the whole state that it is lent, and a list of claims clears its scratch. With a
+schedule one subframe of each window has a scheduled block, every other time, and
+one PDCCH in eight is a release.
 
 | call | ours, ns | plain Rust, ns | ratio |
 |---|---:|---:|---:|"
@@ -89,6 +97,7 @@ the whole state that it is lent, and a list of claims clears its scratch.
     numbers(&model, &mut random);
     feeds(&model, &mut random);
     claims(&model, &mut random);
+    schedule(&model, &mut Random::new(1));
 }
 
 fn numbers(model: &Model, random: &mut Random) {
@@ -113,52 +122,128 @@ fn size(model: &Model, input: &Input) -> u16 {
 fn input(model: &Model, random: &mut Random, fits: impl Fn(&Input) -> bool) -> Input {
     loop {
         let settings = random.settings();
-        let window = random.window(model, settings.config);
-        let (position, cce) =
-            (random.below16(window.size()), random.below16(edge(settings.nrb, 4)));
-        let resource = model.resource(settings, window.n, position, cce).resource;
-        let bits = (random.below16(2), random.below16(2));
-        let subframe = (window.n + 20 - window.k[usize::from(position)]) % 10;
-        let input = Input { settings, n: window.n, subframe, position, cce, resource, bits };
-        let read = model.reading(settings, window.n, resource, bits.0, bits.1);
-        if read.refusal == 0 && fits(&input) {
+        let input = unread(model, settings, random);
+        if is_read(model, &input) && fits(&input) {
             return input;
         }
     }
 }
 
+/// One that is told of a scheduled block, and reads on the block's resource or on
+/// that of a PDCCH.
+fn told_input(model: &Model, random: &mut Random, of_block: bool) -> Input {
+    loop {
+        let settings = random.scheduled_settings();
+        let input = unread(model, settings, random);
+        let size = size(model, &input);
+        let told = Input { told: random.below16(size), ..input };
+        let input = match of_block {
+            true => Input { resource: settings.scheduled, ..told },
+            false => told,
+        };
+        if is_read(model, &input) {
+            return input;
+        }
+    }
+}
+
+/// An input whose bits may say nothing.
+fn unread(model: &Model, settings: Settings, random: &mut Random) -> Input {
+    let window = random.window(model, settings.config);
+    let (position, cce) = (random.below16(window.size()), random.below16(edge(settings.nrb, 4)));
+    let resource = model.resource(settings, window.n, position, cce).resource;
+    let bits = (random.below16(2), random.below16(2));
+    let subframe = (window.n + 20 - window.k[usize::from(position)]) % 10;
+    Input { settings, n: window.n, subframe, position, cce, told: NOT_TOLD, resource, bits }
+}
+
+fn is_read(model: &Model, input: &Input) -> bool {
+    let Input { settings, n, told, resource, bits: (b0, b1), .. } = *input;
+    model.reading(settings, n, told, resource, b0, b1).refusal == 0
+}
+
 fn feeds(model: &Model, random: &mut Random) {
     let runs: Vec<Run> = (0..RUNS).map(|_| run(model, random)).collect();
     let feeds: Vec<Feed> = runs.iter().flat_map(|run| feeds_of(model, run)).collect();
-    let window = |feed: &Feed| model.window(feed.handset.settings.config, feed.handset.next);
     let rows: [(&str, Fits); 4] = [
-        ("feed, downlink, grant", &|feed| feed.heard.is_some()),
+        ("feed, downlink, grant", &|feed| feed.heard != Heard::Nothing),
         ("feed, downlink, nothing", &|feed| {
             let Handset { settings, next, .. } = feed.handset;
-            feed.heard.is_none() && !is_uplink(settings.config, next)
+            feed.heard == Heard::Nothing && !is_uplink(settings.config, next)
         }),
-        ("feed, uplink, bundled window", &|feed| {
-            window(feed).is_some_and(|window| bundles(feed.handset.settings, window.size()))
-        }),
-        ("feed, uplink, multiplexed window", &|feed| {
-            window(feed).is_some_and(|window| !bundles(feed.handset.settings, window.size()))
-        }),
+        ("feed, uplink, bundled window", &|feed| answers(model, feed, true)),
+        ("feed, uplink, multiplexed window", &|feed| answers(model, feed, false)),
     ];
-    for (name, fits) in rows {
-        let inputs: Vec<Feed> = feeds.iter().copied().filter(fits).take(INPUTS / 4).collect();
-        row(name, &inputs, inputs.len(), engine_feed, plain_rust_feed);
-    }
+    feed_rows(&feeds, &rows);
     // Few enough that a batch is short, as the others are.
     let runs = &runs[..10];
     let number = runs.iter().map(|run| run.heard.len()).sum();
     row("feed, one after another in a run", runs, number, engine_run, plain_rust_run);
 }
 
+/// Whether a feed answers a window that is bundled, or one that is not.
+fn answers(model: &Model, feed: &Feed, bundled: bool) -> bool {
+    let Handset { settings, next, .. } = feed.handset;
+    let window = model.window(settings.config, next);
+    window.is_some_and(|window| bundles(settings, window.size()) == bundled)
+}
+
+fn feed_rows(feeds: &[Feed], rows: &[(&str, Fits)]) {
+    for (name, fits) in rows {
+        let inputs: Vec<Feed> = feeds.iter().copied().filter(fits).take(INPUTS / 4).collect();
+        row(name, &inputs, inputs.len(), engine_feed, plain_rust_feed);
+    }
+}
+
+/// The calls that a schedule brings, and the answers of windows with one.
+fn schedule(model: &Model, random: &mut Random) {
+    for (name, of_block) in
+        [("reading, told, on the block's resource", true), ("reading, told, on another", false)]
+    {
+        let inputs: Vec<Input> = (0..INPUTS).map(|_| told_input(model, random, of_block)).collect();
+        row(name, &inputs, inputs.len(), engine_reading, plain_rust_reading);
+    }
+    let runs: Vec<Run> = (0..RUNS).map(|_| scheduled_run(model, random)).collect();
+    let feeds: Vec<Feed> = runs.iter().flat_map(|run| feeds_of(model, run)).collect();
+    let rows: [(&str, Fits); 5] = [
+        ("feed, downlink, scheduled block", &|feed| matches!(feed.heard, Heard::Block(_))),
+        ("feed, downlink, release", &|feed| matches!(feed.heard, Heard::Release(_))),
+        ("feed, downlink, grant, with a schedule", &|feed| matches!(feed.heard, Heard::Grant(_))),
+        ("feed, uplink, bundled window, with a schedule", &|feed| answers(model, feed, true)),
+        ("feed, uplink, multiplexed window, with a schedule", &|feed| answers(model, feed, false)),
+    ];
+    feed_rows(&feeds, &rows);
+}
+
+/// A run of grants, in which some become releases and some a scheduled block.
+fn scheduled_run(model: &Model, random: &mut Random) -> Run {
+    let Run { settings, mut heard } = run(model, random);
+    let n1 = 1 + random.below16(2047);
+    let settings = Settings { n1, ..settings }.with_scheduled(random.below16(n1));
+    for brought in &mut heard {
+        if let (Heard::Grant(Grant { cce, dai, .. }), true) = (*brought, random.once_in(8)) {
+            *brought = Heard::Release(Release { cce, dai });
+        }
+    }
+    for window in model.windows().iter().filter(|window| window.config == settings.config) {
+        for frame in 0..20 {
+            let uplink = 10 * frame + usize::from(window.n);
+            let k = random.one_of(&window.k);
+            if let (Some(at), true) = (uplink.checked_sub(k.into()), random.once_in(2)) {
+                let flag = u16::from(!random.once_in(10));
+                let blocks = 1 + random.below16(settings.blocks);
+                heard[at] = Heard::Block(Block { blocks, first: flag, second: flag });
+            }
+        }
+    }
+    Run { settings, heard }
+}
+
 /// A realistic run of 20 frames: most subframes have a grant, by the DAI rule,
 /// few are lost, and most blocks are decoded.
 fn run(model: &Model, random: &mut Random) -> Run {
     let settings = random.settings();
-    let mut heard = vec![None; 200];
+    let mut heard = vec![Heard::Nothing; 200];
     for window in model.windows().iter().filter(|window| window.config == settings.config) {
         for frame in 0..20 {
             let uplink = 10 * frame + usize::from(window.n);
@@ -172,7 +257,7 @@ fn run(model: &Model, random: &mut Random) -> Run {
                     let grant = Grant { dai: dai % 4 + 1, first, second, ..random.grant(settings) };
                     let at = uplink.checked_sub(usize::from(k));
                     if let (Some(at), false) = (at, random.once_in(20)) {
-                        heard[at] = Some(grant);
+                        heard[at] = Heard::Grant(grant);
                     }
                     dai += 1;
                 }
@@ -329,16 +414,19 @@ fn plain_rust_inverse(input: &Input) -> u64 {
 }
 
 fn engine_reading(input: &Input) -> u64 {
-    let (b0, b1) = input.bits;
+    let Input { settings, n, told, resource, bits: (b0, b1), .. } = *input;
     // SAFETY: the call takes numbers and gives numbers, and is lent no memory.
-    let answer = unsafe { feedback_reading(input.settings, input.n, input.resource, b0, b1) };
-    u64::from(answer.delivered) << 16 | u64::from(answer.cce)
+    said(unsafe { feedback_reading(settings, n, told, resource, b0, b1) })
 }
 
 fn plain_rust_reading(input: &Input) -> u64 {
-    let (b0, b1) = input.bits;
-    let answer = plain_reading(input.settings, input.n, input.resource, b0, b1);
-    u64::from(answer.delivered) << 16 | u64::from(answer.cce)
+    let Input { settings, n, told, resource, bits: (b0, b1), .. } = *input;
+    said(plain_reading(settings, n, told, resource, b0, b1))
+}
+
+fn said(answer: ReadingAnswer) -> u64 {
+    let place = u64::from(answer.scheduled) << 32 | u64::from(answer.delivered) << 16;
+    place | u64::from(answer.cce)
 }
 
 fn engine_make(input: &Input) -> u64 {
@@ -366,25 +454,24 @@ fn value(fed: Fed) -> u64 {
     u64::from(fed.resource) << 32 | u64::from(fed.kind) << 16 | u64::from(bits)
 }
 
-fn engine_fed(handset: Handset, heard: Option<Grant>) -> Fed {
+fn engine_fed(handset: Handset, heard: Heard) -> Fed {
     // SAFETY: the calls take numbers and give numbers, and are lent no memory.
     unsafe {
         match heard {
-            None => feedback_feed_nothing(handset),
-            Some(Grant { blocks, first, second, cce, dai }) => {
+            Heard::Nothing => feedback_feed_nothing(handset),
+            Heard::Grant(Grant { blocks, first, second, cce, dai }) => {
                 feedback_feed_grant(handset, blocks, first, second, cce, dai)
             }
+            Heard::Block(Block { blocks, first, second }) => {
+                feedback_feed_scheduled(handset, blocks, first, second)
+            }
+            Heard::Release(Release { cce, dai }) => feedback_feed_release(handset, cce, dai),
         }
     }
 }
 
-fn plain_rust_fed(handset: Handset, heard: Option<Grant>) -> Fed {
-    match heard {
-        None => plain_feed_nothing(handset),
-        Some(Grant { blocks, first, second, cce, dai }) => {
-            plain_feed_grant(handset, blocks, first, second, cce, dai)
-        }
-    }
+fn plain_rust_fed(handset: Handset, heard: Heard) -> Fed {
+    plain_feed(handset, heard)
 }
 
 fn engine_run(run: &Run) -> u64 {
@@ -399,7 +486,7 @@ fn plain_rust_run(run: &Run) -> u64 {
 
 /// Each feed gets the handset that the one before returned.
 #[inline(always)]
-fn whole_run(run: &Run, mut handset: Handset, feed: impl Fn(Handset, Option<Grant>) -> Fed) -> u64 {
+fn whole_run(run: &Run, mut handset: Handset, feed: impl Fn(Handset, Heard) -> Fed) -> u64 {
     let mut sum = 0u64;
     for heard in &run.heard {
         let fed = feed(handset, *heard);

@@ -1,14 +1,22 @@
 //! The handset's side: making one and feeding it.
+//!
+//! What a handset remembers is read as a diary: what was heard, each with its
+//! time, a count of subframes of which the last digit is the subframe in the
+//! frame. Windows then have times too, those of their uplink subframes, and two
+//! things are in one window if they are answered at the same time.
 
-use super::{bundles, edge, is_uplink, lowest, settings_refusal, Model, Window};
-use crate::{Fed, Grant, Handset, Made, Settings, Slot};
+use super::{bundles, edge, first_met, is_uplink, settings_refusal, Model, Window};
+use crate::{Block, Fed, Grant, Handset, Heard, Made, Release, Settings, Slot, NONE};
 use std::cmp::Reverse;
 
-/// A grant that was heard in a window.
-struct Heard {
+/// What was heard, and when.
+type Entry = (u16, Heard);
+
+/// What was heard at a position of a window.
+struct Member {
     position: u16,
     k: u16,
-    grant: Grant,
+    heard: Heard,
 }
 
 impl Model {
@@ -19,34 +27,26 @@ impl Model {
         }
     }
 
-    pub fn feed(&self, handset: Handset, brought: Option<Grant>) -> Fed {
-        let Handset { settings, next, past } = handset;
-        if state_is_bad(&handset) {
+    pub fn feed(&self, handset: Handset, brought: impl Into<Heard>) -> Fed {
+        let brought = brought.into();
+        let Some(diary) = self.diary_of_good(&handset) else {
             return Fed::refused(8, handset);
-        }
-        if let Some(refusal) = brought.and_then(|grant| grant_refusal(settings, next, grant)) {
+        };
+        let Handset { settings, next, .. } = handset;
+        if let Some(refusal) = self.refusal(settings, &diary, (now(&handset), brought)) {
             return Fed::refused(refusal, handset);
         }
-        let remembered: Vec<Slot> = [brought.map_or(Slot::NOTHING, slot)]
-            .into_iter()
-            .chain(past)
-            .take(past.len())
-            .collect();
-        let after = Handset {
-            settings,
-            next: if next == 9 { 0 } else { next + 1 },
-            past: remembered.try_into().expect("as many as before"),
-        };
+        let after = remember(&handset, brought);
         if !is_uplink(settings.config, next) {
             return Fed::answer(Fed::TAKEN, after);
         }
         match self.window(settings.config, next) {
             None => Fed::answer(Fed::NO_WINDOW, after),
             Some(window) => {
-                let heard = heard_in(window, &past);
+                let members = members(window, now(&handset), &diary);
                 let reply = match bundles(settings, window.size()) {
-                    true => self.bundled(settings, window, heard),
-                    false => self.multiplexed(settings, window, heard),
+                    true => self.bundled(settings, window, members),
+                    false => self.multiplexed(settings, window, members),
                 };
                 let silent = Fed::answer(Fed::SILENT, after);
                 reply.map_or(silent, |(kind, resource, bits)| {
@@ -60,108 +60,196 @@ impl Model {
         &self,
         settings: Settings,
         window: &Window,
-        mut heard: Vec<Heard>,
+        mut members: Vec<Member>,
     ) -> Option<(u16, u16, (u16, u16))> {
-        heard.sort_by_key(|heard| Reverse(heard.k));
-        let last = heard.last()?;
-        let dais = [1, 2, 3, 4].into_iter().cycle();
-        let if_none_was_lost = dais.take(heard.len()).last();
-        if settings.config != 0 && Some(last.grant.dai) != if_none_was_lost {
+        members.sort_by_key(|member| Reverse(member.k));
+        let pdcchs: Vec<&Member> =
+            members.iter().filter(|member| pdcch(member.heard).is_some()).collect();
+        let named = match pdcchs.last() {
+            None => members.first()?, // a scheduled block, with no DAI that could show a miss
+            Some(last) => last,
+        };
+        let dai = pdcch(named.heard).map(|(_, dai)| dai);
+        if settings.config != 0 && dai != dai_of(pdcchs.len()) {
             return None;
         }
-        let ack = |block: usize| u16::from(heard.iter().all(|heard| decoded(heard.grant)[block]));
+        let ack = |block: usize| u16::from(members.iter().all(|each| decoded(each.heard)[block]));
         let bits = (ack(0), if settings.blocks == 2 { ack(1) } else { 0 });
-        let resource = self.resource(settings, window.n, last.position, last.grant.cce);
-        Some((Fed::BUNDLED, resource.resource, bits))
+        Some((Fed::BUNDLED, self.resource_of(settings, window, named), bits))
     }
 
     fn multiplexed(
         &self,
         settings: Settings,
         window: &Window,
-        heard: Vec<Heard>,
+        members: Vec<Member>,
     ) -> Option<(u16, u16, (u16, u16))> {
-        let at = |position| heard.iter().find(|heard| heard.position == position);
-        let letter = |position| at(position).map_or('D', |heard| letter_of(heard.grant));
+        let at = |position| members.iter().find(|member| member.position == position);
+        let letter = |position| at(position).map_or('D', |member| letter_of(member.heard));
         let state: String = (0..window.size()).map(letter).collect();
         let symbol = self.symbol(&state)?;
-        let cce = at(symbol.index).expect("index i is always a heard position").grant.cce;
-        let resource = self.resource(settings, window.n, symbol.index, cce);
-        Some((Fed::MULTIPLEXED, resource.resource, (symbol.b0, symbol.b1)))
+        let member = at(symbol.index).expect("index i is always a heard position");
+        let resource = self.resource_of(settings, window, member);
+        Some((Fed::MULTIPLEXED, resource, (symbol.b0, symbol.b1)))
+    }
+
+    /// The resource of a PDCCH, or the one that is set for scheduled blocks.
+    fn resource_of(&self, settings: Settings, window: &Window, member: &Member) -> u16 {
+        match pdcch(member.heard) {
+            None => settings.scheduled,
+            Some((cce, _)) => self.resource(settings, window.n, member.position, cce).resource,
+        }
+    }
+
+    /// The diary of a lent state, unless it is bad.
+    fn diary_of_good(&self, handset: &Handset) -> Option<Vec<Entry>> {
+        if settings_refusal(handset.settings).is_some() || handset.next > 9 {
+            return None;
+        }
+        let diary = diary(handset)?;
+        let is_bad = |entry: &Entry| self.refusal(handset.settings, &diary, *entry).is_some();
+        (!diary.iter().any(is_bad)).then_some(diary)
+    }
+
+    /// The first among the causes that something heard meets at its time, beside
+    /// all that was heard.
+    fn refusal(&self, settings: Settings, diary: &[Entry], entry: Entry) -> Option<u16> {
+        let (time, heard) = entry;
+        let Settings { config, nrb, blocks, scheduled, .. } = settings;
+        first_met([
+            (9, heard != Heard::Nothing && is_uplink(config, time % 10)),
+            (10, carried(heard).is_some_and(|carried| !(1..=blocks).contains(&carried))),
+            (11, pdcch(heard).is_some_and(|(cce, _)| cce >= edge(nrb, 4))),
+            (12, pdcch(heard).is_some_and(|(_, dai)| ![1, 2, 3, 4].contains(&dai))),
+            (18, is_block(heard) && (scheduled == NONE || self.is_second(config, diary, time))),
+        ])
+    }
+
+    /// Whether the window of a time has a scheduled block at another time.
+    fn is_second(&self, config: u16, diary: &[Entry], time: u16) -> bool {
+        let mut others = diary.iter().filter(|(other, heard)| *other != time && is_block(*heard));
+        others.any(|(other, _)| self.answered_at(config, *other) == self.answered_at(config, time))
+    }
+
+    /// The time at which a downlink subframe is answered.
+    fn answered_at(&self, config: u16, time: u16) -> Option<u16> {
+        let of_config = self.windows().iter().filter(|window| window.config == config);
+        let mut ends = of_config.flat_map(|window| window.k.iter().map(move |k| (k, window.n)));
+        ends.find(|(k, n)| (time + *k) % 10 == *n).map(|(k, _)| time + k)
     }
 }
 
-/// The letter of a position where a grant was heard.
-fn letter_of(grant: Grant) -> char {
-    if decoded(grant) == [true, true] {
+/// The time of the subframe that a handset expects; all that it remembers was
+/// heard at times above 0.
+fn now(handset: &Handset) -> u16 {
+    20 + handset.next
+}
+
+/// All that a handset remembers, or nothing if one of it is of a kind that does
+/// not exist.
+fn diary(handset: &Handset) -> Option<Vec<Entry>> {
+    let ages = 1..=handset.past.len() as u16;
+    ages.zip(handset.past).map(|(age, slot)| Some((now(handset) - age, heard(slot)?))).collect()
+}
+
+/// What was heard in the window that is answered now.
+fn members(window: &Window, now: u16, diary: &[Entry]) -> Vec<Member> {
+    let mut members = Vec::new();
+    for (position, k) in (0..).zip(window.k.iter().copied()) {
+        let here =
+            diary.iter().filter(|(time, heard)| *time == now - k && *heard != Heard::Nothing);
+        members.extend(here.map(|(_, heard)| Member { position, k, heard: *heard }));
+    }
+    members
+}
+
+/// The handset that has heard one thing more.
+fn remember(handset: &Handset, heard: Heard) -> Handset {
+    let Handset { settings, next, past } = *handset;
+    let remembered: Vec<Slot> = [slot(heard)].into_iter().chain(past).take(past.len()).collect();
+    Handset {
+        settings,
+        next: if next == 9 { 0 } else { next + 1 },
+        past: remembered.try_into().expect("as many as before"),
+    }
+}
+
+/// The DAI that the last of so many PDCCHs has if none was lost; of none there is
+/// no last one.
+fn dai_of(pdcchs: usize) -> Option<u16> {
+    [1, 2, 3, 4].into_iter().cycle().take(pdcchs).last()
+}
+
+fn is_block(heard: Heard) -> bool {
+    matches!(heard, Heard::Block(_))
+}
+
+/// First CCE and DAI of what comes by PDCCH.
+fn pdcch(heard: Heard) -> Option<(u16, u16)> {
+    match heard {
+        Heard::Grant(Grant { cce, dai, .. }) | Heard::Release(Release { cce, dai }) => {
+            Some((cce, dai))
+        }
+        Heard::Nothing | Heard::Block(_) => None,
+    }
+}
+
+/// The transport blocks of what carries some.
+fn carried(heard: Heard) -> Option<u16> {
+    match heard {
+        Heard::Grant(Grant { blocks, .. }) | Heard::Block(Block { blocks, .. }) => Some(blocks),
+        Heard::Nothing | Heard::Release(_) => None,
+    }
+}
+
+/// The letter of a position where something was heard.
+fn letter_of(heard: Heard) -> char {
+    if decoded(heard) == [true, true] {
         'A'
     } else {
         'N'
     }
 }
 
-/// Whether each block was decoded; the result of a sole block stands for both.
-fn decoded(grant: Grant) -> [bool; 2] {
-    let (first, second) = (grant.first != 0, grant.second != 0);
-    [first, if grant.blocks == 1 { first } else { second }]
+/// Whether each block was decoded; the result of a sole block stands for both, and
+/// a release counts as if everything was.
+fn decoded(heard: Heard) -> [bool; 2] {
+    let (blocks, first, second) = match heard {
+        Heard::Grant(Grant { blocks, first, second, .. }) => (blocks, first, second),
+        Heard::Block(Block { blocks, first, second }) => (blocks, first, second),
+        Heard::Nothing | Heard::Release(_) => return [true, true],
+    };
+    [first != 0, if blocks == 1 { first != 0 } else { second != 0 }]
 }
 
-/// The lowest number among the causes that a grant meets in a subframe.
-fn grant_refusal(settings: Settings, subframe: u16, grant: Grant) -> Option<u16> {
-    lowest([
-        (9, is_uplink(settings.config, subframe)),
-        (10, !(1..=settings.blocks).contains(&grant.blocks)),
-        (11, grant.cce >= edge(settings.nrb, 4)),
-        (12, ![1, 2, 3, 4].contains(&grant.dai)),
-    ])
-}
-
-fn state_is_bad(handset: &Handset) -> bool {
-    if settings_refusal(handset.settings).is_some() || handset.next > 9 {
-        return true;
-    }
-    let mut subframe = handset.next;
-    handset.past.iter().any(|slot| {
-        subframe = if subframe == 0 { 9 } else { subframe - 1 };
-        match slot.kind {
-            0 => false,
-            1 => grant_refusal(handset.settings, subframe, grant(*slot)).is_some(),
-            _ => true,
-        }
-    })
-}
-
-fn heard_in(window: &Window, past: &[Slot; 13]) -> Vec<Heard> {
-    let mut heard = Vec::new();
-    for (position, k) in (0..).zip(window.k.iter().copied()) {
-        let slot = past[usize::from(k) - 1];
-        if slot.kind == 1 {
-            heard.push(Heard { position, k, grant: grant(slot) });
-        }
-    }
-    heard
-}
-
-/// The grant that a slot remembers.
-fn grant(slot: Slot) -> Grant {
+/// What a slot remembers, unless its kind does not exist.
+fn heard(slot: Slot) -> Option<Heard> {
     let bit = |number: u32| u16::from(slot.results / 2u8.pow(number) % 2);
-    Grant {
-        blocks: 1 + bit(2),
-        first: bit(0),
-        second: bit(1),
-        cce: slot.cce.into(),
-        dai: slot.dai.into(),
+    let (blocks, first, second) = (1 + bit(2), bit(0), bit(1));
+    let (cce, dai) = (slot.cce.into(), slot.dai.into());
+    match slot.kind {
+        0 => Some(Heard::Nothing),
+        1 => Some(Heard::Grant(Grant { blocks, first, second, cce, dai })),
+        2 => Some(Heard::Block(Block { blocks, first, second })),
+        3 => Some(Heard::Release(Release { cce, dai })),
+        _ => None,
     }
 }
 
-/// The slot that remembers a grant.
-fn slot(grant: Grant) -> Slot {
-    let (first, second) = (u8::from(grant.first != 0), u8::from(grant.second != 0));
-    let two = u8::from(grant.blocks == 2);
-    Slot {
-        kind: 1,
-        cce: grant.cce as u8,
-        dai: grant.dai as u8,
-        results: first + 2 * second + 4 * two,
+/// The slot that remembers what was heard. What a kind has not is 0.
+fn slot(heard: Heard) -> Slot {
+    let (cce, dai) = pdcch(heard).map_or((0, 0), |(cce, dai)| (cce as u8, dai as u8));
+    let results = |blocks: u16, first: u16, second: u16| {
+        u8::from(first != 0) + 2 * u8::from(second != 0) + 4 * u8::from(blocks == 2)
+    };
+    match heard {
+        Heard::Nothing => Slot::NOTHING,
+        Heard::Grant(Grant { blocks, first, second, .. }) => {
+            Slot { kind: 1, cce, dai, results: results(blocks, first, second) }
+        }
+        Heard::Block(Block { blocks, first, second }) => {
+            Slot { kind: 2, cce, dai, results: results(blocks, first, second) }
+        }
+        Heard::Release(_) => Slot { kind: 3, cce, dai, results: 0 },
     }
 }

@@ -1,7 +1,7 @@
 //! The station's side: the reading of a reply and the claims of a cell.
 
-use super::{bundles, Layout, Model, Symbol};
-use crate::{ClaimsAnswer, ReadingAnswer, Settings};
+use super::{bundles, first_met, Layout, Model, Symbol};
+use crate::{ClaimsAnswer, ReadingAnswer, Settings, NONE, NOT_TOLD};
 use std::collections::HashSet;
 
 impl Model {
@@ -9,29 +9,53 @@ impl Model {
         &self,
         settings: Settings,
         n: u16,
+        told: u16,
         resource: u16,
         b0: u16,
         b1: u16,
     ) -> ReadingAnswer {
-        let pair = self.inverse(settings, n, resource);
-        if pair.refusal != 0 {
-            return ReadingAnswer::refused(pair.refusal);
-        }
-        if b0 > 1 || b1 > 1 {
-            return ReadingAnswer::refused(14);
-        }
+        let layout = match self.layout(settings, n) {
+            Err(refusal) => return ReadingAnswer::refused(refusal),
+            Ok(layout) => layout,
+        };
         let size = self.window(settings.config, n).expect("a window").size();
+        let is_told = told != NOT_TOLD;
+        // What is told is looked at whatever the resource is that came in.
+        let wrongly_told =
+            first_met([(11, is_told && told >= size), (18, is_told && settings.scheduled == NONE)]);
+        if let Some(refusal) = wrongly_told {
+            return ReadingAnswer::refused(refusal);
+        }
+        let is_block = is_told && resource == settings.scheduled;
+        let named = if is_block { Some((told, 0)) } else { layout.pair_at(resource, settings.n1) };
+        let Some((position, cce)) = named else {
+            return ReadingAnswer::refused(13);
+        };
+        match self.bits_at(settings, size, (position, cce), (b0, b1)) {
+            None => ReadingAnswer::refused(14),
+            Some(read) if is_block => read.as_block(),
+            Some(read) => read,
+        }
+    }
+
+    /// What two bits say at a position, if they say something.
+    fn bits_at(
+        &self,
+        settings: Settings,
+        size: u16,
+        (position, cce): (u16, u16),
+        (b0, b1): (u16, u16),
+    ) -> Option<ReadingAnswer> {
+        if b0 > 1 || b1 > 1 {
+            return None;
+        }
         if bundles(settings, size) {
             let one_bit = settings.blocks == 1;
-            return match one_bit && b1 == 1 {
-                true => ReadingAnswer::refused(14),
-                false => ReadingAnswer::bundled(pair.position, pair.cce, b0, b1),
-            };
+            let is_reply = b1 == 0 || !one_bit;
+            return is_reply.then(|| ReadingAnswer::bundled(position, cce, b0, b1));
         }
-        match self.delivered(size, Symbol { index: pair.position, b0, b1 }) {
-            None => ReadingAnswer::refused(14),
-            Some(set) => ReadingAnswer::multiplexed(pair.position, pair.cce, set),
-        }
+        let delivered = self.delivered(size, Symbol { index: position, b0, b1 })?;
+        Some(ReadingAnswer::multiplexed(position, cce, delivered))
     }
 
     /// The verdict on a list of claims, and every byte of the scratch afterwards.

@@ -1,7 +1,7 @@
 //! The handset's side: making one and feeding it.
 
 use super::{bundles, cces, check, region, window_size, K};
-use crate::{Fed, Handset, Made, Settings, Slot};
+use crate::{Fed, Handset, Made, Settings, Slot, NONE};
 
 /// The downlink subframes of each configuration, D or S, bit n for subframe n.
 const DOWNLINK: [u16; 7] = [
@@ -26,6 +26,28 @@ const fn downlink(frame: &[u8; 10]) -> u16 {
     mask
 }
 
+/// How many subframes later each downlink subframe is answered; 0 for an uplink one.
+const DISTANCE: [[u8; 10]; 7] = distances();
+
+const fn distances() -> [[u8; 10]; 7] {
+    let mut distances = [[0; 10]; 7];
+    let mut config = 0;
+    while config < 7 {
+        let mut n = 0;
+        while n < 10 {
+            let mut position = 0;
+            while position < K[config][n].len() {
+                let k = K[config][n][position];
+                distances[config][(n + 20 - k as usize) % 10] = k;
+                position += 1;
+            }
+            n += 1;
+        }
+        config += 1;
+    }
+    distances
+}
+
 /// What a position of a window is in the tables of the symbols.
 #[derive(Clone, Copy, PartialEq, Eq)]
 enum State {
@@ -34,11 +56,18 @@ enum State {
     D,
 }
 
-/// What the settings of a state that has been checked allow a grant to be.
+/// What a state that has been checked allows the next subframe to bring.
 struct Limits {
     downlink: u16,
     blocks: u16,
     cces: u16,
+    /// How much later each subframe of the frame is answered.
+    distances: &'static [u8; 10],
+    /// Whether a resource is set for scheduled blocks.
+    scheduled: bool,
+    /// The windows that have a scheduled block: bit 13 + d for the one that is
+    /// answered d subframes after the next, where d may be below 0.
+    taken: u32,
 }
 
 /// A fresh handset, under the signature of the C call.
@@ -94,8 +123,40 @@ pub extern "C" fn plain_feed_grant(
     if let Err(refusal) = limits.check_grant(handset.next, blocks, cce, dai) {
         return Fed::refused(refusal, handset);
     }
-    let results = u8::from(first != 0) | u8::from(second != 0) << 1 | u8::from(blocks == 2) << 2;
-    let slot = Slot { kind: 1, cce: cce as u8, dai: dai as u8, results };
+    let results = results(blocks, first, second);
+    let slot = Slot { kind: Slot::GRANT, cce: cce as u8, dai: dai as u8, results };
+    Fed::answer(Fed::TAKEN, remember(&handset, slot))
+}
+
+/// A feed of a scheduled block, under the signature of the C call.
+#[inline(never)]
+pub extern "C" fn plain_feed_scheduled(
+    handset: Handset,
+    blocks: u16,
+    first: u16,
+    second: u16,
+) -> Fed {
+    let Some(limits) = limits_of_good(&handset) else {
+        return Fed::refused(8, handset);
+    };
+    if let Err(refusal) = limits.check_block(handset.next, blocks) {
+        return Fed::refused(refusal, handset);
+    }
+    let results = results(blocks, first, second);
+    let slot = Slot { kind: Slot::BLOCK, results, ..Slot::NOTHING };
+    Fed::answer(Fed::TAKEN, remember(&handset, slot))
+}
+
+/// A feed of a release, under the signature of the C call.
+#[inline(never)]
+pub extern "C" fn plain_feed_release(handset: Handset, cce: u16, dai: u16) -> Fed {
+    let Some(limits) = limits_of_good(&handset) else {
+        return Fed::refused(8, handset);
+    };
+    if let Err(refusal) = limits.check_release(handset.next, cce, dai) {
+        return Fed::refused(refusal, handset);
+    }
+    let slot = Slot { kind: Slot::RELEASE, cce: cce as u8, dai: dai as u8, results: 0 };
     Fed::answer(Fed::TAKEN, remember(&handset, slot))
 }
 
@@ -105,17 +166,59 @@ impl Limits {
     }
 
     fn check_grant(&self, subframe: u16, blocks: u16, cce: u16, dai: u16) -> Result<(), u16> {
+        self.check_carried(subframe, blocks)?;
+        self.check_pdcch(cce, dai)
+    }
+
+    fn check_release(&self, subframe: u16, cce: u16, dai: u16) -> Result<(), u16> {
+        if !self.is_downlink(subframe) {
+            return Err(9);
+        }
+        self.check_pdcch(cce, dai)
+    }
+
+    fn check_block(&self, subframe: u16, blocks: u16) -> Result<(), u16> {
+        self.check_carried(subframe, blocks)?;
+        if !self.scheduled || self.taken & self.window_of(subframe, 0) != 0 {
+            return Err(18);
+        }
+        Ok(())
+    }
+
+    fn check_carried(&self, subframe: u16, blocks: u16) -> Result<(), u16> {
         if !self.is_downlink(subframe) {
             Err(9)
         } else if blocks == 0 || blocks > self.blocks {
             Err(10)
-        } else if cce >= self.cces {
+        } else {
+            Ok(())
+        }
+    }
+
+    fn check_pdcch(&self, cce: u16, dai: u16) -> Result<(), u16> {
+        if cce >= self.cces {
             Err(11)
         } else if dai == 0 || dai > 4 {
             Err(12)
         } else {
             Ok(())
         }
+    }
+
+    /// Whether what a slot remembers is bad by itself. The kinds are tested without
+    /// a jump, since what a handset heard cannot be foretold.
+    fn is_bad(&self, subframe: u16, slot: &Slot) -> bool {
+        let is_pdcch = slot.kind & 1 == 1;
+        let carries_two = (slot.results & 4 != 0) & (slot.kind != Slot::RELEASE);
+        (slot.kind > Slot::RELEASE)
+            | !self.is_downlink(subframe)
+            | (is_pdcch & ((u16::from(slot.cce) >= self.cces) | (slot.dai.wrapping_sub(1) > 3)))
+            | (carries_two & (self.blocks == 1))
+    }
+
+    /// The bit of the window that a subframe is in, `age` before the next.
+    fn window_of(&self, subframe: u16, age: u16) -> u32 {
+        1 << (13 + u16::from(self.distances[usize::from(subframe)]) - age)
     }
 }
 
@@ -126,21 +229,51 @@ fn limits_of_good(handset: &Handset) -> Option<Limits> {
     if handset.next > 9 {
         return None;
     }
-    let downlink = DOWNLINK[usize::from(settings.config)];
-    let limits = Limits { downlink, blocks: settings.blocks, cces: cces(settings.nrb) };
+    let config = usize::from(settings.config);
+    let mut limits = Limits {
+        downlink: DOWNLINK[config],
+        blocks: settings.blocks,
+        cces: cces(settings.nrb),
+        distances: &DISTANCE[config],
+        scheduled: settings.scheduled != NONE,
+        taken: 0,
+    };
+    let mut any_block = false;
     let mut subframe = handset.next;
     for slot in &handset.past {
         subframe = if subframe == 0 { 9 } else { subframe - 1 };
-        match slot.kind {
-            0 => {}
-            1 => {
-                let blocks = u16::from(1 + (slot.results >> 2 & 1));
-                limits.check_grant(subframe, blocks, slot.cce.into(), slot.dai.into()).ok()?;
+        if slot.kind != 0 {
+            if limits.is_bad(subframe, slot) {
+                return None;
             }
-            _ => return None,
+            any_block |= slot.kind == Slot::BLOCK;
         }
     }
+    if any_block {
+        limits.taken = windows_with_blocks(&limits, handset)?;
+    }
     Some(limits)
+}
+
+/// The windows that have a scheduled block, unless one has two or no resource is set.
+fn windows_with_blocks(limits: &Limits, handset: &Handset) -> Option<u32> {
+    let mut taken = 0;
+    let mut subframe = handset.next;
+    for (slot, age) in handset.past.iter().zip(1..) {
+        subframe = if subframe == 0 { 9 } else { subframe - 1 };
+        if slot.kind == Slot::BLOCK {
+            let window = limits.window_of(subframe, age);
+            if !limits.scheduled || taken & window != 0 {
+                return None;
+            }
+            taken |= window;
+        }
+    }
+    Some(taken)
+}
+
+fn results(blocks: u16, first: u16, second: u16) -> u8 {
+    u8::from(first != 0) | u8::from(second != 0) << 1 | u8::from(blocks == 2) << 2
 }
 
 fn remember(handset: &Handset, slot: Slot) -> Handset {
@@ -155,37 +288,44 @@ fn bundled(settings: &Settings, window: &[u8], past: &[Slot; 13]) -> Option<(u16
     let mut heard = 0;
     let mut acks = 0b11;
     let mut last: Option<(usize, u8)> = None;
+    let mut scheduled = false;
     for (position, &k) in window.iter().enumerate() {
         let slot = &past[usize::from(k) - 1];
-        if slot.kind == 1 {
+        acks &= acks_of(slot);
+        if slot.kind == Slot::BLOCK {
+            scheduled = true;
+        } else if slot.kind != 0 {
             heard += 1;
-            acks &= acks_of(slot);
             if last.is_none_or(|(_, latest)| k < latest) {
                 last = Some((position, k));
             }
         }
     }
-    let (position, k) = last?;
+    let b1 = if settings.blocks == 2 { acks >> 1 } else { 0 };
+    let Some((position, k)) = last else {
+        return scheduled.then_some((settings.scheduled, (acks & 1, b1)));
+    };
     let slot = &past[usize::from(k) - 1];
     if settings.config != 0 && slot.dai != (heard - 1) % 4 + 1 {
         return None;
     }
-    let resource = resource_of(settings, window.len(), position, slot);
-    let b1 = if settings.blocks == 2 { acks >> 1 } else { 0 };
-    Some((resource, (acks & 1, b1)))
+    Some((resource_of(settings, window.len(), position, slot), (acks & 1, b1)))
 }
 
 fn multiplexed(settings: &Settings, window: &[u8], past: &[Slot; 13]) -> Option<(u16, (u16, u16))> {
     let mut states = [State::D; 4];
     for (state, &k) in states.iter_mut().zip(window) {
         let slot = &past[usize::from(k) - 1];
-        if slot.kind == 1 {
+        if slot.kind != 0 {
             *state = if acks_of(slot) == 0b11 { State::A } else { State::N };
         }
     }
     let (position, bits) = symbol(&states[..window.len()])?;
     let slot = &past[usize::from(window[position]) - 1];
-    Some((resource_of(settings, window.len(), position, slot), bits))
+    match slot.kind {
+        Slot::BLOCK => Some((settings.scheduled, bits)),
+        _ => Some((resource_of(settings, window.len(), position, slot), bits)),
+    }
 }
 
 /// The index and bits of a state, the first arm that fits.
@@ -228,18 +368,17 @@ fn symbol(states: &[State]) -> Option<(usize, (u16, u16))> {
     })
 }
 
-/// The ACK bits of a remembered grant, bit 0 for the first block; the result of
-/// a sole block stands for both.
+/// The ACK bits of a remembered subframe, bit 0 for the first block.
 fn acks_of(slot: &Slot) -> u16 {
-    let results = u16::from(slot.results);
-    if results & 0b100 != 0 {
-        results & 0b11
-    } else {
-        (results & 1) * 0b11
-    }
+    ACKS[usize::from(slot.kind & 3)][usize::from(slot.results & 7)].into()
 }
 
-/// The resource of a remembered grant, whose CCE has been checked.
+/// By kind and results: all where no block was carried, and the result of a sole
+/// block stands for both.
+const ACKS: [[u8; 8]; 4] = [[3; 8], CARRIED, CARRIED, [3; 8]];
+const CARRIED: [u8; 8] = [0, 3, 0, 3, 0, 1, 2, 3];
+
+/// The resource of a remembered PDCCH, whose CCE has been checked.
 fn resource_of(settings: &Settings, size: usize, position: usize, slot: &Slot) -> u16 {
     let (size, position, cce) = (size as u16, position as u16, u16::from(slot.cce));
     let (lower, upper) = region(settings.nrb, 1, cce).unwrap_or((0, 0));

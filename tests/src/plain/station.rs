@@ -1,24 +1,24 @@
 //! The station's side: the reading of a reply and the claims of a cell.
 
 use super::{bundles, check, pair, window_size};
-use crate::{ClaimsAnswer, ReadingAnswer, Settings};
+use crate::{ClaimsAnswer, ReadingAnswer, Settings, NONE, NOT_TOLD};
 use std::slice;
 
 /// Stands where no state sends a symbol.
-const NONE: u8 = 255;
+const NO_ROW: u8 = 255;
 
 /// The positions that a symbol delivers, bit p for position p, by M − 2, index
 /// and 2 × b0 + b1.
 const DELIVERED: [[[u8; 4]; 4]; 3] = [
-    [[NONE, 0b01, 0b00, NONE], [0b10, NONE, 0b00, 0b11], [NONE; 4], [NONE; 4]],
+    [[NO_ROW, 0b01, 0b00, NO_ROW], [0b10, NO_ROW, 0b00, 0b11], [NO_ROW; 4], [NO_ROW; 4]],
     [
-        [NONE, 0b001, 0b000, 0b101],
-        [0b010, NONE, 0b000, 0b011],
+        [NO_ROW, 0b001, 0b000, 0b101],
+        [0b010, NO_ROW, 0b000, 0b011],
         [0b100, 0b000, 0b110, 0b111],
-        [NONE; 4],
+        [NO_ROW; 4],
     ],
     [
-        [NONE, 0b1001, 0b0000, 0b0001],
+        [NO_ROW, 0b1001, 0b0000, 0b0001],
         [0b0000, 0b0010, 0b0011, 0b1111],
         [0b0100, 0b0101, 0b0110, 0b0000],
         [0b1000, 0b1100, 0b1010, 0b0000],
@@ -30,11 +30,12 @@ const DELIVERED: [[[u8; 4]; 4]; 3] = [
 pub extern "C" fn plain_reading(
     settings: Settings,
     n: u16,
+    told: u16,
     resource: u16,
     b0: u16,
     b1: u16,
 ) -> ReadingAnswer {
-    match reading(&settings, n, resource, b0, b1) {
+    match reading(&settings, n, told, resource, b0, b1) {
         Ok(answer) => answer,
         Err(refusal) => ReadingAnswer::refused(refusal),
     }
@@ -68,13 +69,36 @@ pub unsafe extern "C" fn plain_claims(
 fn reading(
     settings: &Settings,
     n: u16,
+    told: u16,
     resource: u16,
     b0: u16,
     b1: u16,
 ) -> Result<ReadingAnswer, u16> {
     check(settings)?;
     let size = window_size(settings.config, n)?;
-    let (position, cce) = pair(settings, size, resource)?;
+    if told != NOT_TOLD {
+        if told >= size {
+            return Err(11);
+        }
+        if settings.scheduled == NONE {
+            return Err(18);
+        }
+        if resource == settings.scheduled {
+            return Ok(meaning(settings, size, (told, 0), b0, b1)?.as_block());
+        }
+    }
+    let pair = pair(settings, size, resource)?;
+    meaning(settings, size, pair, b0, b1)
+}
+
+/// What two bits say at a position of a window of `size` subframes.
+fn meaning(
+    settings: &Settings,
+    size: u16,
+    (position, cce): (u16, u16),
+    b0: u16,
+    b1: u16,
+) -> Result<ReadingAnswer, u16> {
     if b0 > 1 || b1 > 1 {
         return Err(14);
     }
@@ -86,7 +110,7 @@ fn reading(
     }
     let of_index = &DELIVERED[usize::from(size - 2)][usize::from(position)];
     match of_index[usize::from(2 * b0 + b1)] {
-        NONE => Err(14),
+        NO_ROW => Err(14),
         delivered => Ok(ReadingAnswer::multiplexed(position, cce, delivered.into())),
     }
 }

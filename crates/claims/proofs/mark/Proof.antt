@@ -10,7 +10,7 @@ use borrow.Author.Count.{below-more}
 use borrow.Author.Needs.{needs}
 use Rattle.claims.specs.Claims.{earlier, firstClash, markedUpTo}
 use Rattle.claims.proofs.First.{first-found, first-none}
-use Rattle.claims.proofs.Turn.{earlier-if-set, new-if-clear, one-more}
+use Rattle.claims.proofs.MarkOne.{earlier-if-set, new-if-clear, one-more}
 use Rattle.claims.proofs.mark.Statement.{statement}
 use Rattle.claims.proofs.mark.Tie as tie
 

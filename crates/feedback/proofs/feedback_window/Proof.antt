@@ -3,8 +3,7 @@ use Prim.Native.Nat.{ℕ, zero, suc}
 use mathlib.Core.List.{List, []}
 use mathlib.Core.Path.{_≡_, sym, _∙_}
 use borrow.Author.Needs.{needs}
-use Rattle.frame.specs.declared.Window.{Window}
-use Rattle.frame.specs.Coded.{padded, codedWindow}
+use Rattle.frame.specs.Coded.{padded}
 use Rattle.feedback.specs.declared.WindowAnswer.{WindowAnswer}
 use Rattle.feedback.specs.Answers.{windowAs, windowAnswer}
 use Rattle.feedback.proofs.feedback_window.Statement.{statement}
@@ -14,10 +13,6 @@ refused : (r a : ℕ) (ks : List ℕ) → r ≡ a → (r ≡ 0 → ⊥)
     → _≡_ {A = WindowAnswer} (record { refusal = r; size = 0; k = padded 9 []; order = padded 9 [] }) (windowAs a ks)
 refused r zero ks e h = absurd (h e)
 refused r (suc a) ks e h = rw e
-
-told : (a : ℕ) (ks : List ℕ) (w : Window) → a ≡ 0 → w ≡ codedWindow ks
-    → _≡_ {A = WindowAnswer} (record { refusal = 0; size = w .size; k = w .k; order = w .order }) (windowAs a ks)
-told a ks w none e = rw (none, e)
 
 window-refusal-requires : tie.Need-window-refusal-requires
 window-refusal-requires c κs = search needs
@@ -32,8 +27,10 @@ window-of-requires c κs = search needs
 returns-2 : tie.Need-returns-2
 unfolding windowAnswer
 returns-2 c =
-    told _ _ _ (sym (c .before .before .before .before .window-refusal .ensures) ∙ c .before .before .before .if1 .left)
-    (c .before .before .window-of .ensures)
+    rw (
+      sym (c .before .before .before .before .window-refusal .ensures) ∙ c .before .before .before .if1 .left,
+      c .before .before .window-of .ensures,
+    )
 
 pub feedback-window-spec : {M : Type 1} → statement M
 feedback-window-spec = tie.close (tie.spec window-refusal-requires returns window-of-requires returns-2)

@@ -1,4 +1,4 @@
--- A turn of the marking pass: what the byte of claim e tells, and what marking it leaves.
+-- Marking one claim, that at index e: what its byte tells, and what marking it leaves.
 -- Assumes nothing.
 use Prim.Native.Nat.{ℕ, suc, _<_}
 use mathlib.Core.Bool.{Bool, true, false, cond}

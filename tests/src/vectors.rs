@@ -1,0 +1,153 @@
+//! The reader of the conformance vectors in `data/`: what the calls answer, case
+//! by case. All files have one format.
+//!
+//! A line that begins with `#` is a comment, and the last of them names the
+//! columns; every other line is a case. A comma parts the columns, a space the
+//! entries of a list, and `-` is an empty list. A file that has settings has all
+//! that there will ever be, of which those that a later request brings have the
+//! value that changes nothing.
+
+use crate::{Block, Grant, Handset, Heard, Release, Settings, Slot};
+use std::fmt;
+
+/// The columns of the settings, in this order and side by side.
+const SETTINGS: [&str; 9] =
+    ["configuration", "N_RB", "N1", "mode", "blocks", "scheduled", "prefix", "special", "ports"];
+
+/// The settings that the engine does not have yet, and the values at which they
+/// change nothing.
+const LATER: [(&str, u16); 3] = [("prefix", 0), ("special", 7), ("ports", 1)];
+
+/// One case: a line, under the names of its columns.
+#[derive(Clone, Debug)]
+pub struct Case<'a> {
+    file: &'a str,
+    line: usize,
+    columns: Vec<(&'a str, &'a str)>,
+}
+
+/// All cases of a file.
+pub fn cases<'a>(file: &'a str, text: &'a str) -> Vec<Case<'a>> {
+    let is_comment = |line: &&str| line.starts_with('#');
+    let last_comment = text.lines().rfind(is_comment).expect("a comment names the columns");
+    let names: Vec<&str> = last_comment[1..].split(',').collect();
+    let numbered = (1..).zip(text.lines()).filter(|(_, line)| !is_comment(line));
+    numbered.map(|(number, line)| Case::new(file, number, &names, line)).collect()
+}
+
+impl<'a> Case<'a> {
+    fn new(file: &'a str, line: usize, names: &[&'a str], text: &'a str) -> Self {
+        let fields: Vec<&str> = text.split(',').collect();
+        assert_eq!(fields.len(), names.len(), "{file}, line {line}: as many columns as names");
+        let columns = names.iter().copied().zip(fields).collect();
+        Self { file, line, columns }
+    }
+
+    /// What stands in the one column of a name; those of the settings are apart.
+    pub fn text(&self, name: &str) -> &'a str {
+        let named: Vec<&str> =
+            self.others().filter(|(each, _)| *each == name).map(|(_, text)| text).collect();
+        let [text] = named[..] else {
+            panic!("{}, line {}: {} columns {name}", self.file, self.line, named.len())
+        };
+        text
+    }
+
+    pub fn number(&self, name: &str) -> u16 {
+        self.parse(self.text(name))
+    }
+
+    /// The entries of a list.
+    pub fn numbers(&self, name: &str) -> Vec<u16> {
+        match self.text(name) {
+            "-" => Vec::new(),
+            list => list.split(' ').map(|entry| self.parse(entry)).collect(),
+        }
+    }
+
+    pub fn settings(&self) -> Settings {
+        let start = self.start_of_settings().expect("a file with settings");
+        let columns = &self.columns[start..][..SETTINGS.len()];
+        let number = |name: &str| {
+            let column = columns.iter().find(|(each, _)| *each == name);
+            self.parse(column.expect("all settings stand in the file").1)
+        };
+        for (name, neutral) in LATER {
+            assert_eq!(number(name), neutral, "{self}: {name} is not there yet");
+        }
+        let [config, nrb, n1, mode, blocks, scheduled] =
+            ["configuration", "N_RB", "N1", "mode", "blocks", "scheduled"].map(number);
+        Settings::plain(config, nrb, n1, mode, blocks).with_scheduled(scheduled)
+    }
+
+    /// The lent handset: its settings, the subframe expected, and seven numbers for
+    /// each subframe in which something was heard, first how long ago that was. Or
+    /// nothing, where this layout cannot hold it.
+    pub fn handset(&self) -> Option<Handset> {
+        let mut handset = Handset::fresh(self.settings());
+        handset.next = self.number("expects");
+        for entry in self.numbers("remembered").chunks(7) {
+            let (age, heard) = (usize::from(entry[0]), &entry[1..]);
+            handset.past[age - 1] = slot(heard)?;
+        }
+        Some(handset)
+    }
+
+    fn parse(&self, text: &str) -> u16 {
+        text.parse().unwrap_or_else(|_| panic!("{}, line {}: {text}", self.file, self.line))
+    }
+
+    fn start_of_settings(&self) -> Option<usize> {
+        self.columns.iter().position(|(name, _)| *name == SETTINGS[0])
+    }
+
+    /// The columns beside the settings.
+    fn others(&self) -> impl Iterator<Item = (&'a str, &'a str)> + '_ {
+        let settings = self.start_of_settings().map_or(0..0, |at| at..at + SETTINGS.len());
+        let numbered = self.columns.iter().enumerate();
+        numbered.filter(move |(at, _)| !settings.contains(at)).map(|(_, column)| *column)
+    }
+}
+
+/// File, line and all that stands in it.
+impl fmt::Display for Case<'_> {
+    fn fmt(&self, f: &mut fmt::Formatter) -> fmt::Result {
+        write!(f, "{}, line {}:", self.file, self.line)?;
+        self.columns.iter().try_for_each(|(name, text)| write!(f, " {name} {text};"))
+    }
+}
+
+/// A heard thing from its six numbers: kind, blocks carried, first and second block
+/// decoded, first CCE, DAI.
+pub fn heard(numbers: &[u16]) -> Heard {
+    let [kind, blocks, first, second, cce, dai] = *numbers else {
+        panic!("six numbers: {numbers:?}")
+    };
+    match kind {
+        0 => Heard::Nothing,
+        1 => Heard::Grant(Grant { blocks, first, second, cce, dai }),
+        2 => Heard::Block(Block { blocks, first, second }),
+        3 => Heard::Release(Release { cce, dai }),
+        _ => panic!("a kind of heard thing: {kind}"),
+    }
+}
+
+/// The slot that remembers a heard thing, or nothing, where it cannot: a number
+/// does not fit in its byte, or blocks carried, which are one bit, are neither 1
+/// nor 2.
+fn slot(numbers: &[u16]) -> Option<Slot> {
+    let [kind, blocks, first, second, cce, dai] = *numbers else {
+        panic!("six numbers: {numbers:?}")
+    };
+    let carries = kind == u16::from(Slot::GRANT) || kind == u16::from(Slot::BLOCK);
+    let two = match blocks {
+        1 if carries => 0,
+        2 if carries => 4,
+        _ if carries => return None,
+        _ => 0,
+    };
+    let [kind, first, second, cce, dai] = [kind, first, second, cce, dai].map(u8::try_from);
+    let (first, second) = (first.ok()?, second.ok()?);
+    let results = if first < 2 && second < 2 { first + 2 * second + two } else { return None };
+    Some(Slot { kind: kind.ok()?, cce: cce.ok()?, dai: dai.ok()?, results })
+}

@@ -1,0 +1,246 @@
+//! The conformance vectors in `data/`, line by line, through the C calls. The
+//! model and the plain implementation are held to them too. Each test knows how
+//! many lines its file has, and how many of them this layout cannot hold.
+
+use feedback_tests::compare::{plain_claims_on, plain_feed};
+use feedback_tests::model::Model;
+use feedback_tests::plain::{plain_inverse, plain_make, plain_reading, plain_resource};
+use feedback_tests::vectors::{cases, heard, Case};
+use feedback_tests::{
+    claims, feed, inverse, make, reading, resource, Fed, Handset, Heard, ReadingAnswer, Settings,
+    NOT_TOLD,
+};
+use std::fmt::Debug;
+
+/// How many failures are shown.
+const SHOWN: usize = 20;
+
+/// Who answers.
+enum Who<'a> {
+    Engine,
+    Model(&'a Model),
+    Plain,
+}
+
+impl Who<'_> {
+    fn name(&self) -> &'static str {
+        match self {
+            Self::Engine => "the engine",
+            Self::Model(_) => "the model",
+            Self::Plain => "the plain implementation",
+        }
+    }
+
+    fn feed(&self, handset: Handset, heard: Heard) -> Fed {
+        match self {
+            Self::Engine => feed(handset, heard),
+            Self::Model(model) => model.feed(handset, heard),
+            Self::Plain => plain_feed(handset, heard),
+        }
+    }
+
+    fn reading(&self, settings: Settings, n: u16, told: u16, reply: [u16; 3]) -> ReadingAnswer {
+        let [resource, b0, b1] = reply;
+        match self {
+            Self::Engine => reading(settings, n, told, resource, b0, b1),
+            Self::Model(model) => model.reading(settings, n, told, resource, b0, b1),
+            Self::Plain => plain_reading(settings, n, told, resource, b0, b1),
+        }
+    }
+
+    fn make(&self, settings: Settings) -> (u16, Handset) {
+        let made = match self {
+            Self::Engine => make(settings),
+            Self::Model(model) => model.make(settings),
+            Self::Plain => plain_make(settings),
+        };
+        (made.refusal, made.handset)
+    }
+
+    fn resource_refusal(&self, settings: Settings, n: u16, position: u16, cce: u16) -> u16 {
+        let answer = match self {
+            Self::Engine => resource(settings, n, position, cce),
+            Self::Model(model) => model.resource(settings, n, position, cce),
+            Self::Plain => plain_resource(settings, n, position, cce),
+        };
+        answer.refusal
+    }
+
+    fn inverse_refusal(&self, settings: Settings, n: u16, resource: u16) -> u16 {
+        let answer = match self {
+            Self::Engine => inverse(settings, n, resource),
+            Self::Model(model) => model.inverse(settings, n, resource),
+            Self::Plain => plain_inverse(settings, n, resource),
+        };
+        answer.refusal
+    }
+
+    fn claims_refusal(&self, settings: Settings, n: u16, list: &[u16], room: u16) -> u16 {
+        let mut scratch = vec![7; room.into()];
+        let answer = match self {
+            Self::Engine => claims(settings, n, list, &mut scratch),
+            Self::Model(model) => model.claims(settings, n, list, &scratch).0,
+            Self::Plain => plain_claims_on(settings, n, list, &mut scratch),
+        };
+        answer.refusal
+    }
+}
+
+/// The lines of a file that were run, and what went wrong.
+#[derive(Default)]
+struct Tally {
+    run: usize,
+    left_out: usize,
+    failures: Vec<String>,
+}
+
+impl Tally {
+    /// Runs every line by all three. `each` says what is given and what is due, or
+    /// nothing where this layout cannot hold the line.
+    fn of<T: Debug + PartialEq>(
+        file: &str,
+        text: &str,
+        each: impl Fn(&Case, &Who) -> Option<(T, T)>,
+    ) -> Self {
+        let model = Model::new();
+        let mut tally = Self::default();
+        for case in cases(file, text) {
+            let held = [Who::Engine, Who::Model(&model), Who::Plain]
+                .map(|who| each(&case, &who).map(|answers| tally.compare(&case, &who, answers)));
+            match held {
+                [None, None, None] => tally.left_out += 1,
+                _ => tally.run += 1,
+            }
+        }
+        tally
+    }
+
+    fn compare<T: Debug + PartialEq>(&mut self, case: &Case, who: &Who, (given, due): (T, T)) {
+        if given != due {
+            let who = who.name();
+            self.failures.push(format!("{case} {who} gives {given:?}, the line has {due:?}"));
+        }
+    }
+
+    fn finish(self, run: usize, left_out: usize) {
+        let Self { failures, .. } = &self;
+        println!("{} lines run, {} left out", self.run, self.left_out);
+        let shown = failures.iter().take(SHOWN).map(String::as_str).collect::<Vec<_>>().join("\n");
+        assert!(failures.is_empty(), "{} answers differ, such as\n{shown}", failures.len());
+        assert_eq!((self.run, self.left_out), (run, left_out), "lines run, lines left out");
+    }
+}
+
+/// The answer of a feed from the files' five numbers: refusal, answer (0 silent, 1
+/// bundled, 2 multiplexed, 3 taken, 4 no window), resource and bits.
+fn fed_of(numbers: &[u16]) -> [u16; 5] {
+    let [refusal, answer, resource, b0, b1] = *numbers else { panic!("five numbers: {numbers:?}") };
+    let kind = match (refusal, answer) {
+        (0, 0) => Fed::SILENT,
+        (0, 1) => Fed::BUNDLED,
+        (0, 2) => Fed::MULTIPLEXED,
+        (0, 3) => Fed::TAKEN,
+        (0, 4) => Fed::NO_WINDOW,
+        _ => 0,
+    };
+    [refusal, kind, resource, b0, b1]
+}
+
+fn numbers_of(fed: Fed) -> [u16; 5] {
+    [fed.refusal, fed.kind, fed.resource, fed.b0, fed.b1]
+}
+
+/// The refusals of every call that takes settings.
+fn settings_line(case: &Case, who: &Who) -> ([u16; 5], [u16; 5]) {
+    let (settings, n) = (case.settings(), case.number("n"));
+    let reply = ["resource", "b0", "b1"].map(|name| case.number(name));
+    let given = [
+        who.make(settings).0,
+        who.resource_refusal(settings, n, case.number("m"), case.number("CCE")),
+        who.inverse_refusal(settings, n, case.number("resource")),
+        who.reading(settings, n, NOT_TOLD, reply).refusal,
+        who.claims_refusal(settings, n, &case.numbers("claims"), case.number("scratch")),
+    ];
+    let calls = ["make", "resource_call", "inverse", "reading", "claims_call"];
+    (given, calls.map(|name| case.number(name)))
+}
+
+/// One reading.
+fn reading_line(case: &Case, who: &Who) -> (ReadingAnswer, ReadingAnswer) {
+    let (settings, n, told) = (case.settings(), case.number("n"), case.number("told"));
+    let reply = ["resource", "b0", "b1"].map(|name| case.number(name));
+    let due = ReadingAnswer {
+        refusal: case.number("refusal"),
+        kind: case.number("read"),
+        position: case.number("position"),
+        cce: case.number("CCE"),
+        b0: case.number("ack0"),
+        b1: case.number("ack1"),
+        delivered: case.numbers("delivered").iter().map(|position| 1 << position).sum(),
+        scheduled: case.number("as_scheduled"),
+    };
+    (who.reading(settings, n, told, reply), due)
+}
+
+/// One feed to a lent handset. A refusal leaves it.
+fn state_line(case: &Case, who: &Who) -> Option<([u16; 5], [u16; 5])> {
+    let handset = case.handset()?;
+    let fed = who.feed(handset, heard(&case.numbers("fed")));
+    let due = ["refusal", "answer", "resource", "b0", "b1"].map(|name| case.number(name));
+    assert!(fed.refusal == 0 || fed.handset == handset, "{case}: {} writes", who.name());
+    Some((numbers_of(fed), fed_of(&due)))
+}
+
+/// One feed of a list: its number from 0, what it brings, and the answer.
+type Step = (usize, Heard, [u16; 5]);
+
+/// A list of feeds from a fresh handset. Each gets the handset that the one before
+/// returned or left. The first feed that is answered otherwise than it should be is
+/// shown, or else the last.
+fn run_line(case: &Case, who: &Who) -> (Option<Step>, Option<Step>) {
+    let (refusal, mut handset) = who.make(case.settings());
+    assert_eq!(refusal, 0, "{case}: {} makes no handset", who.name());
+    let (feeds, answers) = (case.numbers("feeds"), case.numbers("answers"));
+    assert_eq!(feeds.len() / 6, answers.len() / 5, "{case}: an answer for each feed");
+    let mut last = (None, None);
+    for (at, (fed, due)) in feeds.chunks(6).zip(answers.chunks(5)).enumerate() {
+        let (brought, due) = (heard(fed), fed_of(due));
+        let fed = who.feed(handset, brought);
+        assert!(fed.refusal == 0 || fed.handset == handset, "{case}: {} writes", who.name());
+        handset = fed.handset;
+        last = (Some((at, brought, numbers_of(fed))), Some((at, brought, due)));
+        if numbers_of(fed) != due {
+            break;
+        }
+    }
+    last
+}
+
+#[test]
+fn u01_settings() {
+    let text = include_str!("../data/u01-settings.csv");
+    let tally = Tally::of("u01-settings.csv", text, |case, who| Some(settings_line(case, who)));
+    tally.finish(1856, 0);
+}
+
+#[test]
+fn u01_reading() {
+    let text = include_str!("../data/u01-reading.csv");
+    let tally = Tally::of("u01-reading.csv", text, |case, who| Some(reading_line(case, who)));
+    tally.finish(3676, 0);
+}
+
+/// A slot holds one block or two, so the lines that remember a grant or a block
+/// with none or three are left out.
+#[test]
+fn u01_states() {
+    let text = include_str!("../data/u01-states.csv");
+    Tally::of("u01-states.csv", text, state_line).finish(5353 - 183, 183);
+}
+
+#[test]
+fn u01_runs() {
+    let text = include_str!("../data/u01-runs.csv");
+    let tally = Tally::of("u01-runs.csv", text, |case, who| Some(run_line(case, who)));
+    tally.finish(158, 0);
+}
