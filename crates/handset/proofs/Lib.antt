@@ -1,4 +1,5 @@
 pub mod Passing
 pub mod Refused
 pub mod Remembered
+pub mod Scheduled
 pub mod Silences

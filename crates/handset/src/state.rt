@@ -3,13 +3,12 @@ use crate::Handset;
 use frame::Settings;
 use heard::Slot;
 ghost use mathlib.Core.Path.{_≡_};
-ghost use Prim.Native.Nat.{_+_, _<_, _≤_};
+ghost use Prim.Native.Nat.{_≤_};
 ghost use mathlib.Core.Bool.{_&&_};
 ghost use lib.Dec.{eqb, leb};
-ghost use lib.ListN.{drop, getD};
 ghost use Rattle.heard.specs.Heard.{heardRefusal};
-ghost use Rattle.heard.specs.Memory.{none, heardIn};
-ghost use Rattle.handset.specs.Sound.{slotSound, previous, allSound, stateRefusal};
+ghost use Rattle.heard.specs.Memory.{heardIn};
+ghost use Rattle.handset.specs.Sound.{previous, allSound, stateRefusal};
 
 // A remembered subframe is of a kind that there is, and what it heard is valid in subframe n by itself.
 fn is_valid(s: Settings, n: u16, t: Slot) -> bool
@@ -18,23 +17,7 @@ fn is_valid(s: Settings, n: u16, t: Slot) -> bool
     if 3 < t.kind {
         return false;
     }
-    let x = heard::heard_in(t);
-    heard::heard_refusal(s, n, x) == 0
-}
-
-// Slot i is sound in subframe n after the older ones. Only a scheduled block looks at these.
-fn is_sound(s: Settings, n: u16, past: [Slot; 13], i: usize) -> bool
-    requires { ⌜ i < 13 ⌝ }
-    ensures { λ r. ⌜ r ≡ slotSound s n (drop (i + 1) past) (getD past i none) ⌝ }
-{
-    let t = past[i];
-    if !is_valid(s, n, t) {
-        return false;
-    }
-    if t.kind == 2 {
-        return !heard::block_before(s.config, n, past, i + 1);
-    }
-    true
+    heard::slot_refusal(s, n, t) == 0
 }
 
 // The subframe before n; before 0 comes 9. No division: the check below asks thirteen times.
@@ -48,7 +31,8 @@ fn subframe_before(n: u16) -> u16
     n - 1
 }
 
-// Every remembered subframe is sound in the subframe it was fed in: the newest in the one before `next`, and so on back.
+// Every remembered subframe is sound in the subframe it was fed in: the newest in the one before `next`, and so on back. Only a
+// scheduled block looks at the older ones.
 fn all_sound(s: Settings, next: u16, past: [Slot; 13]) -> bool
     requires { ⌜ next ≤ 9 ⌝ }
     ensures { λ r. ⌜ r ≡ allSound s next past ⌝ }
@@ -57,10 +41,16 @@ fn all_sound(s: Settings, next: u16, past: [Slot; 13]) -> bool
     let mut i = 0;
     while i < 13 {
         n = subframe_before(n);
-        if !is_sound(s, n, past, i) {
+        let t = past[i];
+        if !is_valid(s, n, t) {
             return false;
         }
         i += 1;
+        if t.kind == 2 {
+            if heard::block_before(s.config, n, past, i) {
+                return false;
+            }
+        }
     }
     true
 }

@@ -32,7 +32,7 @@ unfoldable pub replyOn : ℕ → Mapped → ℕ → ℕ → Answer
 replyOn kind (mapped.At r) b0 b1 = Sent (record { kind = kind; resource = r; b0 = b0; b1 = b1 })
 replyOn kind (mapped.Refused k) b0 b1 = Silent
 
--- The DAI that the last of U grants has where none was missed: ((U − 1) mod 4) + 1.
+-- The DAI that the last of U PDCCHs has where none was missed: ((U − 1) mod 4) + 1.
 unfoldable pub expected : ℕ → ℕ
 expected u = (u - 1) % 4 + 1
 

@@ -7,14 +7,11 @@ use Rattle.handset.proofs.state.is_valid.Tie as tie
 returns : tie.Need-returns
 returns c = rw (lt-leb _ 3 (c .if1 .taken))
 
-heard-in-requires : tie.Need-heard-in-requires
-heard-in-requires c κs = search needs
-
-heard-refusal-requires : tie.Need-heard-refusal-requires
-heard-refusal-requires c κs = search needs
+slot-refusal-requires : tie.Need-slot-refusal-requires
+slot-refusal-requires c κs = search needs
 
 returns-2 : tie.Need-returns-2
-returns-2 c = rw (le-leb _ 3 (c .before .before .if1 .left), ← c .before .heard-in .ensures, c .heard-refusal .ensures)
+returns-2 c = rw (le-leb _ 3 (c .before .if1 .left), c .slot-refusal .ensures)
 
 pub is-valid-spec : {M : Type 1} → statement M
-is-valid-spec = tie.close (tie.spec returns heard-in-requires heard-refusal-requires returns-2)
+is-valid-spec = tie.close (tie.spec returns slot-refusal-requires returns-2)
