@@ -32,7 +32,7 @@ unfoldable pub replyOn : ℕ → Mapped → ℕ → ℕ → Answer
 replyOn kind (mapped.At r) b0 b1 = Sent (record { kind = kind; resource = r; b0 = b0; b1 = b1 })
 replyOn kind (mapped.Refused k) b0 b1 = Silent
 
--- The DAI that the last of U grants has where none was missed: ((U − 1) mod 4) + 1.
+-- The DAI that the last of U PDCCHs has where none was missed: ((U − 1) mod 4) + 1.
 unfoldable pub expected : ℕ → ℕ
 expected u = (u - 1) % 4 + 1
 
@@ -44,7 +44,8 @@ missShown s seen = not (eqb (s .config) 0) && not (eqb (seen .v) (expected (seen
 unfoldable pub secondBit : Settings → Seen → ℕ
 secondBit s seen = cond (eqb (s .blocks) 2) (bit (seen .second)) 0
 
--- The configured resource of scheduled blocks, as a resource call's answer.
+-- The configured resource of scheduled blocks, as a resource call's answer. (Where none is set it is 65535, which no state that 8
+-- accepts comes to: it remembers no scheduled block.)
 abbrev pub onScheduled : Settings → Mapped
 onScheduled s = mapped.At (record { 0 = s .scheduled })
 
