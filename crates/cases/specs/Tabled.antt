@@ -24,9 +24,9 @@ use Rattle.reply.specs.Replies.{windowAnswer}
 abbrev pub edges : ℕ → List ℕ
 edges nrb = map (edge nrb) (0 ∷ 1 ∷ 2 ∷ 3 ∷ 4 ∷ [])
 
--- a cell with N_RB 50 and N1 10, in mode 0, of one block
+-- a cell with N_RB 50 and N1 10, in mode 0, of one block, with no scheduled resource
 abbrev pub cell : ℕ → Settings
-cell config = record { config = config; nrb = 50; n1 = 10; mode = 0; blocks = 1 }
+cell config = record { config = config; nrb = 50; n1 = 10; mode = 0; blocks = 1; scheduled = 65535 }
 
 -- the subframe of the frame that lies k before n
 abbrev pub before : ℕ → ℕ → ℕ
