@@ -1,6 +1,6 @@
 -- 18 at a feed of a run is a second scheduled block in one window, in the words of the table of windows.
 -- Assumes nothing.
-use Prim.Native.Nat.{ℕ, _-_, _%_, _<_, _≤_}
+use Prim.Native.Nat.{ℕ, _-_, _%_, _≤_}
 use mathlib.Core.Bool.{Bool, true, false, cond, false≢true}
 use mathlib.Core.List.{List}
 use mathlib.Core.Logic.{_↔_}
@@ -11,7 +11,6 @@ use lib.ListN.{getD}
 use borrow.Author.Tests.{le-leb, lt-leb}
 use Rattle.frame.specs.declared.Settings.{Settings}
 use Rattle.frame.specs.Layout.{downlink}
-use Rattle.frame.specs.Once.{InWindow}
 use Rattle.frame.proofs.Shares.{shares-exactly}
 use Rattle.heard.specs.declared.Heard.{Heard}
 use Rattle.heard.specs.declared.Heard.the-variants.{Nothing, Scheduled}
