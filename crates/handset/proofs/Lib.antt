@@ -2,3 +2,4 @@ pub mod Passing
 pub mod Refused
 pub mod Remembered
 pub mod Silences
+pub mod Together
