@@ -113,7 +113,7 @@
  *             feedback_answered       64
  *             feedback_resource       64
  *             feedback_inverse        64
- *             feedback_reading        256
+ *             feedback_reading        512
  *             feedback_claims         128
  *             feedback_make           64
  *             feedback_feed_nothing   4096
@@ -453,19 +453,20 @@ struct feedback_inverse_answer feedback_inverse(struct feedback_settings setting
  * to the same value. So, if at most four PDCCHs of the window were sent up to and with
  * the one named here (releases counted, the scheduled block not), all of these were
  * heard and an ACK holds for each grant of them. If more were sent, it is sure for the
- * named one alone. PDCCHs sent after it were lost. Whether the scheduled block was
- * heard, a reading as a PDCCH does not tell: an ACK is sure for it only where the
- * reply is read as that block, and then for nothing else.
+ * named one alone. PDCCHs sent after it were lost. From a reading as a PDCCH nothing
+ * is concluded about the scheduled block: an ACK is sure for it only where the reply
+ * is read as that block, which was then heard, and then for nothing else.
  *
  * Multiplexed: delivered has the positions that are A (every block carried was
  * decoded) in every state of the window that sends this symbol. Where states
- * share a symbol, a position that is A in only some of them is left out.
+ * share a symbol, a position that is A in only some of them is left out. What was
+ * sent at a delivered position was heard, a release too.
  *
  * A reading says what the resource and the bits mean; it does not know what was
- * sent. If the station sent this handset no PDCCH with that first CCE at the
- * position named, the reply is not this handset's, but a false alarm of the
- * receiver (or another handset's reply): the station confirms nothing by it, at any
- * position. So a scheduler may conclude this, from the window, what it sent there
+ * sent. If it names a PDCCH, and the station sent this handset none with that first
+ * CCE at that position, or if it names a scheduled block and none was sent there,
+ * the reply is not this handset's, but a false alarm of the receiver (or another
+ * handset's reply): the station confirms nothing by it, at any position. So a scheduler may conclude this, from the window, what it sent there
  * and the reading alone. A block that it sent is confirmed if what the reading names
  * was sent, a PDCCH at that position with that first CCE or the scheduled block at
  * that position, and

@@ -1,7 +1,7 @@
 -- One bundled window, from what was sent and heard in it alone: demand 3's sentences on a window that 01 bundles.
 -- Assumes nothing.
 use Prim.Native.Nat.{ℕ, _+_, _-_, _%_, _<_, _≤_}
-use mathlib.Core.Bool.{Bool, true, false, cond, not, _&&_, _||_, and-true, false≢true}
+use mathlib.Core.Bool.{Bool, true, false, cond, not, _&&_, and-true, false≢true}
 use mathlib.Core.List.{List, map}
 use mathlib.Core.Logic.{_⊎_, inl, inr, _↔_, ⊎-elim}
 use mathlib.Core.Path.{_≡_, refl, sym, ap, _∙_}
@@ -12,7 +12,7 @@ use lib.ListN.{getD}
 use borrow.Author.Tests.{eq-eqb, ne-eqb, le-ltb}
 use Rattle.frame.specs.declared.Settings.{Settings}
 use Rattle.frame.specs.Order.{member, positionOf, orderOf, timesOf}
-use Rattle.frame.specs.Settings.{hasScheduled, bundles, windowRefusal}
+use Rattle.frame.specs.Settings.{bundles, windowRefusal}
 use Rattle.frame.specs.Table.{windowOf}
 use Rattle.frame.proofs.Accepted.{Accepted}
 use Rattle.frame.proofs.Times.{in-time-order}
@@ -31,7 +31,7 @@ use Rattle.heard.specs.declared.View.{View}
 use Rattle.fold.specs.Fold.{unseen, stepOf, seenOf}
 use Rattle.heard.specs.Heard.{isBlock, viewOf}
 use Rattle.heard.specs.Memory.{bit}
-use Rattle.reply.specs.Replies.{replyOn, expected, missShown, secondBit, onScheduled, loneAnswer, bundledAnswer}
+use Rattle.reply.specs.Replies.{replyOn, expected, missShown, secondBit, loneAnswer, bundledAnswer}
 use Rattle.station.specs.declared.Place.{Place}
 use Rattle.station.specs.declared.Place.the-variants as place
 use Rattle.station.specs.declared.Reading.{Reading}

@@ -1,7 +1,7 @@
 -- What a scheduler may conclude (specs/Confirmation.antt), of every engine that meets demand 3, and so of the engine of this
 -- repository.
 -- Assumes nothing.
-use Prim.Native.Nat.{ℕ, _%_, _<_}
+use Prim.Native.Nat.{ℕ, _/_, _%_, _^_, _<_}
 use mathlib.Core.Bool.{true, false}
 use mathlib.Core.List.{List}
 use mathlib.Core.Logic.{_⊎_, inl, inr}
@@ -20,12 +20,13 @@ use Rattle.confirmation.specs.declared.Send.{Send}
 use Rattle.confirmation.specs.Confirmed.{speaksFor, confirmed}
 use Rattle.confirmation.proofs.Confirmed.{carried}
 use Rattle.heard.specs.declared.Heard.{Heard}
+use Rattle.heard.specs.Heard.{isBlock}
 use Rattle.reply.specs.declared.Reply.{Reply}
 use Rattle.agreement.specs.Confirmation.{Replied, readingAt, decodedBlock, Conclusions}
 use Rattle.agreement.specs.Demand3.{Engine, feedbackEngine, fedAt, readingIn, HoldsAfter, Demand3}
 use Rattle.agreement.specs.Run.{Item, sentAgo, heardAgo, heardInRun, windowAt, Brings}
 use Rattle.agreement.specs.Window.{isHeard, isPdcch, inTime, Bundled, Multiplexed}
-use Rattle.agreement.proofs.Confirmation.{inside, LastRead, BlockRead, last-read, bundled-confirmed, multiplexed-confirmed}
+use Rattle.agreement.proofs.Confirmation.{inside, LastRead, BlockRead, last-read, delivered-ack, bundled-confirmed, multiplexed-confirmed}
 use Rattle.agreement.proofs.Demand3.{demand3}
 use Rattle.agreement.proofs.Feeds.{ago-brings}
 
@@ -84,12 +85,13 @@ module _ (e : Engine) (d : Demand3 e) (set : Settings) (sent : ℕ → Send) (it
           (l, ap (λ (m : ℕ). getD (windowAt set s) m 0) same ∙ l .isAt)
       go (inr l) = let z : _≡_ {A = ℕ} 0 1 = cc (is, l .isRead) in absurd (omega arith)
 
-  by-block : (m : ℕ) → m < length (windowAt set s) → (named b0 b1 : ℕ) → readingAt e set sent s r ≡ reading.Bundled (place.Block named) b0 b1 → ByBlock
+  by-block : (m : ℕ) → m < length (windowAt set s) → (named b0 b1 : ℕ) → readingAt e set sent s r ≡ reading.Bundled (place.Block named) b0 b1
+      → (l : ByBlock) × (l .named ≡ named)
   by-block m h named b0 b1 is = go (bundled m h (place.Block named) b0 b1 is)
     where
-      go : ByPdcch ⊎ ByBlock → ByBlock
+      go : ByPdcch ⊎ ByBlock → (l : ByBlock) × (l .named ≡ named)
       go (inl l) = let z : _≡_ {A = ℕ} 0 1 = cc (is, l .isRead) in absurd (omega arith)
-      go (inr l) = l
+      go (inr l) = let same : l .named ≡ named = cc (is, l .isRead) in (l, same)
 
   in-time : (m : ℕ) → m < length (windowAt set s) → member (getD (windowAt set s) m 0) (timesOf (windowAt set s)) ≡ true
   in-time m h = inside set (replied .accepted) sent (replied .schedule) s H brought r m h
@@ -111,7 +113,27 @@ module _ (e : Engine) (d : Demand3 e) (set : Settings) (sent : ℕ → Send) (it
 
   none-heard : (named b0 b1 : ℕ) → readingAt e set sent s r ≡ reading.Bundled (place.Block named) b0 b1
       → (m : ℕ) → m < length (windowAt set s) → isPdcch (H (getD (windowAt set s) m 0)) ≡ false
-  none-heard named b0 b1 is m h = by-block m h named b0 b1 is .none (getD (windowAt set s) m 0) (in-time m h)
+  none-heard named b0 b1 is m h = by-block m h named b0 b1 is .0 .none (getD (windowAt set s) m 0) (in-time m h)
+
+  block-heard : 0 < length (windowAt set s) → (named b0 b1 : ℕ) → readingAt e set sent s r ≡ reading.Bundled (place.Block named) b0 b1
+      → isBlock (H (getD (windowAt set s) named 0)) ≡ true
+  block-heard some named b0 b1 is =
+      let l = by-block 0 some named b0 b1 is in
+      rw (← l .1) (l .0 .heard)
+
+  delivered-heard : (named : Place) (positions : ℕ) → readingAt e set sent s r ≡ reading.Multiplexed named positions
+      → (m : ℕ) → m < length (windowAt set s) → positions / 2 ^ m % 2 ≡ 1 → isHeard (H (getD (windowAt set s) m 0)) ≡ true
+  delivered-heard named positions is m h bit = go (window m h)
+    where
+      go : Answered → isHeard (H (getD (windowAt set s) m 0)) ≡ true
+      go (inl w) = by (last-read set (replied .accepted) sent (replied .schedule) s H brought r (e .resource set (s % 10)) (readingIn e set sent s) _ w (replied .answered))
+        where
+          by : ByPdcch ⊎ ByBlock → isHeard (H (getD (windowAt set s) m 0)) ≡ true
+          by (inl l) = let z : _≡_ {A = ℕ} 0 1 = cc (is, l .isRead) in absurd (omega arith)
+          by (inr l) = let z : _≡_ {A = ℕ} 0 1 = cc (is, l .isRead) in absurd (omega arith)
+      go (inr w) =
+          let same : w .1 r (replied .answered) .delivered ≡ positions = cc (is, w .1 r (replied .answered) .isRead) in
+          delivered-ack set (replied .accepted) sent (replied .schedule) s H brought r m (e .resource set (s % 10)) (readingIn e set sent s) _ w (replied .answered) h (rw same bit) .0
 
   confirmed-decoded : (m block : ℕ) → confirmed (windowAt set s) (sentAgo sent s) (readingAt e set sent s r) m block ≡ true
       → decodedBlock (H (getD (windowAt set s) m 0)) block ≡ true
@@ -132,6 +154,8 @@ conclusions e d =
       heardUpTo = heard-up-to e d;
       lostAfter = lost-after e d;
       noneHeard = none-heard e d;
+      blockHeard = block-heard e d;
+      deliveredHeard = delivered-heard e d;
     }
 
 -- Of the engine of this repository.

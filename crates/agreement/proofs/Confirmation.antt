@@ -232,7 +232,7 @@ module _ (set : Settings) (good : settingsRefusal set ≡ 0) (sent : ℕ → Sen
     pub record BlockRead (read : ℕ → ℕ → ℕ → Reading) : Type 0 where
       pub named : ℕ
       pub isRead : read (r .resource .0) (r .b0) (r .b1) ≡ reading.Bundled (place.Block named) (r .b0) (r .b1)
-      pub heard : isHeard (H (getD (windowAt set s) named 0)) ≡ true
+      pub heard : isBlock (H (getD (windowAt set s) named 0)) ≡ true
       pub none : (j : ℕ) → member j ts ≡ true → isPdcch (H j) ≡ false
 
     pub last-read : (resource : ℕ → ℕ → Mapped) (read : ℕ → ℕ → ℕ → Reading) (a : Answer)
@@ -266,7 +266,7 @@ module _ (set : Settings) (good : settingsRefusal set ≡ 0) (sent : ℕ → Sen
             record {
               named = named .0;
               isRead = named .4;
-              heard = rw (named .2) (block-heard (H (b .0)) (block-at S H ts (b .0) (b .1) .1));
+              heard = rw (named .2) (block-at S H ts (b .0) (b .1) .1);
               none = none-of S H isPdcch ts (due .0);
             }
 
@@ -323,7 +323,19 @@ module _ (set : Settings) (good : settingsRefusal set ≡ 0) (sent : ℕ → Sen
         go in-window carries says (inr l) =
             let q = acked (place.Block (l .named)) m block (rw (l .isRead) at says) in
             let same : getD (windowAt set s) m 0 ≡ getD (windowAt set s) (l .named) 0 = eqb-true (getD (windowAt set s) m 0) (getD (windowAt set s) (l .named) 0) (q .0) in
-            there in-window carries (rw same (l .heard)) (q .1)
+            there in-window carries (rw same (block-heard (H (getD (windowAt set s) (l .named) 0)) (l .heard))) (q .1)
+
+    -- a delivered position of a multiplexed window is A
+    pub delivered-ack : (m : ℕ) (resource : ℕ → ℕ → Mapped) (read : ℕ → ℕ → ℕ → Reading) (a : Answer)
+        → (window : Multiplexed set resource read (windowAt set s) H (map (entry S H) ts) a) → (is : a ≡ answer.Sent r)
+        → m < length (windowAt set s) → window .1 r is .delivered / 2 ^ m % 2 ≡ 1
+        → (isHeard (H (getD (windowAt set s) m 0)) ≡ true) × (decodedFirst (H (getD (windowAt set s) m 0)) ≡ true) × (decodedSecond (H (getD (windowAt set s) m 0)) ≡ true)
+    delivered-ack m resource read a window is inside bit =
+        let reply = window .1 r is in
+        let k : ℕ = getD (windowAt set s) m 0 in
+        let states : List State = map (λ (k : ℕ). stateIn (H k)) (windowAt set s) in
+        let ack : getD states m Dtx ≡ Ack = reply .exactly m inside .0 bit states (length-map (windowAt set s) (λ (k : ℕ). stateIn (H k))) (reply .isSymbol) in
+        decoded-ack (H k) (sym (lists.entry (λ (k : ℕ). stateIn (H k)) (windowAt set s) m Dtx 0 inside) ∙ ack)
 
     pub multiplexed-confirmed : (m block : ℕ) (resource : ℕ → ℕ → Mapped) (read : ℕ → ℕ → ℕ → Reading) (a : Answer)
         → Multiplexed set resource read (windowAt set s) H (map (entry S H) ts) a → a ≡ answer.Sent r
@@ -332,11 +344,9 @@ module _ (set : Settings) (good : settingsRefusal set ≡ 0) (sent : ℕ → Sen
     multiplexed-confirmed m block resource read a window is e =
         let reply = window .1 r is in
         let k : ℕ = getD (windowAt set s) m 0 in
-        let states : List State = map (λ (k : ℕ). stateIn (H k)) (windowAt set s) in
         let p = carried (windowAt set s) S (read (r .resource .0) (r .b0) (r .b1)) m block e in
         let says : saysAck (windowAt set s) S (reading.Multiplexed (reply .named) (reply .delivered)) m block ≡ true = rw (reply .isRead) at (p .2) in
         let bit = eqb-true (reply .delivered / 2 ^ m % 2) 1 (both (namedSent (windowAt set s) S (reply .named)) (eqb (reply .delivered / 2 ^ m % 2) 1) says .1) in
-        let ack : getD states m Dtx ≡ Ack = reply .exactly m (p .0) .0 bit states (length-map (windowAt set s) (λ (k : ℕ). stateIn (H k))) (reply .isSymbol) in
-        let d = decoded-ack (H k) (sym (lists.entry (λ (k : ℕ). stateIn (H k)) (windowAt set s) m Dtx 0 (p .0)) ∙ ack) in
+        let d = delivered-ack m resource read a window is (p .0) bit in
         let same = sent-heard (S k) (H k) (d .0) (brings k) in
         decoded-block (H k) block (rw same (p .1)) (rw same (sent-blocks k)) (λ two zero. d .1) (λ two other. d .2) (λ one. inl (d .1))

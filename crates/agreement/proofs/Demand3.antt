@@ -3,6 +3,7 @@
 use Prim.Native.Nat.{ℕ, zero, suc, _+_, _%_, _<_}
 use mathlib.Core.Bool.{Bool, true, false, cond}
 use mathlib.Core.List.{List, [], _∷_}
+use mathlib.Core.Logic.{_↔_}
 use mathlib.Core.Path.{_≡_, refl, sym, ap, _∙_}
 use native.Mathlib.Nat.{add-zero, zero-add, add-suc, suc-add, le-of-suc-le-suc, not-suc-le-zero}
 use native.Mathlib.Omega.{arith}
@@ -16,7 +17,10 @@ use Rattle.resource.proofs.OneToOne.{calls-one-to-one, resource-call, paired}
 use Rattle.resource.specs.Calls.{sizeOf}
 use Rattle.confirmation.specs.declared.Send.{Send}
 use Rattle.heard.specs.declared.Heard.{Heard}
-use Rattle.heard.specs.declared.Heard.the-variants.{Nothing}
+use Rattle.heard.specs.declared.Heard.the-variants.{Nothing, Scheduled}
+use Rattle.heard.specs.declared.ScheduledBlock.{ScheduledBlock}
+use Rattle.heard.specs.Heard.{heardRefusal}
+use Rattle.reply.specs.declared.Answer.the-variants as answer
 use Rattle.handset.specs.declared.Fed.{Fed}
 use Rattle.handset.specs.Feed.{feedOf}
 use Rattle.handset.specs.Make.{makeOf}
@@ -24,9 +28,10 @@ use Rattle.station.proofs.Back.{told-fine, read-back}
 use Rattle.station.specs.declared.Told.{Told}
 use Rattle.station.specs.declared.Told.the-variants as told
 use Rattle.station.specs.Readings.{toldRefusal}
-use Rattle.agreement.specs.Demand3.{feedbackEngine, MayTell, handsetAt, fedAt, IsFeed, IsSubframe, Demand3}
+use Rattle.agreement.specs.Demand3.{feedbackEngine, MayTell, handsetAt, fedAt, IsFeed, SecondIn, IsSubframe, Demand3}
 use Rattle.agreement.specs.Run.{Item, feed, itemAt, handsetAfter, causeAfter, heardFrom, heardInRun, Schedule, Brings, subframeAt, BringsSent}
 use Rattle.agreement.proofs.Memory.{ValidPast, after, fresh-after}
+use Rattle.agreement.proofs.Second.{second-exactly}
 use Rattle.agreement.proofs.Feeds.{Past, accepted-after, refused-after, feed-holds, Answered, FeedHolds}
 
 module _ (set : Settings) (good : settingsRefusal set ≡ 0) (sent : ℕ → Send) (schedule : Schedule set sent) (heard : List Heard)
@@ -90,6 +95,24 @@ run-subframe : (set : Settings) → settingsRefusal set ≡ 0 → (sent : ℕ �
 run-subframe set good sent schedule items brings i s x at =
     rw (at .counted) at (run-feed set good sent schedule items brings i x (at .isFeed) .accepted (at .accepted))
 
+-- A feed that is refused 18 brings a second scheduled block in one window.
+same-refusal : (k j : ℕ) → answer.Refused k ≡ answer.Refused j → k ≡ j
+same-refusal k j e = cc
+
+run-second : (set : Settings) → settingsRefusal set ≡ 0 → (sent : ℕ → Send) → Schedule set sent → (items : List Item) → BringsSent set sent items
+    → (i : ℕ) (b : ScheduledBlock) → IsFeed items i (Scheduled b) → heardRefusal set (subframeAt set items i % 10) (Scheduled b) ≡ 0
+    → (fedAt feedbackEngine set items i (Scheduled b) .answer ≡ answer.Refused 18) ↔ SecondIn (set .config) (heardInRun set items) (subframeAt set items i)
+run-second set good sent schedule items brings i b f alone =
+    let holds = run-feed set good sent schedule items brings i (Scheduled b) f in
+    let exactly = second-exactly set (heardInRun set items) (subframeAt set items i) b alone in (
+      λ e.
+          let met = holds .refusedExactly .0 (18, e) in
+          exactly .0 (same-refusal _ 18 (sym (ap (λ (f : Fed). f .answer) (holds .refused met)) ∙ e)),
+      λ e.
+          let is = exactly .1 e in
+          ap (λ (f : Fed). f .answer) (holds .refused (λ none. omega (arith, is, none))) ∙ ap answer.Refused is,
+    )
+
 -- What may be told is not refused.
 may-tell : (set : Settings) (n : ℕ) (t : Told) → MayTell set n t → toldRefusal set (sizeOf set n) t ≡ 0
 unfolding toldRefusal
@@ -109,6 +132,7 @@ demand3 =
           record {
             refusedExactly = λ i x f. run-feed set good sent schedule items brings i x f .refusedExactly;
             leaves = λ i x f. run-feed set good sent schedule items brings i x f .refused;
+            second = run-second set good sent schedule items brings;
             taken = λ i s x at. run-subframe set good sent schedule items brings i s x at .taken;
             noWindow = λ i s x at. run-subframe set good sent schedule items brings i s x at .noWindow;
             bundled = λ i s x at. run-subframe set good sent schedule items brings i s x at .bundled;

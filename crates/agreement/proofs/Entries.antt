@@ -23,7 +23,7 @@ use Rattle.heard.specs.declared.View.{View}
 use Rattle.fold.specs.Fold.{stepOf, seenFrom}
 use Rattle.heard.specs.Heard.{isBlock, viewOf}
 use Rattle.agreement.specs.Run.{RuleFrom, Brings}
-use Rattle.agreement.specs.Window.{Entry, at, isHeard, isPdcch, anyOf, BlockAt, Last, unheard, heardAt, asLast, later, lastHeard}
+use Rattle.agreement.specs.Window.{Entry, at, isPdcch, anyOf, BlockAt, Last, unheard, heardAt, asLast, later, lastHeard}
 use Rattle.agreement.proofs.Folded.{foldIn, Brought, Ruled}
 
 -- P of each number of a list

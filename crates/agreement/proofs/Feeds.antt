@@ -44,11 +44,11 @@ use Rattle.station.specs.declared.Told.{Told}
 use Rattle.station.specs.declared.Told.the-variants as told
 use Rattle.station.specs.Readings.{readAt, toldRefusal, readOf}
 use Rattle.station.proofs.Back.{told-fine, read-there, read-block}
-use Rattle.agreement.specs.Run.{sentOf, asHeard, sentAgo, heardAgo, causeAfter, Schedule, Brings, windowAt}
+use Rattle.agreement.specs.Run.{asHeard, sentAgo, heardAgo, causeAfter, Schedule, Brings, windowAt}
 use Rattle.agreement.specs.Window.{inTime, Bundled, Multiplexed}
 use Rattle.agreement.proofs.BundledWindow.{LowCce, bundled-window}
 use Rattle.agreement.proofs.Entries.{member-at}
-use Rattle.agreement.proofs.Memory.{ValidPast, after, pushed-after, view-after, low-after, set-after, cause-after, sound-after}
+use Rattle.agreement.proofs.Memory.{ValidPast, after, pushed-after, view-after, low-after, cause-after, sound-after}
 use Rattle.agreement.proofs.MultiplexedWindow.{multiplexed-window}
 use Rattle.agreement.proofs.NeverRefused.{never-refused}
 use Rattle.confirmation.proofs.Told.{told-position, told-of-block}

@@ -11,7 +11,7 @@ use lib.Dec.{eqb, leb}
 use lib.ListN.{length, getD}
 use borrow.Author.Tests.{le-leb, eqb-true, eqb-false}
 use Rattle.frame.specs.declared.Settings.{Settings}
-use Rattle.frame.specs.Settings.{hasScheduled, settingsRefusal}
+use Rattle.frame.specs.Settings.{settingsRefusal}
 use Rattle.frame.proofs.Accepted.{Accepted}
 use Rattle.heard.specs.declared.Heard.{Heard}
 use Rattle.heard.specs.declared.Heard.the-variants.{Nothing, Granted, Scheduled, Released}
@@ -25,7 +25,7 @@ use Rattle.handset.specs.Feed.{pushed}
 use Rattle.handset.specs.Make.{slotsFrom, memory, fresh}
 use Rattle.handset.specs.Sound.{slotSound, previous, allSound, stateSound, stateRefusal}
 use Rattle.agreement.specs.Run.{causeAfter}
-use Rattle.agreement.specs.Window.{asLast, heardAt}
+use Rattle.agreement.specs.Window.{heardAt}
 use Rattle.agreement.proofs.BundledWindow.{LowCce}
 
 -- The three bits of a slot's results, taken apart again.
@@ -142,7 +142,7 @@ view-after set ok l v k least most =
     slots-at 13 0 (map slotOf l) (k - 1) (omega arith) ∙ ap (λ (x : ℕ). getD (map slotOf l) x none) (zero-add (k - 1)) in
     ap viewIn (e ∙ slot-of l (k - 1)) ∙ slot-view set ok (w .0) (getD l (k - 1) Nothing) (w .1)
 
--- What is valid has a first CCE below N_4, and a resource set where it is a scheduled block.
+-- What is valid has a first CCE below N_4.
 same-cce : (k c d : ℕ) → heardAt k d ≡ heardAt k c → d ≡ c
 same-cce k c d e = cc
 
@@ -152,17 +152,8 @@ valid-low set n (Granted g) v k c e = rw (same-cce k c (g .cce .0) e) at (v .2 .
 valid-low set n (Scheduled b) v k c e = let z : _≡_ {A = ℕ} 0 1 = cc in absurd (omega arith)
 valid-low set n (Released p) v k c e = rw (same-cce k c (p .cce .0) e) at (v .1 .cceLow)
 
-valid-set : (set : Settings) (n : ℕ) (x : Heard) → Valid set n x → isBlock x ≡ true → hasScheduled set ≡ true
-valid-set set n Nothing v e = absurd (false≢true e)
-valid-set set n (Granted g) v e = absurd (false≢true e)
-valid-set set n (Scheduled b) v e = v .2
-valid-set set n (Released p) v e = absurd (false≢true e)
-
 pub low-after : (set : Settings) (l : List Heard) → ValidPast set l → (i : ℕ) → LowCce set (getD l i Nothing)
 low-after set l v i = let w = valid-at set l v i in valid-low set (w .0) (getD l i Nothing) (valid set (w .0) (getD l i Nothing) (w .1))
-
-pub set-after : (set : Settings) (l : List Heard) → ValidPast set l → (i : ℕ) → isBlock (getD l i Nothing) ≡ true → hasScheduled set ≡ true
-set-after set l v i = let w = valid-at set l v i in valid-set set (w .0) (getD l i Nothing) (valid set (w .0) (getD l i Nothing) (w .1))
 
 -- A slot has a block's kind exactly if it was made of one.
 kind-block : (x : Heard) → eqb (slotOf x .kind) 2 ≡ isBlock x

@@ -38,7 +38,6 @@ use Rattle.reply.specs.Replies.{replyOn, stateOf, carrierOf, windowState, symbo
 use Rattle.station.specs.declared.Place.{Place}
 use Rattle.station.specs.declared.Place.the-variants as place
 use Rattle.station.specs.declared.Reading.{Reading}
-use Rattle.station.specs.declared.Reading.the-variants as reading
 use Rattle.station.specs.Readings.{placePosition, readAt}
 use Rattle.station.proofs.Back.{read-symbol}
 use Rattle.agreement.specs.Window.{Entry, isHeard, anyOf, decodedFirst, decodedSecond, stateIn, ReadAs, Carries, MultiplexedReply, Multiplexed}

@@ -19,6 +19,8 @@
 --                   18 is not known: a second scheduled block of a window is taken         not-takes-second-block
 --                       and one where no resource is set                                   not-takes-unset-block
 --                   18 for a scheduled block after one in another window                   not-refuses-across
+--   second          a second scheduled block of a window is taken                          not-takes-second-in-window
+--                   18 for a scheduled block after one in another window                   not-refuses-across-windows
 --   leaves          9 whatever the cause                                                   not-refuses-with-nine
 --                   the handset moves on at a refused feed                                 not-moves-on
 --   taken           "silent" for "taken"                                                   not-silent-for-taken

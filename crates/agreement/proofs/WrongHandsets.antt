@@ -1,17 +1,20 @@
 -- Handsets with one fault each, and the field of the statement that shuts each of them out; WrongEngines.antt lists them.
 -- Assumes nothing.
-use Prim.Native.Nat.{ℕ, _+_, _-_}
+use Prim.Native.Nat.{ℕ, zero, suc, _+_, _-_, _%_, _<_}
 use mathlib.Core.Bool.{Bool, true, false, cond, _&&_, _||_, false≢true}
 use mathlib.Core.List.{List, [], _∷_, reverse}
 use mathlib.Core.Logic.{inl, inr}
-use mathlib.Core.Path.{_≡_, refl, ap}
+use mathlib.Core.Path.{_≡_, refl, sym, ap, _∙_}
 use native.Mathlib.Omega.{arith}
 use lib.Dec.{eqb, ltb}
 use lib.ListN.{getD}
 use Rattle.frame.specs.declared.Settings.{Settings}
+use Rattle.frame.specs.Layout.{downlink}
+use Rattle.frame.specs.Once.{InWindow}
 use Rattle.frame.specs.Order.{orderOf}
 use Rattle.frame.specs.Settings.{orElse}
 use Rattle.frame.specs.Table.{windowOf}
+use Rattle.frame.proofs.Windows.{exactly-one}
 use Rattle.resource.specs.declared.Inverted.{Inverted}
 use Rattle.resource.specs.declared.Inverted.the-variants as inverted
 use Rattle.resource.specs.declared.Mapped.{Mapped}
@@ -41,6 +44,7 @@ use Rattle.station.specs.declared.Reading.{Reading}
 use Rattle.station.specs.declared.Told.{Told}
 use Rattle.station.specs.Readings.{readOf}
 use Rattle.agreement.specs.Demand3.{Engine, Demand3}
+use Rattle.agreement.specs.Run.{heardInRun}
 use Rattle.agreement.proofs.Computing.{schedules, handsets, stations}
 use Rattle.agreement.proofs.Worked.{answer-at, fed-nothing, cell, scheduledTwoBlockCell, heardGrant, heardBlock, reply, allHeard, all-heard, missed, first-missed, oneUndecoded, one-undecoded, refusedFeeds, refused-feeds, twoWindows, two-windows, shared, symbol-shared, loneBlock, lone-block, secondBlock, second-block, noResourceSet, no-resource-set, blockInEach, block-in-each, blockAtIndex, block-at-index}
 use Rattle.agreement.proofs.WrongEngines.{engine, madeBy, fedBy, changed, knowsBy, answersBy, answering, replying, replyingIn, sentOn, withBits, same-answer, same-resource, symbol-parts, named-at, one-lost, holds-in, in-all-heard, in-missed, in-one-undecoded, in-two-windows, in-shared, in-shared-before, in-lone-block, in-block-last, in-missed-with-block, in-release-last, in-block-at-index, in-release-at-index}
@@ -143,6 +147,40 @@ unfolding handsets
 not-refuses-across d =
     holds-in (fedBy refusesAcross) d blockInEach block-in-each .refusedExactly 5 (heardBlock false) (record { inside = omega arith; brings = refl }) .0
     (18, refl) refl
+
+-- The same two, by the words of the window table: subframes 4 and 5 of configuration 2 are in the window of 12; of configuration 1,
+-- subframe 0 is in that of 7 and subframe 5 in that of 12.
+pub not-takes-second-in-window : Demand3 (fedBy takesEighteen) → ⊥
+unfolding handsets
+not-takes-second-in-window d =
+    let r = holds-in (fedBy takesEighteen) d secondBlock second-block .second 5 (record { blocks = 1; first = true; second = false })
+    (record { inside = omega arith; brings = refl }) refl .1
+    (4, 12, 1, 0, omega arith, record { position = omega arith; distance = refl }, record { position = omega arith; distance = refl }, refl) in
+    omega (arith, same-answer {b = answer.Taken} refl r)
+
+-- the block heard before subframe 5 is that of 0
+only-first : (d : ℕ) → d < 5 → isBlock (getD (heardInRun (blockInEach .set) (blockInEach .items)) d Nothing) ≡ true → d ≡ 0
+unfolding schedules
+only-first zero h e = refl
+only-first (suc zero) h e = absurd (false≢true e)
+only-first (suc (suc zero)) h e = absurd (false≢true e)
+only-first (suc (suc (suc zero))) h e = absurd (false≢true e)
+only-first (suc (suc (suc (suc zero)))) h e = absurd (false≢true e)
+only-first (suc (suc (suc (suc (suc d))))) h e = absurd (omega arith)
+
+-- a subframe of configuration 1 that is in the window of s is in that of no other
+one-window : (d s m u i : ℕ) → downlink 1 (d % 10) ≡ true → InWindow 1 s m d → InWindow 1 u i d → u ≡ s
+one-window d s m u i down here there = let one = exactly-one 1 d down in one .only u i there .0 ∙ sym (one .only s m here .0)
+
+pub not-refuses-across-windows : Demand3 (fedBy refusesAcross) → ⊥
+unfolding handsets
+not-refuses-across-windows d =
+    let r = holds-in (fedBy refusesAcross) d blockInEach block-in-each .second 5 (record { blocks = 1; first = false; second = false })
+    (record { inside = omega arith; brings = refl }) refl .0 refl in
+    let first : r .0 ≡ 0 = only-first (r .0) (r .4) (r .7) in
+    let seven = one-window 0 7 0 (r .1) (r .3) refl (record { position = omega arith; distance = refl }) (rw first at (r .6)) in
+    let twelve = one-window 5 12 0 (r .1) (r .2) refl (record { position = omega arith; distance = refl }) (r .5) in
+    omega (arith, seven, twelve)
 
 -- Subframes without a reply.
 

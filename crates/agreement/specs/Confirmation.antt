@@ -1,6 +1,6 @@
 -- What a scheduler may conclude from a reading, in every run of demand 3: what include/feedback.h says at feedback_reading.
 -- Assumes nothing.
-use Prim.Native.Nat.{ℕ, _<_}
+use Prim.Native.Nat.{ℕ, _/_, _%_, _^_, _<_}
 use mathlib.Core.Bool.{Bool, true, false, cond, _&&_}
 use mathlib.Core.List.{List}
 use mathlib.Core.Path.{_≡_}
@@ -9,6 +9,7 @@ use lib.ListN.{length, getD}
 use Rattle.frame.specs.declared.Settings.{Settings}
 use Rattle.frame.specs.Settings.{settingsRefusal}
 use Rattle.resource.specs.declared.Cce.{Cce}
+use Rattle.station.specs.declared.Place.{Place}
 use Rattle.station.specs.declared.Place.the-variants as place
 use Rattle.station.specs.declared.Reading.{Reading}
 use Rattle.station.specs.declared.Reading.the-variants as reading
@@ -16,6 +17,7 @@ use Rattle.confirmation.specs.declared.Send.{Send}
 use Rattle.confirmation.specs.Confirmed.{speaksFor, confirmed}
 use Rattle.heard.specs.declared.Heard.{Heard}
 use Rattle.heard.specs.declared.Heard.the-variants.{Nothing, Granted, Scheduled, Released}
+use Rattle.heard.specs.Heard.{isBlock}
 use Rattle.reply.specs.declared.Answer.the-variants as answer
 use Rattle.reply.specs.declared.Reply.{Reply}
 use Rattle.agreement.specs.Demand3.{Engine, fedAt, readingIn, IsSubframe}
@@ -64,7 +66,15 @@ pub record Conclusions (e : Engine) : Type 0 where
       → (named : ℕ) (c : Cce) (b0 b1 : ℕ) → readingAt e set sent s r ≡ reading.Bundled (place.Pdcch named c) b0 b1
       → (m : ℕ) → m < length (windowAt set s) → getD (windowAt set s) m 0 < getD (windowAt set s) named 0
       → isPdcch (heardThere set items s m) ≡ false
-  -- Read as the scheduled block: every PDCCH of the window was lost.
+  -- Read as the scheduled block: that block was heard, ACK or NACK, and every PDCCH of the window was lost.
+  pub blockHeard : (set : Settings) (sent : ℕ → Send) (items : List Item) (s : ℕ) (r : Reply) → Replied e set sent items s r
+      → 0 < length (windowAt set s) → (named b0 b1 : ℕ) → readingAt e set sent s r ≡ reading.Bundled (place.Block named) b0 b1
+      → isBlock (heardThere set items s named) ≡ true
   pub noneHeard : (set : Settings) (sent : ℕ → Send) (items : List Item) (s : ℕ) (r : Reply) → Replied e set sent items s r
       → (named b0 b1 : ℕ) → readingAt e set sent s r ≡ reading.Bundled (place.Block named) b0 b1
       → (m : ℕ) → m < length (windowAt set s) → isPdcch (heardThere set items s m) ≡ false
+  -- A multiplexed reading: what was sent at each delivered position was heard, a release too.
+  pub deliveredHeard : (set : Settings) (sent : ℕ → Send) (items : List Item) (s : ℕ) (r : Reply) → Replied e set sent items s r
+      → (named : Place) (positions : ℕ) → readingAt e set sent s r ≡ reading.Multiplexed named positions
+      → (m : ℕ) → m < length (windowAt set s) → positions / 2 ^ m % 2 ≡ 1
+      → isHeard (heardThere set items s m) ≡ true

@@ -4,14 +4,14 @@
 -- inverseOf (resource::resource_of and inverse_of), readOf (station::read).
 -- Assumes nothing.
 use Prim.Native.Nat.{ℕ, _%_, _<_}
-use mathlib.Core.Bool.{Bool, true, false}
+use mathlib.Core.Bool.{true, false}
 use mathlib.Core.List.{List, []}
 use mathlib.Core.Logic.{_⊎_, _↔_}
 use mathlib.Core.Path.{_≡_}
-use lib.ListN.{length, take}
+use lib.ListN.{length, getD, take}
 use Rattle.frame.specs.declared.Settings.{Settings}
 use Rattle.frame.specs.Layout.{downlink}
-use Rattle.frame.specs.Once.{InExactlyOne}
+use Rattle.frame.specs.Once.{InWindow, InExactlyOne}
 use Rattle.frame.specs.Settings.{hasScheduled, settingsRefusal, windowRefusal}
 use Rattle.confirmation.specs.declared.Send.{Send}
 use Rattle.confirmation.specs.Sent.{toldOf}
@@ -23,7 +23,9 @@ use Rattle.resource.specs.Formula.{edge, resourceNumber}
 use Rattle.resource.specs.OneToOne.{OneToOne}
 use Rattle.reply.specs.declared.Answer.the-variants as answer
 use Rattle.heard.specs.declared.Heard.{Heard}
-use Rattle.heard.specs.Heard.{isBlock, causeOf}
+use Rattle.heard.specs.declared.Heard.the-variants.{Nothing, Scheduled}
+use Rattle.heard.specs.declared.ScheduledBlock.{ScheduledBlock}
+use Rattle.heard.specs.Heard.{isBlock, heardRefusal, causeOf}
 use Rattle.handset.specs.declared.Fed.{Fed}
 use Rattle.handset.specs.declared.Handset.{Handset}
 use Rattle.handset.specs.declared.Made.{Made}
@@ -82,6 +84,11 @@ abbrev pub MayTell : Settings → ℕ → Told → Type 0
 MayTell set n told.NotTold = Unit {0}
 MayTell set n (told.At m) = (m < sizeOf set n) × (hasScheduled set ≡ true)
 
+-- A scheduled block was heard in an earlier subframe d of the window that subframe s is in.
+abbrev pub SecondIn : ℕ → List Heard → ℕ → Type 0
+SecondIn c heard s =
+    (d uplink i j : ℕ) × (d < s) × InWindow c uplink i s × InWindow c uplink j d × (isBlock (getD heard d Nothing) ≡ true)
+
 -- What holds after a list of feeds.
 pub record HoldsAfter (e : Engine) (set : Settings) (sent : ℕ → Send) (items : List Item) : Type 0 where
   -- "A feed is refused exactly when a cause for a feed .. is met at the run's next subframe, and 8 never is;"
@@ -90,6 +97,9 @@ pub record HoldsAfter (e : Engine) (set : Settings) (sent : ℕ → Send) (items
   -- "it then answers its number and leaves the handset"
   pub leaves : (i : ℕ) (x : Heard) → IsFeed items i x → (causeAt set items i x ≡ 0 → ⊥)
       → fedAt e set items i x ≡ record { answer = answer.Refused (causeAt set items i x); handset = handsetAt e set items i }
+  -- 18 is "a second scheduled block in one window": one that is valid by itself is refused so exactly if another was heard there
+  pub second : (i : ℕ) (b : ScheduledBlock) → IsFeed items i (Scheduled b) → heardRefusal set (subframeAt set items i % 10) (Scheduled b) ≡ 0
+      → (fedAt e set items i (Scheduled b) .answer ≡ answer.Refused 18) ↔ SecondIn (set .config) (heardInRun set items) (subframeAt set items i)
   -- "A downlink subframe is answered "taken","
   pub taken : (i s : ℕ) (x : Heard) → IsSubframe set items i s x → downlink (set .config) (s % 10) ≡ true
       → fedAt e set items i x .answer ≡ answer.Taken

@@ -2,7 +2,7 @@
 -- give.
 -- Assumes nothing.
 use Prim.Native.Nat.{ℕ, _-_, _%_, _+_, _<_}
-use mathlib.Core.Bool.{Bool, true, false, cond}
+use mathlib.Core.Bool.{true, false, cond}
 use mathlib.Core.List.{List, [], _∷_, map}
 use mathlib.Core.Logic.{_⊎_}
 use mathlib.Core.Path.{_≡_}

@@ -2,7 +2,7 @@
 -- the reply; what the handset heard is asked nowhere. That each confirmed block was heard and decoded, in every run of demand 3, is
 -- proved in agreement/proofs/Conclusions.antt.
 -- `sent k` is what was sent k subframes before the reply; `ks` is K as printed; a position m stands for subframe n - k_m; block 0
--- is a grant's or a scheduled block's first or only one, block 1 its second. Document 02, U1 and U10.
+-- is a grant's or a scheduled block's first or only one, block 1 its second. Document 02, U1.
 -- Assumes nothing.
 use Prim.Native.Nat.{ℕ, _+_, _/_, _%_, _^_}
 use mathlib.Core.Bool.{Bool, false, cond, _&&_, _||_}

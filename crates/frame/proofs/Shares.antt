@@ -71,7 +71,7 @@ before-run c d a h =
     ap (distanceOf c) same ∙ distance-frame c (d - a)
 
 -- The test is that one uplink subframe has both in its window.
-pub shares-exactly : (c d a : ℕ) → downlink c (d % 10) ≡ true → a ≤ d → SharesExactly c d a
+pub shares-exactly : (c d a : ℕ) → SharesExactly c d a
 unfolding shares
 shares-exactly c d a down h = (to, from)
   where

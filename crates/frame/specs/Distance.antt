@@ -37,10 +37,12 @@ before n a = (n + 9 * a) % 10
 unfoldable pub shares : ℕ → ℕ → ℕ → Bool
 shares c n a = eqb (distanceOf c n + a) (distanceOf c (before n a))
 
--- For the subframes d and d - a of an endless run, d downlink: they share a window exactly if both are in the window of one uplink
--- subframe.
+-- What `shares` says of the subframes d, which is downlink, and d - a of an endless run: it is true exactly if both are in the
+-- window of one uplink subframe.
 abbrev pub SharesExactly : ℕ → ℕ → ℕ → Type 0
-SharesExactly c d a = (shares c (d % 10) a ≡ true) ↔ ((s i j : ℕ) × InWindow c s i d × InWindow c s j (d - a))
+SharesExactly c d a =
+    downlink c (d % 10) ≡ true → a ≤ d
+    → (shares c (d % 10) a ≡ true) ↔ ((s i j : ℕ) × InWindow c s i d × InWindow c s j (d - a))
 
 -- The position of d in its window, that is of k in K as printed.
 unfoldable pub answeredPosition : ℕ → ℕ → ℕ

@@ -3,3 +3,4 @@ pub mod Refused
 pub mod Remembered
 pub mod Scheduled
 pub mod Silences
+pub mod Together

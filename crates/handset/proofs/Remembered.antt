@@ -1,8 +1,8 @@
 -- The check of what is remembered, slot by slot: each is valid by itself, and a scheduled block is no second one.
 -- Assumes nothing.
 use Prim.Native.Nat.{ℕ, zero, suc, _+_, _<_, _≤_}
-use mathlib.Core.Bool.{Bool, true, false, cond, not, _&&_}
-use mathlib.Core.List.{List}
+use mathlib.Core.Bool.{Bool, true, false, cond, not, _&&_, and-true}
+use mathlib.Core.List.{List, [], _∷_}
 use mathlib.Core.Path.{_≡_, refl, sym, _∙_}
 use native.Mathlib.Numerals.{add-one}
 use lib.Dec.{eqb, leb, eqb·suc-zero}
@@ -15,50 +15,73 @@ use Rattle.heard.specs.declared.Slot.{Slot}
 use Rattle.heard.specs.Heard.{heardRefusal, blockBefore, secondRefusal, causeOf}
 use Rattle.heard.specs.Memory.{none, heardIn, blockAgo}
 use Rattle.heard.proofs.Remembered.{kind-block}
+use Rattle.handset.specs.Checked.{slotValid, allValid, allFirst}
 use Rattle.handset.specs.Sound.{slotSound, previous, allSound}
 
 -- A slot is sound where it is valid by itself, and is no scheduled block or the first one heard in its window.
-module _ (s : Settings) (n : ℕ) (older : List Slot) (t : Slot) where
-  abbrev Alone : Bool
-  Alone = leb (t .kind) 3 && eqb (heardRefusal s n (heardIn t)) 0
+sound-parts : (s : Settings) (n : ℕ) (older : List Slot) (t : Slot)
+    → slotSound s n older t ≡ (slotValid s n t && not (eqb (t .kind) 2 && blockBefore 13 (s .config) n (blockAgo older)))
+unfolding slotSound slotValid causeOf secondRefusal
+sound-parts s n older t =
+    rw (kind-block t) (go (leb (t .kind) 3) (heardRefusal s n (heardIn t)) (eqb (t .kind) 2 && blockBefore 13 (s .config) n (blockAgo older)))
+  where
+    go : (k : Bool) (r : ℕ) (b : Bool) → (k && eqb (orElse r (cond b 18 0)) 0) ≡ (k && eqb r 0 && not b)
+    go false r b = refl
+    go true zero true = refl
+    go true zero false = refl
+    go true (suc r) b = rw (eqb·suc-zero r)
 
-  sound-parts : slotSound s n older t ≡ (Alone && not (eqb (t .kind) 2 && blockBefore 13 (s .config) n (blockAgo older)))
-  unfolding slotSound causeOf secondRefusal
-  sound-parts = rw (kind-block t) (go (leb (t .kind) 3) (heardRefusal s n (heardIn t)) (eqb (t .kind) 2 && blockBefore 13 (s .config) n (blockAgo older)))
+-- So the two parts of the check are the check.
+pub all-parts : (s : Settings) (n : ℕ) (past : List Slot) → allSound s n past ≡ (allValid s n past && allFirst (s .config) n past)
+unfolding allSound allValid allFirst
+all-parts s n [] = refl
+all-parts s n (t ∷ ts) =
+    rw (sound-parts s (previous n) ts t, all-parts s (previous n) ts)
+    (apart (slotValid s (previous n) t) (not (eqb (t .kind) 2 && blockBefore 13 (s .config) (previous n) (blockAgo ts)))
+    (allValid s (previous n) ts) (allFirst (s .config) (previous n) ts))
+  where
+    apart : (a b c d : Bool) → ((a && b) && (c && d)) ≡ ((a && c) && (b && d))
+    apart false b c d = refl
+    apart true true true d = refl
+    apart true true false d = refl
+    apart true false true d = refl
+    apart true false false d = refl
+
+-- Each by itself: the slots before i gave `valid`, and n is the subframe that the slot before i was fed in.
+module _ (s : Settings) (next : ℕ) (past : List Slot) (n i : ℕ) (valid : Bool) (before : allValid s next past ≡ (valid && allValid s n (drop i past))) where
+  pub valid-next : i < length past → (p : ℕ) → p ≡ previous n → (b : Bool) → b ≡ slotValid s p (getD past i none)
+      → allValid s next past ≡ ((valid && b) && allValid s p (drop (i + 1) past))
+  unfolding allValid
+  valid-next h p fed b tested =
+      before ∙ rw (add-one, drop-cons past i none h, ← fed, ← tested) (joined valid b (allValid s p (drop (suc i) past)))
     where
-      go : (k : Bool) (r : ℕ) (b : Bool) → (k && eqb (orElse r (cond b 18 0)) 0) ≡ (k && eqb r 0 && not b)
-      go false r b = refl
-      go true zero true = refl
-      go true zero false = refl
-      go true (suc r) b = rw (eqb·suc-zero r)
+      joined : (a b c : Bool) → (a && (b && c)) ≡ ((a && b) && c)
+      joined true b c = refl
+      joined false b c = refl
 
-  module _ (alone : Bool) (tested : alone ≡ Alone) where
-    pub sound-invalid : alone ≡ false → false ≡ slotSound s n older t
-    sound-invalid e = sym (sound-parts ∙ rw (sym tested ∙ e))
+  pub valid-end : (size : ℕ) → length past ≡ size → size ≤ i → valid ≡ allValid s next past
+  unfolding allValid
+  valid-end size e h = sym (before ∙ rw (drop-of-length-le past {i = i} (rw e h)) (and-true valid))
 
-    pub sound-other : alone ≡ true → (t .kind ≡ 2 → ⊥) → true ≡ slotSound s n older t
-    sound-other e other = sym (sound-parts ∙ rw (sym tested ∙ e, ne-eqb (t .kind) 2 other))
-
-    pub sound-block : alone ≡ true → t .kind ≡ 2 → (second : Bool) → second ≡ blockBefore 13 (s .config) n (blockAgo older) → not second ≡ slotSound s n older t
-    sound-block e block second asked = sym (sound-parts ∙ rw (sym tested ∙ e, eq-eqb (t .kind) 2 block, ← asked))
-
--- The slots before i passed, and n is the subframe that the slot before i was fed in.
-module _ (s : Settings) (next : ℕ) (past : List Slot) (n i : ℕ) (before : allSound s next past ≡ allSound s n (drop i past)) where
+-- No second one: the slots before i passed.
+module _ (c next : ℕ) (past : List Slot) (n i : ℕ) (before : allFirst c next past ≡ allFirst c n (drop i past)) where
   one-more : i < length past
-      → allSound s next past ≡ (slotSound s (previous n) (drop (i + 1) past) (getD past i none) && allSound s (previous n) (drop (i + 1) past))
-  unfolding allSound
+      → allFirst c next past
+      ≡ (not (eqb (getD past i none .kind) 2 && blockBefore 13 c (previous n) (blockAgo (drop (i + 1) past))) && allFirst c (previous n) (drop (i + 1) past))
+  unfolding allFirst
   one-more h = before ∙ rw (add-one, drop-cons past i none h)
 
-  module _ (h : i < length past) (p : ℕ) (fed : p ≡ previous n) (b : Bool) (tested : b ≡ slotSound s p (drop (i + 1) past) (getD past i none)) where
-    -- Slot i, fed in subframe p, passes.
-    pub sound-next : b ≡ true → allSound s next past ≡ allSound s p (drop (i + 1) past)
-    sound-next e = one-more h ∙ rw (← fed, sym tested ∙ e)
+  module _ (h : i < length past) (p : ℕ) (fed : p ≡ previous n) where
+    pub first-other : (getD past i none .kind ≡ 2 → ⊥) → allFirst c next past ≡ allFirst c p (drop (i + 1) past)
+    first-other other = one-more h ∙ rw (← fed, ne-eqb (getD past i none .kind) 2 other)
 
-    -- Slot i does not.
-    pub sound-not : b ≡ false → false ≡ allSound s next past
-    sound-not e = sym (one-more h ∙ rw (← fed, sym tested ∙ e))
+    module _ (block : getD past i none .kind ≡ 2) (found : Bool) (asked : found ≡ blockBefore 13 c p (blockAgo (drop (i + 1) past))) where
+      pub first-apart : found ≡ false → allFirst c next past ≡ allFirst c p (drop (i + 1) past)
+      first-apart e = one-more h ∙ rw (← fed, eq-eqb (getD past i none .kind) 2 block, sym asked ∙ e)
 
-  -- No slot is left.
-  pub sound-end : (size : ℕ) → length past ≡ size → size ≤ i → true ≡ allSound s next past
-  unfolding allSound
-  sound-end size e h = sym (before ∙ rw (drop-of-length-le past {i = i} (rw e h)))
+      pub first-second : found ≡ true → false ≡ allFirst c next past
+      first-second e = sym (one-more h ∙ rw (← fed, eq-eqb (getD past i none .kind) 2 block, sym asked ∙ e))
+
+  pub first-end : (size : ℕ) → length past ≡ size → size ≤ i → true ≡ allFirst c next past
+  unfolding allFirst
+  first-end size e h = sym (before ∙ rw (drop-of-length-le past {i = i} (rw e h)))

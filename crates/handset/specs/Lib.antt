@@ -1,3 +1,4 @@
+pub mod Checked
 pub mod Feed
 pub mod Make
 pub mod Sound

@@ -2,22 +2,25 @@
 use crate::Handset;
 use frame::Settings;
 use heard::Slot;
+use resource::Cce;
 ghost use mathlib.Core.Path.{_≡_};
 ghost use Prim.Native.Nat.{_≤_};
-ghost use mathlib.Core.Bool.{_&&_};
-ghost use lib.Dec.{eqb, leb};
-ghost use Rattle.heard.specs.Heard.{heardRefusal};
-ghost use Rattle.heard.specs.Memory.{heardIn};
+ghost use Rattle.handset.specs.Checked.{slotValid, allValid, allFirst};
 ghost use Rattle.handset.specs.Sound.{previous, allSound, stateRefusal};
 
-// A remembered subframe is of a kind that there is, and what it heard is valid in subframe n by itself.
+// A remembered subframe is of a kind that there is, and what it heard is valid in subframe n by itself. The kind is drawn into the
+// tests and not branched on: what was heard thirteen times over is not foreseen.
 fn is_valid(s: Settings, n: u16, t: Slot) -> bool
-    ensures { λ r. ⌜ r ≡ (leb (t .kind) 3 && eqb (heardRefusal s n (heardIn t)) 0) ⌝ }
+    ensures { λ r. ⌜ r ≡ slotValid s n t ⌝ }
 {
-    if 3 < t.kind {
-        return false;
-    }
-    heard::slot_refusal(s, n, t) == 0
+    let two = (t.results / 4 % 2) as u16;
+    let carried = two < s.blocks;
+    let cce = Cce::new(t.cce as u16);
+    let pdcch = resource::is_cce(s.nrb, cce) & (0 < t.dai) & (t.dai < 5);
+    let grant = (t.kind == 1) & carried & pdcch;
+    let block = (t.kind == 2) & carried & frame::has_scheduled(s);
+    let release = (t.kind == 3) & pdcch;
+    (t.kind == 0) | (frame::is_downlink(s.config, n) & (grant | block | release))
 }
 
 // The subframe before n; before 0 comes 9. No division: the check below asks thirteen times.
@@ -31,28 +34,52 @@ fn subframe_before(n: u16) -> u16
     n - 1
 }
 
-// Every remembered subframe is sound in the subframe it was fed in: the newest in the one before `next`, and so on back. Only a
-// scheduled block looks at the older ones.
-fn all_sound(s: Settings, next: u16, past: [Slot; 13]) -> bool
+// Every remembered subframe is valid by itself in the subframe it was fed in: the newest in the one before `next`, and so on back.
+fn all_valid(s: Settings, next: u16, past: [Slot; 13]) -> bool
     requires { ⌜ next ≤ 9 ⌝ }
-    ensures { λ r. ⌜ r ≡ allSound s next past ⌝ }
+    ensures { λ r. ⌜ r ≡ allValid s next past ⌝ }
+{
+    let mut n = next;
+    let mut valid = true;
+    let mut i = 0;
+    while i < 13 {
+        n = subframe_before(n);
+        let t = past[i];
+        valid = valid & is_valid(s, n, t);
+        i += 1;
+    }
+    valid
+}
+
+// No remembered scheduled block is a second one in its window.
+fn all_first(config: u16, next: u16, past: [Slot; 13]) -> bool
+    requires { ⌜ next ≤ 9 ⌝ }
+    ensures { λ r. ⌜ r ≡ allFirst config next past ⌝ }
 {
     let mut n = next;
     let mut i = 0;
     while i < 13 {
         n = subframe_before(n);
         let t = past[i];
-        if !is_valid(s, n, t) {
-            return false;
-        }
         i += 1;
         if t.kind == 2 {
-            if heard::block_before(s.config, n, past, i) {
+            if heard::block_before(config, n, past, i) {
                 return false;
             }
         }
     }
     true
+}
+
+// Every remembered subframe is sound in the subframe it was fed in.
+fn all_sound(s: Settings, next: u16, past: [Slot; 13]) -> bool
+    requires { ⌜ next ≤ 9 ⌝ }
+    ensures { λ r. ⌜ r ≡ allSound s next past ⌝ }
+{
+    if all_valid(s, next, past) {
+        return all_first(s.config, next, past);
+    }
+    false
 }
 
 // 8 where the state fails 1 to 6 or 17, expects a subframe over 9, or remembers what fails 9 to 12 or 18; else 0.

@@ -1,8 +1,10 @@
 -- What a handset hears, and refusals 9 to 12 and 18: document 01, "What a handset hears" and "Causes and their numbers"; document 02,
 -- U1.
 -- Assumes nothing.
-use Prim.Native.Nat.{ℕ, zero, suc}
+use Prim.Native.Nat.{ℕ, zero, suc, _≤_}
 use mathlib.Core.Bool.{Bool, true, false, cond, _&&_, _||_}
+use mathlib.Core.Logic.{_↔_}
+use mathlib.Core.Path.{_≡_}
 use lib.Dec.{ltb, eqb}
 use Rattle.frame.specs.declared.Settings.{Settings}
 use Rattle.frame.specs.Distance.{shares}
@@ -14,7 +16,7 @@ use Rattle.heard.specs.declared.Heard.the-variants.{Nothing, Granted, Sc
 use Rattle.heard.specs.declared.View.{View}
 use Rattle.heard.specs.declared.View.the-variants.{Unheard, Pdcch, Block}
 
--- 9: grant in an uplink subframe.
+-- 9: a grant, a scheduled block or a release in an uplink subframe.
 unfoldable pub uplinkRefusal : Settings → ℕ → ℕ
 uplinkRefusal s n = cond (downlink (s .config) n) 0 9
 
@@ -51,7 +53,14 @@ unfoldable pub blockBefore : ℕ → ℕ → ℕ → (ℕ → Bool) → Bool
 blockBefore zero c n block = false
 blockBefore (suc a) c n block = (block (suc a) && shares c n (suc a)) || blockBefore a c n block
 
--- 18: a second scheduled block in one window. No two subframes of a window are more than 13 apart.
+-- That it looks 13 subframes back is no limit: of a downlink subframe n, `blockBefore` is true exactly if some block was heard before
+-- n, however long before, in a subframe that shares n's window.
+abbrev pub BeforeExactly : ℕ → ℕ → (ℕ → Bool) → Type 0
+BeforeExactly c n block =
+    downlink c n ≡ true
+    → (blockBefore 13 c n block ≡ true) ↔ ((a : ℕ) × (1 ≤ a) × (block a ≡ true) × (shares c n a ≡ true))
+
+-- 18: a second scheduled block in one window.
 unfoldable pub secondRefusal : Settings → ℕ → (ℕ → Bool) → Heard → ℕ
 secondRefusal s n block x = cond (isBlock x && blockBefore 13 (s .config) n block) 18 0
 

@@ -1,6 +1,9 @@
-// Refusals 9 to 12 and 18 of what a subframe brings, or heard when it is remembered (document 01, "Causes and their numbers"; document
-// 02, U1).
+// Refusals 9 to 12 and 18 of what a subframe brings (document 01, "Causes and their numbers"; document 02, U1), and what a remembered
+// subframe heard.
+use crate::Grant;
 use crate::Heard;
+use crate::Release;
+use crate::ScheduledBlock;
 use crate::Slot;
 use frame::Settings;
 use resource::Cce;
@@ -69,32 +72,6 @@ fn or_else(k: u16, next: u16) -> u16
     next
 }
 
-// A grant in subframe n: 9 to 12.
-fn grant_refusal(s: Settings, n: u16, blocks: u16, cce: Cce, dai: u16) -> u16
-    ensures { λ r. ⌜ r ≡ orElse (uplinkRefusal s n) (orElse (carriedRefusal s blocks) (pdcchRefusal s (cce .0) dai)) ⌝ }
-{
-    let carried = carried_refusal(s, blocks);
-    or_else(
-        uplink_refusal(s, n),
-        or_else(carried, pdcch_refusal(s, cce, dai)),
-    )
-}
-
-// A scheduled block in subframe n: 9, 10 and 18.
-fn block_refusal(s: Settings, n: u16, blocks: u16) -> u16
-    ensures { λ r. ⌜ r ≡ orElse (uplinkRefusal s n) (orElse (carriedRefusal s blocks) (unsetRefusal s)) ⌝ }
-{
-    let carried = carried_refusal(s, blocks);
-    or_else(uplink_refusal(s, n), or_else(carried, unset_refusal(s)))
-}
-
-// A release in subframe n: 9, 11 and 12.
-fn release_refusal(s: Settings, n: u16, cce: Cce, dai: u16) -> u16
-    ensures { λ r. ⌜ r ≡ orElse (uplinkRefusal s n) (pdcchRefusal s (cce .0) dai) ⌝ }
-{
-    or_else(uplink_refusal(s, n), pdcch_refusal(s, cce, dai))
-}
-
 // The first of refusals 9 to 12, and 18 for a scheduled block with no resource set, that is met by what subframe n brings; 0 if it
 // is valid there by itself.
 pub fn heard_refusal(s: Settings, n: u16, x: Heard) -> u16
@@ -103,41 +80,21 @@ pub fn heard_refusal(s: Settings, n: u16, x: Heard) -> u16
     match x {
         Heard::Nothing => 0,
         Heard::Granted(g) => {
+            let carried = carried_refusal(s, g.blocks);
             let cce = g.cce;
-            grant_refusal(s, n, g.blocks, cce, g.dai)
+            let pdcch = pdcch_refusal(s, cce, g.dai);
+            or_else(uplink_refusal(s, n), or_else(carried, pdcch))
         }
-        Heard::Scheduled(b) => block_refusal(s, n, b.blocks),
+        Heard::Scheduled(b) => {
+            let carried = carried_refusal(s, b.blocks);
+            or_else(uplink_refusal(s, n), or_else(carried, unset_refusal(s)))
+        }
         Heard::Released(p) => {
             let cce = p.cce;
-            release_refusal(s, n, cce, p.dai)
+            let pdcch = pdcch_refusal(s, cce, p.dai);
+            or_else(uplink_refusal(s, n), pdcch)
         }
     }
-}
-
-fn two_or_one(two: bool) -> u16
-    ensures { λ r. ⌜ r ≡ cond two 2 1 ⌝ }
-{
-    if two {
-        return 2;
-    }
-    1
-}
-
-// The same for what a remembered subframe heard, from its bytes; a kind that there is not heard nothing.
-pub fn slot_refusal(s: Settings, n: u16, t: Slot) -> u16
-    ensures { λ r. ⌜ r ≡ heardRefusal s n (heardIn t) ⌝ }
-{
-    let blocks = two_or_one(t.results / 4 % 2 == 1);
-    if t.kind == 1 {
-        return grant_refusal(s, n, blocks, Cce::new(t.cce as u16), t.dai as u16);
-    }
-    if t.kind == 2 {
-        return block_refusal(s, n, blocks);
-    }
-    if t.kind == 3 {
-        return release_refusal(s, n, Cce::new(t.cce as u16), t.dai as u16);
-    }
-    0
 }
 
 // A scheduled block was heard before in the window of subframe n: one of the slots from `from` on, the newest of which was heard in
@@ -178,4 +135,45 @@ pub fn cause_of(s: Settings, n: u16, past: [Slot; 13], from: usize, x: Heard) ->
         }
         Heard::Released(_) => 0,
     }
+}
+
+fn two_or_one(two: bool) -> u16
+    ensures { λ r. ⌜ r ≡ cond two 2 1 ⌝ }
+{
+    if two {
+        return 2;
+    }
+    1
+}
+
+// What a remembered subframe heard; nothing where there is no such kind.
+pub fn heard_in(t: Slot) -> Heard
+    ensures { λ r. ⌜ r ≡ heardIn t ⌝ }
+{
+    let blocks = two_or_one(t.results / 4 % 2 == 1);
+    let first = t.results % 2 == 1;
+    let second = t.results / 2 % 2 == 1;
+    if t.kind == 1 {
+        return Heard::Granted(Grant {
+            blocks,
+            first,
+            second,
+            cce: Cce::new(t.cce as u16),
+            dai: t.dai as u16,
+        });
+    }
+    if t.kind == 2 {
+        return Heard::Scheduled(ScheduledBlock {
+            blocks,
+            first,
+            second,
+        });
+    }
+    if t.kind == 3 {
+        return Heard::Released(Release {
+            cce: Cce::new(t.cce as u16),
+            dai: t.dai as u16,
+        });
+    }
+    Heard::Nothing
 }

@@ -3,8 +3,8 @@ mod checks;
 
 pub use checks::block_before;
 pub use checks::cause_of;
+pub use checks::heard_in;
 pub use checks::heard_refusal;
-pub use checks::slot_refusal;
 use resource::Cce;
 ghost use mathlib.Core.Bool.{cond};
 ghost use mathlib.Core.Path.{_≡_};

@@ -44,7 +44,8 @@ missShown s seen = not (eqb (s .config) 0) && not (eqb (seen .v) (expected (seen
 unfoldable pub secondBit : Settings → Seen → ℕ
 secondBit s seen = cond (eqb (s .blocks) 2) (bit (seen .second)) 0
 
--- The configured resource of scheduled blocks, as a resource call's answer.
+-- The configured resource of scheduled blocks, as a resource call's answer. (Where none is set it is 65535, which no state that 8
+-- accepts comes to: it remembers no scheduled block.)
 abbrev pub onScheduled : Settings → Mapped
 onScheduled s = mapped.At (record { 0 = s .scheduled })
 

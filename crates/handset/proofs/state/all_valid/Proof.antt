@@ -1,0 +1,70 @@
+-- `handset::state::all_valid` meets its contract. The loop's invariant: the slots before i gave `valid`. The measure is the slots left.
+-- Assumes nothing.
+use Prim.Native.Nat.{_-_, _<_, _≤_}
+use mathlib.Core.Bool.{_&&_}
+use mathlib.Core.Path.{_≡_, refl}
+use native.Mathlib.Omega.{arith}
+use lib.ListN.{length, drop}
+use Rattle.handset.specs.Checked.{allValid}
+use Rattle.handset.proofs.Remembered.{valid-next, valid-end}
+use Rattle.handset.proofs.state.all_valid.Statement.{statement}
+use Rattle.handset.proofs.state.all_valid.Tie as tie
+
+abbrev Inv-loop : tie.InvT-loop
+Inv-loop s next past n₀ valid₀ i₀ n valid i = (n ≤ 9) × (i ≤ 13) × (allValid s next past ≡ (valid && allValid s n (drop i past)))
+
+abbrev μ-loop : tie.MeasureT-loop
+μ-loop s next past n₀ valid₀ i₀ n valid i = 13 - i
+
+loop-holds : tie.Need-loop-holds Inv-loop μ-loop
+loop-holds c = (omega arith, omega arith, refl)
+
+subframe-before-requires : tie.Need-subframe-before-requires Inv-loop μ-loop
+subframe-before-requires c κs = c .before .loop .inv .0
+
+mul-t : tie.Need-mul-t Inv-loop μ-loop
+mul-t c = omega arith
+
+array-copy-out-t : tie.Need-array-copy-out-t Inv-loop μ-loop
+array-copy-out-t c = omega arith
+
+is-valid-requires : tie.Need-is-valid-requires Inv-loop μ-loop
+is-valid-requires c κs = tt
+
+add-i : tie.Need-add-i Inv-loop μ-loop
+add-i c = omega arith
+
+loop-less : tie.Need-loop-less Inv-loop μ-loop
+loop-less c = omega arith
+
+-- a slot of the thirteen
+inside : (c : tie.In-loop Inv-loop μ-loop) → c .before .loop .i < length (c .before .before .args .t3)
+inside c = omega (arith, c .before .before .good .1 .1 .0 .1 .0 .1)
+
+loop-again : tie.Need-loop-again Inv-loop μ-loop
+loop-again c =
+    let fed = c .before .before in
+    let turn = fed .before in (
+      fed .subframe-before .ensures .1,
+      omega arith,
+      valid-next _ _ _ _ _ (turn .before .loop .valid) (turn .before .loop .inv .2) (inside turn) _ (fed .subframe-before .ensures .0) _ (c .is-valid .ensures),
+    )
+
+returns : tie.Need-returns Inv-loop μ-loop
+returns c = valid-end _ _ _ _ _ (c .before .loop .valid) (c .before .loop .inv .2) _ (c .before .before .good .1 .1 .0 .1 .0 .1) (c .loop-test .left)
+
+pub all-valid-spec : {M : Type 1} → statement M
+all-valid-spec =
+    tie.close
+    (tie.spec
+    Inv-loop
+    μ-loop
+    loop-holds
+    subframe-before-requires
+    mul-t
+    array-copy-out-t
+    is-valid-requires
+    add-i
+    loop-less
+    loop-again
+    returns)
