@@ -1,16 +1,20 @@
 -- The check of what is remembered, slot by slot: each is valid by itself, and a scheduled block is no second one.
 -- Assumes nothing.
-use Prim.Native.Nat.{ℕ, zero, suc, _+_, _<_, _≤_}
+use Prim.Native.Nat.{ℕ, zero, suc, _+_, _-_, _/_, _%_, _<_, _≤_}
 use mathlib.Core.Bool.{Bool, true, false, cond, not, _&&_, and-true}
 use mathlib.Core.List.{List, [], _∷_}
-use mathlib.Core.Path.{_≡_, refl, sym, _∙_}
+use mathlib.Core.Path.{_≡_, refl, sym, ap, _∙_}
 use native.Mathlib.Numerals.{add-one}
+use native.Mathlib.Omega.{arith}
 use lib.Dec.{eqb, leb, eqb·suc-zero}
 use lib.ListN.{length, getD, drop, drop-of-length-le}
 use lib.Seq.{drop-cons}
 use borrow.Author.Tests.{eq-eqb, ne-eqb}
 use Rattle.frame.specs.declared.Settings.{Settings}
+use Rattle.frame.specs.Coded.{backBits}
+use Rattle.frame.specs.Layout.{downlink}
 use Rattle.frame.specs.Settings.{orElse}
+use Rattle.frame.proofs.Backward.{back-bit, back-rest}
 use Rattle.heard.specs.declared.Slot.{Slot}
 use Rattle.heard.specs.Heard.{heardRefusal, blockBefore, secondRefusal, causeOf}
 use Rattle.heard.specs.Memory.{none, heardIn, blockAgo}
@@ -85,3 +89,14 @@ module _ (c next : ℕ) (past : List Slot) (n i : ℕ) (before : allFirst c next
   pub first-end : (size : ℕ) → length past ≡ size → size ≤ i → true ≡ allFirst c next past
   unfolding allFirst
   first-end size e h = sym (before ∙ rw (drop-of-length-le past {i = i} (rw e h)))
+
+-- Which of the subframes before n are downlink, bit by bit.
+module _ (c n i x : ℕ) (bits : x ≡ backBits (13 - i) c n) (h : i < 13) (p : ℕ) (fed : p ≡ previous n) where
+  count : 13 - i ≡ suc (13 - (i + 1))
+  count = omega arith
+
+  pub down-now : eqb (x % 2) 1 ≡ downlink c p
+  down-now = rw fed (back-bit (13 - (i + 1)) c n x (bits ∙ ap (λ (k : ℕ). backBits k c n) count))
+
+  pub down-rest : x / 2 ≡ backBits (13 - (i + 1)) c p
+  down-rest = rw fed (back-rest (13 - (i + 1)) c n x (bits ∙ ap (λ (k : ℕ). backBits k c n) count))

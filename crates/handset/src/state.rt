@@ -5,12 +5,14 @@ use heard::Slot;
 use resource::Cce;
 ghost use mathlib.Core.Path.{_≡_};
 ghost use Prim.Native.Nat.{_≤_};
+ghost use Rattle.frame.specs.Layout.{downlink};
 ghost use Rattle.handset.specs.Checked.{slotValid, allValid, allFirst};
 ghost use Rattle.handset.specs.Sound.{previous, allSound, stateRefusal};
 
 // A remembered subframe is of a kind that there is, and what it heard is valid in subframe n by itself. The kind is drawn into the
 // tests and not branched on: what was heard thirteen times over is not foreseen.
-fn is_valid(s: Settings, n: u16, t: Slot) -> bool
+fn is_valid(s: Settings, n: u16, down: bool, t: Slot) -> bool
+    requires { ⌜ down ≡ downlink (s .config) n ⌝ }
     ensures { λ r. ⌜ r ≡ slotValid s n t ⌝ }
 {
     let two = (t.results / 4 % 2) as u16;
@@ -20,7 +22,7 @@ fn is_valid(s: Settings, n: u16, t: Slot) -> bool
     let grant = (t.kind == 1) & carried & pdcch;
     let block = (t.kind == 2) & carried & frame::has_scheduled(s);
     let release = (t.kind == 3) & pdcch;
-    (t.kind == 0) | (frame::is_downlink(s.config, n) & (grant | block | release))
+    (t.kind == 0) | (down & (grant | block | release))
 }
 
 // The subframe before n; before 0 comes 9. No division: the check below asks thirteen times.
@@ -39,13 +41,15 @@ fn all_valid(s: Settings, next: u16, past: [Slot; 13]) -> bool
     requires { ⌜ next ≤ 9 ⌝ }
     ensures { λ r. ⌜ r ≡ allValid s next past ⌝ }
 {
+    let mut downlinks = frame::downlinks_before(s.config, next);
     let mut n = next;
     let mut valid = true;
     let mut i = 0;
     while i < 13 {
         n = subframe_before(n);
         let t = past[i];
-        valid = valid & is_valid(s, n, t);
+        valid = valid & is_valid(s, n, downlinks % 2 == 1, t);
+        downlinks = downlinks / 2;
         i += 1;
     }
     valid

@@ -36,14 +36,11 @@ is-cce-requires c κs = search needs
 has-scheduled-requires : tie.Need-has-scheduled-requires
 has-scheduled-requires c κs = search needs
 
-is-downlink-requires : tie.Need-is-downlink-requires
-is-downlink-requires c κs = search needs
-
 returns : tie.Need-returns
 returns c =
-    let set = c .before .before .before in
+    let set = c .before .before in
     let cce = set .before .before .before .before .before in
-    same _ _ _ _ (cce .before .new .ensures) _ (cce .is-cce .ensures) _ (set .has-scheduled .ensures) _ (c .is-downlink .ensures)
+    same _ _ _ _ (cce .before .new .ensures) _ (cce .is-cce .ensures) _ (set .has-scheduled .ensures) _ (cce .before .before .before .before .before .pre)
 
 pub is-valid-spec : {M : Type 1} → statement M
 is-valid-spec =
@@ -54,5 +51,4 @@ is-valid-spec =
     new-requires
     is-cce-requires
     has-scheduled-requires
-    is-downlink-requires
     returns)
