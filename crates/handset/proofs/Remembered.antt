@@ -67,6 +67,17 @@ module _ (s : Settings) (next : ℕ) (past : List Slot) (n i : ℕ) (valid : Boo
   unfolding allValid
   valid-end size e h = sym (before ∙ rw (drop-of-length-le past {i = i} (rw e h)) (and-true valid))
 
+-- The newest slot, apart.
+module _ (s : Settings) (next : ℕ) (past : List Slot) (h : 0 < length past) (p : ℕ) (fed : p ≡ previous next) (b : Bool) (tested : b ≡ slotValid s p (getD past 0 none)) where
+  newest : allValid s next past ≡ (b && allValid s p (drop 1 past))
+  newest = valid-next s next past next 0 true refl h p fed b tested
+
+  pub newest-not : b ≡ false → false ≡ allValid s next past
+  newest-not e = sym (newest ∙ rw e)
+
+  pub newest-valid : b ≡ true → allValid s next past ≡ (true && allValid s p (drop 1 past))
+  newest-valid e = newest ∙ rw e
+
 -- No second one: the slots before i passed.
 module _ (c next : ℕ) (past : List Slot) (n i : ℕ) (before : allFirst c next past ≡ allFirst c n (drop i past)) where
   one-more : i < length past

@@ -37,14 +37,20 @@ fn subframe_before(n: u16) -> u16
 }
 
 // Every remembered subframe is valid by itself in the subframe it was fed in: the newest in the one before `next`, and so on back.
+// The newest is tested apart, so that the other twelve are tested four at a time.
 fn all_valid(s: Settings, next: u16, past: [Slot; 13]) -> bool
     requires { ⌜ next ≤ 9 ⌝ }
     ensures { λ r. ⌜ r ≡ allValid s next past ⌝ }
 {
-    let mut downlinks = frame::downlinks_before(s.config, next);
-    let mut n = next;
+    let all = frame::downlinks_before(s.config, next);
+    let newest = past[0];
+    let mut n = subframe_before(next);
+    if !is_valid(s, n, all % 2 == 1, newest) {
+        return false;
+    }
+    let mut downlinks = all / 2;
     let mut valid = true;
-    let mut i = 0;
+    let mut i = 1;
     while i < 13 {
         n = subframe_before(n);
         let t = past[i];
