@@ -45,7 +45,7 @@ unfoldable pub secondBit : Settings → Seen → ℕ
 secondBit s seen = cond (eqb (s .blocks) 2) (bit (seen .second)) 0
 
 -- The configured resource of scheduled blocks, as a resource call's answer. (Where none is set it is 65535, which no state that 8
--- accepts comes to: it remembers no scheduled block.)
+-- accepts comes to: it remembers no scheduled block then, handset/proofs/Scheduled.antt.)
 abbrev pub onScheduled : Settings → Mapped
 onScheduled s = mapped.At (record { 0 = s .scheduled })
 
