@@ -117,9 +117,9 @@
  *             feedback_claims         128
  *             feedback_make           64
  *             feedback_feed_nothing   4096
- *             feedback_feed_grant     1024
- *             feedback_feed_scheduled 1024
- *             feedback_feed_release   1024
+ *             feedback_feed_grant     2048
+ *             feedback_feed_scheduled 2048
+ *             feedback_feed_release   2048
  *
  * Of the C library the calls use memset and nothing else.
  */
