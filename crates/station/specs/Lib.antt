@@ -1,1 +1,2 @@
+pub mod Coded
 pub mod Readings

@@ -6,7 +6,8 @@ use resource::Resource;
 use symbols::Delivery;
 ghost use mathlib.Core.Path.{_≡_};
 ghost use Rattle.frame.specs.Settings.{orElse, windowRefusal};
-ghost use Rattle.resource.specs.Calls.{inverseSized};
+ghost use Rattle.resource.specs.Calls.{sizeOf, inverseSized};
+ghost use Rattle.station.specs.Coded.{notPlaced, placedAt, blockPlaced, Reads};
 ghost use Rattle.station.specs.Readings.{placePosition, bundledReading, readAt, readInverted, toldRefusal, readOf};
 
 // What a reply is read as: the PDCCH at a position, with its first CCE, or the scheduled block at a position.
@@ -70,13 +71,41 @@ fn read_at(s: Settings, size: u16, place: Place, b0: u16, b1: u16) -> Reading
     }
 }
 
-// The reading of a dynamic resource in a window of `size` positions: settings and size are tested here, with the resource.
-fn read_dynamic(s: Settings, size: u16, r: Resource, b0: u16, b1: u16) -> Reading
-    ensures { λ x. ⌜ x ≡ readInverted s size (inverseSized s size (r .0)) b0 b1 ⌝ }
+// What a reply is read as, or its refusal: `place` says nothing where it is refused, and `refusal` nothing where not. A struct and
+// no enum, for speed: the compiler holds its fields apart, and would pack an enum over Place into one register.
+struct Placed {
+    refused: bool,
+    refusal: u16,
+    place: Place,
+}
+
+fn not_placed(refusal: u16) -> Placed
+    ensures { λ p. ⌜ p ≡ notPlaced refusal ⌝ }
+{
+    Placed {
+        refused: true,
+        refusal,
+        place: Place::Block(0),
+    }
+}
+
+fn placed_at(place: Place) -> Placed
+    ensures { λ p. ⌜ p ≡ placedAt place ⌝ }
+{
+    Placed {
+        refused: false,
+        refusal: 0,
+        place,
+    }
+}
+
+// The place of a dynamic resource in a window of `size` positions: settings and size are tested here, with the resource.
+fn place_dynamic(s: Settings, size: u16, r: Resource) -> Placed
+    ensures { λ p. ⌜ Reads s size p (readInverted s size (inverseSized s size (r .0))) ⌝ }
 {
     match resource::inverse_sized(s, size, r) {
-        Inverted::Refused(k) => Reading::Refused(k),
-        Inverted::At(m, c) => read_at(s, size, Place::Pdcch(m, c), b0, b1),
+        Inverted::Refused(k) => not_placed(k),
+        Inverted::At(m, c) => placed_at(Place::Pdcch(m, c)),
     }
 }
 
@@ -104,31 +133,44 @@ fn first_refusal(s: Settings, n: u16, told: u16) -> u16
     told
 }
 
-// The reading that is told position m: any resource but the scheduled one is dynamic. The settings are tested once on each way.
-fn read_told(s: Settings, n: u16, m: u16, r: Resource, b0: u16, b1: u16) -> Reading
-    ensures { λ x. ⌜ x ≡ readOf s n (Told.At m) (r .0) b0 b1 ⌝ }
+// The place of the scheduled block at position m.
+fn place_block(s: Settings, n: u16, m: u16) -> Placed
+    ensures { λ p. ⌜ p ≡ blockPlaced (windowRefusal s n) m ⌝ }
 {
-    let size = frame::size_of(s.config, n);
-    let told = told_refusal(s, size, m);
-    if told != 0 {
-        return Reading::Refused(first_refusal(s, n, told));
-    }
-    if r.number() != s.scheduled {
-        return read_dynamic(s, size, r, b0, b1);
-    }
     let refusal = frame::window_refusal(s, n);
     if refusal != 0 {
-        return Reading::Refused(refusal);
+        return not_placed(refusal);
     }
-    read_at(s, size, Place::Block(m), b0, b1)
+    placed_at(Place::Block(m))
+}
+
+// The place of a reply in a window of `size` positions: where a position is told, the scheduled resource is the block there, and any
+// other is dynamic. The settings are tested once on each way.
+fn place_of(s: Settings, n: u16, size: u16, told: Told, r: Resource) -> Placed
+    requires { ⌜ size ≡ sizeOf s n ⌝ }
+    ensures { λ p. ⌜ Reads s size p (readOf s n told (r .0)) ⌝ }
+{
+    if let Told::At(m) = told {
+        let refusal = told_refusal(s, size, m);
+        if refusal != 0 {
+            return not_placed(first_refusal(s, n, refusal));
+        }
+        if r.number() == s.scheduled {
+            return place_block(s, n, m);
+        }
+    }
+    place_dynamic(s, size, r)
 }
 
 // The reply that came on resource r in uplink subframe n with the bits b0 and b1, the second 0 in a one-bit reply.
 pub fn read(s: Settings, n: u16, told: Told, r: Resource, b0: u16, b1: u16) -> Reading
     ensures { λ x. ⌜ x ≡ readOf s n told (r .0) b0 b1 ⌝ }
 {
-    match told {
-        Told::At(m) => read_told(s, n, m, r, b0, b1),
-        Told::NotTold => read_dynamic(s, frame::size_of(s.config, n), r, b0, b1),
+    let size = frame::size_of(s.config, n);
+    let p = place_of(s, n, size, told, r);
+    if p.refused {
+        return Reading::Refused(p.refusal);
     }
+    let place = p.place;
+    read_at(s, size, place, b0, b1)
 }

@@ -1,49 +1,38 @@
--- `station::read` meets its contract: told nothing, the resource is dynamic. Assumes nothing.
+-- `station::read` meets its contract: the reading at the place of the reply. Assumes nothing.
 use Prim.Native.Nat.{ℕ}
-use mathlib.Core.Path.{_≡_, sym, _∙_}
+use mathlib.Core.Bool.{true, false}
+use mathlib.Core.Path.{_≡_, _∙_}
 use borrow.Author.Needs.{needs}
 use Rattle.frame.specs.declared.Settings.{Settings}
-use Rattle.resource.specs.Calls.{sizeOf, inverseSized}
-use Rattle.station.specs.declared.Told.{Told}
-use Rattle.station.specs.declared.Told.the-variants as told
-use Rattle.station.specs.Readings.{readInverted, readOf}
-use Rattle.station.proofs.Back.{untold, dynamic-sized}
+use Rattle.station.specs.declared.Placed.{Placed}
+use Rattle.station.specs.declared.Reading.the-variants.{Refused}
+use Rattle.station.specs.Coded.{readPlaced}
+use Rattle.station.specs.Readings.{readAt}
 use Rattle.station.proofs.read.Statement.{statement}
 use Rattle.station.proofs.read.Tie as tie
 
-not-told : (s : Settings) (n size : ℕ) → size ≡ sizeOf s n → (r b0 b1 : ℕ) (t : Told) → t ≡ told.NotTold
-    → readInverted s size (inverseSized s size r) b0 b1 ≡ readOf s n t r b0 b1
-not-told s n size looked r b0 b1 t is = rw is (dynamic-sized s n size looked r b0 b1 ∙ sym (untold s n r b0 b1))
+module _ (s : Settings) (size b0 b1 : ℕ) (p : Placed) where
+  refused : p .refused ≡ true → Refused (p .refusal) ≡ readPlaced s size p b0 b1
+  refused on = rw on
 
-enum-known-told : tie.Need-enum-known-told
-enum-known-told c = search needs
-
-read-told-requires : tie.Need-read-told-requires
-read-told-requires c κs = search needs
-
-enum-told : tie.Need-enum-told
-enum-told c = search needs
+  there : p .refused ≡ false → readAt s size (p .place) b0 b1 ≡ readPlaced s size p b0 b1
+  there off = rw off
 
 size-of-requires : tie.Need-size-of-requires
 size-of-requires c κs = search needs
 
-read-dynamic-requires : tie.Need-read-dynamic-requires
-read-dynamic-requires c κs = search needs
+place-of-requires : tie.Need-place-of-requires
+place-of-requires c κs = search needs
 
 returns : tie.Need-returns
-returns c = rw (c .before .before .told .given .1) (c .read-told .ensures)
+returns c = refused _ _ _ _ _ (c .if1 .taken) ∙ c .before .place-of .ensures _ _
+
+read-at-requires : tie.Need-read-at-requires
+read-at-requires c κs = search needs
 
 returns-2 : tie.Need-returns-2
-returns-2 c = c .read-dynamic .ensures ∙ not-told _ _ _ (c .before .size-of .ensures) _ _ _ _ (c .before .before .enum-told .given .1)
+returns-2 c = c .read-at .ensures ∙ there _ _ _ _ _ (c .before .if1 .left) ∙ c .before .before .place-of .ensures _ _
 
 pub read-spec : {M : Type 1} → statement M
 read-spec =
-    tie.close
-    (tie.spec
-    enum-known-told
-    read-told-requires
-    enum-told
-    size-of-requires
-    read-dynamic-requires
-    returns
-    returns-2)
+    tie.close (tie.spec size-of-requires place-of-requires returns read-at-requires returns-2)
