@@ -113,7 +113,7 @@
  *             feedback_answered       64
  *             feedback_resource       64
  *             feedback_inverse        64
- *             feedback_reading        512
+ *             feedback_reading        256
  *             feedback_claims         128
  *             feedback_make           64
  *             feedback_feed_nothing   4096
