@@ -252,7 +252,7 @@ impl Lent {
     }
 }
 
-/// The plain implementation's verdict on claims, with the marks it leaves.
+/// The plain implementation's answer to claims, with the marks it leaves.
 pub fn plain_claims_on(
     settings: Settings,
     n: u16,

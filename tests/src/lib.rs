@@ -131,7 +131,7 @@ pub fn reading(
     unsafe { c::feedback_reading(settings, n, told, resource, b0, b1) }
 }
 
-/// The engine's verdict on the claims for subframe `n`, with the marks it leaves
+/// The engine's answer to the claims for subframe `n`, with the marks it leaves
 /// in the scratch.
 pub fn claims(settings: Settings, n: u16, claims: &[u16], scratch: &mut [u8]) -> ClaimsAnswer {
     let (list, count) = (claims.as_ptr(), claims.len());

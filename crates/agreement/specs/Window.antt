@@ -20,6 +20,7 @@ use Rattle.heard.specs.declared.Heard.{Heard}
 use Rattle.heard.specs.declared.Heard.the-variants.{Nothing, Granted, Scheduled, Released}
 use Rattle.heard.specs.Heard.{isBlock}
 use Rattle.reply.specs.declared.Reply.{Reply}
+use Rattle.reply.specs.Kinds.{kindBundled, kindMultiplexed}
 use Rattle.station.specs.declared.Place.{Place}
 use Rattle.station.specs.declared.Place.the-variants as place
 use Rattle.station.specs.declared.Reading.{Reading}
@@ -121,7 +122,7 @@ SentExactly a Due Right =
 -- "If 01 bundles it": `ks` is K as printed, `es` the window's subframes in time order; `resource` is the resource call and `read`
 -- the station's reading, with the same settings and n = s mod 10, told the position of the scheduled block that was sent.
 pub record BundledReply (set : Settings) (resource : ℕ → ℕ → Mapped) (read : ℕ → ℕ → ℕ → Reading) (ks : List ℕ) (es : List Entry) (r : Reply) : Type 0 where
-  pub kind : r .kind ≡ 1
+  pub kind : r .kind ≡ kindBundled
   -- "It is read as that last grant", U1: "the last heard grant, whose resource carries the reply, [is] over PDCCHs": its position is
   -- the place of its k in K, and the reply's bits are the ACK bits
   pub isRead : (k c : ℕ) → lastHeard es ≡ heardAt k c
@@ -162,7 +163,7 @@ Carries set resource (place.Block m) r = r ≡ set .scheduled
 
 -- "If 01 multiplexes it": `states` are the states of its positions, in the order of K.
 pub record MultiplexedReply (set : Settings) (resource : ℕ → ℕ → Mapped) (read : ℕ → ℕ → ℕ → Reading) (ks : List ℕ) (heard : ℕ → Heard) (states : List State) (r : Reply) : Type 0 where
-  pub kind : r .kind ≡ 2
+  pub kind : r .kind ≡ kindMultiplexed
   -- "01's symbol for its state is sent": its index and its two bits
   pub index : ℕ
   pub isSymbol : symbolOf states ≡ symbol.Sent index (r .b0) (r .b1)

@@ -1,1 +1,1 @@
-// The third demand: no code, a claim about the engine in specs/ and its theorem in proofs/.
+// The third demand: no code, a statement about the engine in specs/ and its theorem in proofs/.

@@ -30,7 +30,8 @@ use Rattle.handset.specs.declared.Handset.{Handset}
 use Rattle.handset.specs.Feed.{answerOf, nextAnswer, pushed, feedRefusal, fedAs, feedOf}
 use Rattle.feedback.specs.Answers.{fedAnswer}
 use Rattle.feedback.specs.Back.{fedIn, KindFor}
-use Rattle.feedback.specs.Kinds.{kindBundled, kindMultiplexed, kindNoWindow}
+use Rattle.reply.specs.Kinds.{kindBundled, kindMultiplexed}
+use Rattle.feedback.specs.Kinds.{kindNoWindow}
 use Rattle.feedback.proofs.Chosen.{either}
 
 -- What a feed answers comes back from its numbers with the handset, and its kind is one that there is, 0 where it is refused.

@@ -21,7 +21,7 @@ use Rattle.station.specs.declared.Told.the-variants as told
 use Rattle.station.specs.Readings.{placePosition, badBits, bundledReading, multiplexedReading, readAt, readInverted, dynamicReading, toldRefusal, readOn, readAs, readOf}
 use Rattle.feedback.specs.Answers.{inverseAnswer, readingAnswer}
 use Rattle.feedback.specs.Back.{invertedIn, readingIn, KindFor}
-use Rattle.feedback.specs.Kinds.{kindMultiplexed}
+use Rattle.reply.specs.Kinds.{kindMultiplexed}
 use Rattle.feedback.proofs.Chosen.{either}
 use Rattle.feedback.proofs.InverseKept.{inverse-back}
 

@@ -34,7 +34,8 @@ use Rattle.feedback.specs.declared.ReadingAnswer.{ReadingAnswer}
 use Rattle.feedback.specs.declared.ResourceAnswer.{ResourceAnswer}
 use Rattle.feedback.specs.declared.InverseAnswer.{InverseAnswer}
 use Rattle.feedback.specs.declared.WindowAnswer.{WindowAnswer}
-use Rattle.feedback.specs.Kinds.{kindRefused, kindBundled, kindMultiplexed, kindSilent, kindTaken, kindNoWindow, claimsClean, claimsClash, claimsRefused}
+use Rattle.reply.specs.Kinds.{kindBundled, kindMultiplexed}
+use Rattle.feedback.specs.Kinds.{kindRefused, kindSilent, kindTaken, kindNoWindow, claimsClean, claimsClash, claimsRefused}
 
 -- A refusal, with zeros beside it, or where it is 0 a window: M, K in the print's order and its positions in time order.
 abbrev pub windowAs : ℕ → List ℕ → WindowAnswer

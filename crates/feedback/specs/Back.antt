@@ -36,7 +36,8 @@ use Rattle.feedback.specs.declared.ResourceAnswer.{ResourceAnswer}
 use Rattle.feedback.specs.declared.InverseAnswer.{InverseAnswer}
 use Rattle.feedback.specs.declared.WindowAnswer.{WindowAnswer}
 use Rattle.feedback.specs.Answers.{windowAnswer, resourceAnswer, inverseAnswer, readingAnswer, claimsAnswer, fedAnswer}
-use Rattle.feedback.specs.Kinds.{kindBundled, kindSilent, kindTaken, kindNoWindow, claimsClash, kindMultiplexed}
+use Rattle.reply.specs.Kinds.{kindBundled, kindMultiplexed}
+use Rattle.feedback.specs.Kinds.{kindSilent, kindTaken, kindNoWindow, claimsClash}
 
 -- What feedback_window answers before it stands in arrays of nine: a refusal, or K as printed and its positions in time order.
 pub data ToldWindow : Type 0 where

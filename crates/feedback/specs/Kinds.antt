@@ -1,15 +1,10 @@
--- The kinds of an answer as numbers: what a reading and a feed tell, and what claims tell.
+-- The kinds of an answer as numbers, beside those of a reply (reply/specs/Kinds.antt): what a reading and a feed tell, and what
+-- claims tell.
 -- Assumes nothing.
 use Prim.Native.Nat.{ℕ}
 
 abbrev pub kindRefused : ℕ
 kindRefused = 0
-
-abbrev pub kindBundled : ℕ
-kindBundled = 1
-
-abbrev pub kindMultiplexed : ℕ
-kindMultiplexed = 2
 
 abbrev pub kindSilent : ℕ
 kindSilent = 3

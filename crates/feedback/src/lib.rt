@@ -29,7 +29,7 @@ ghost use Rattle.handset.specs.Feed.{feedOf};
 ghost use Rattle.handset.specs.Make.{makeOf};
 ghost use Rattle.heard.specs.declared.Heard.the-variants.{Nothing};
 
-// The kinds of a reading and of a feed, then those of claims, as specs/Kinds.antt has them.
+// The kinds of a reading and of a feed, then those of claims, as reply/specs/Kinds.antt and specs/Kinds.antt have them.
 const KIND_REFUSED: u16 = 0;
 
 const KIND_BUNDLED: u16 = 1;

@@ -1,19 +1,19 @@
 -- A remembered slot is valid by itself: the tests of its kind, as the code draws them together.
 -- Assumes nothing.
-use Prim.Native.Nat.{ℕ, zero, suc, _+_, _<_, _≤_, _/_, _%_}
+use Prim.Native.Nat.{ℕ, suc, _<_, _≤_, _/_, _%_}
 use mathlib.Core.Bool.{Bool, true, false, cond, not, _&&_, _||_, and-false}
 use mathlib.Core.Path.{_≡_, refl, sym, _∙_}
-use native.Mathlib.Decide.{ℕ-discrete, decLt, decLe}
+use native.Mathlib.Decide.{ℕ-discrete, decLt}
 use native.Mathlib.Omega.{arith}
-use lib.Dec.{eqb, leb, ltb, eqb·suc-zero}
-use borrow.Author.Tests.{eq-eqb, ne-eqb, lt-ltb, le-ltb, le-leb, lt-leb, eqb-true, eqb-false}
+use lib.Dec.{eqb, ltb}
+use borrow.Author.Tests.{ne-eqb, lt-ltb, le-ltb, lt-leb}
 use Rattle.frame.specs.declared.Settings.{Settings}
 use Rattle.frame.specs.Layout.{downlink}
 use Rattle.frame.specs.Settings.{orElse, outside, hasScheduled}
 use Rattle.resource.specs.Formula.{edge}
 use Rattle.heard.specs.declared.Slot.{Slot}
 use Rattle.heard.specs.Heard.{uplinkRefusal, carriedRefusal, pdcchRefusal, unsetRefusal, heardRefusal}
-use Rattle.heard.specs.Memory.{blocksIn, heardIn}
+use Rattle.heard.specs.Memory.{blocksIn}
 use Rattle.heard.proofs.Remembered.{in-granted, in-scheduled, in-released, in-nothing}
 use Rattle.handset.specs.Checked.{slotValid}
 

@@ -1,18 +1,13 @@
-// Refusals 9 to 12 and 18 of what a subframe brings (document 01, "Causes and their numbers"; document 02, U1), and what a remembered
-// subframe heard.
-use crate::Grant;
+// Refusals 9 to 12 and 18 of what a subframe brings (document 01, "Causes and their numbers"; document 02, U1).
 use crate::Heard;
-use crate::Release;
-use crate::ScheduledBlock;
 use crate::Slot;
 use frame::Settings;
 use resource::Cce;
 ghost use mathlib.Core.Path.{_≡_};
-ghost use mathlib.Core.Bool.{cond};
 ghost use lib.ListN.{drop};
 ghost use Rattle.frame.specs.Settings.{orElse};
 ghost use Rattle.heard.specs.Heard.{uplinkRefusal, carriedRefusal, pdcchRefusal, unsetRefusal, heardRefusal, blockBefore, causeOf};
-ghost use Rattle.heard.specs.Memory.{heardIn, blockAgo};
+ghost use Rattle.heard.specs.Memory.{blockAgo};
 
 fn uplink_refusal(s: Settings, n: u16) -> u16
     ensures { λ r. ⌜ r ≡ uplinkRefusal s n ⌝ }
@@ -135,45 +130,4 @@ pub fn cause_of(s: Settings, n: u16, past: [Slot; 13], from: usize, x: Heard) ->
         }
         Heard::Released(_) => 0,
     }
-}
-
-fn two_or_one(two: bool) -> u16
-    ensures { λ r. ⌜ r ≡ cond two 2 1 ⌝ }
-{
-    if two {
-        return 2;
-    }
-    1
-}
-
-// What a remembered subframe heard; nothing where there is no such kind.
-pub fn heard_in(t: Slot) -> Heard
-    ensures { λ r. ⌜ r ≡ heardIn t ⌝ }
-{
-    let blocks = two_or_one(t.results / 4 % 2 == 1);
-    let first = t.results % 2 == 1;
-    let second = t.results / 2 % 2 == 1;
-    if t.kind == 1 {
-        return Heard::Granted(Grant {
-            blocks,
-            first,
-            second,
-            cce: Cce::new(t.cce as u16),
-            dai: t.dai as u16,
-        });
-    }
-    if t.kind == 2 {
-        return Heard::Scheduled(ScheduledBlock {
-            blocks,
-            first,
-            second,
-        });
-    }
-    if t.kind == 3 {
-        return Heard::Released(Release {
-            cce: Cce::new(t.cce as u16),
-            dai: t.dai as u16,
-        });
-    }
-    Heard::Nothing
 }

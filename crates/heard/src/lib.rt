@@ -3,7 +3,6 @@ mod checks;
 
 pub use checks::block_before;
 pub use checks::cause_of;
-pub use checks::heard_in;
 pub use checks::heard_refusal;
 use resource::Cce;
 ghost use mathlib.Core.Bool.{cond};

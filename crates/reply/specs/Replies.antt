@@ -24,8 +24,9 @@ use Rattle.heard.specs.declared.View.{View}
 use Rattle.heard.specs.declared.View.the-variants.{Unheard, Pdcch, Block}
 use Rattle.fold.specs.Fold.{seenOf}
 use Rattle.heard.specs.Memory.{bit}
+use Rattle.reply.specs.Kinds.{kindBundled, kindMultiplexed}
 
--- A reply of a kind, 1 bundled or 2 multiplexed, with two bits, on the resource that the map gives. The one place that makes a
+-- A reply of a kind (specs/Kinds.antt) with two bits, on the resource that the map gives. The one place that makes a
 -- reply. A valid grant has a resource; without one nothing is sent, which no state that 8 accepts comes to
 -- (handset/proofs/Silences.antt).
 unfoldable pub replyOn : ℕ → Mapped → ℕ → ℕ → Answer
@@ -51,7 +52,7 @@ onScheduled s = mapped.At (record { 0 = s .scheduled })
 
 -- No PDCCH was heard: "If it is the only thing heard, the reply goes on a configured resource"; silent where nothing was.
 unfoldable pub loneAnswer : Settings → Seen → Answer
-loneAnswer s seen = cond (seen .scheduled) (replyOn 1 (onScheduled s) (bit (seen .first)) (secondBit s seen)) Silent
+loneAnswer s seen = cond (seen .scheduled) (replyOn kindBundled (onScheduled s) (bit (seen .first)) (secondBit s seen)) Silent
 
 -- The bundled reply: where U = 0 that of a lone scheduled block; silent where a miss is shown; else each block's bit is 1 (ACK) if
 -- all that was heard decoded it, on the resource of the last heard PDCCH.
@@ -59,7 +60,7 @@ unfoldable pub bundledAnswer : Settings → ℕ → Seen → Answer
 bundledAnswer s n seen =
     cond (eqb (seen .u) 0) (loneAnswer s seen)
     (cond (missShown s seen) Silent
-    (replyOn 1 (resourceOf s n (seen .position) (seen .cce .0)) (bit (seen .first)) (secondBit s seen)))
+    (replyOn kindBundled (resourceOf s n (seen .position) (seen .cce .0)) (bit (seen .first)) (secondBit s seen)))
 
 -- State of a position: A if heard with every carried block decoded, N if heard otherwise, D if unheard.
 unfoldable pub stateOf : View → State
@@ -80,7 +81,7 @@ windowState view ks = map (λ (k : ℕ). stateOf (view k)) ks
 
 -- The symbol is sent on the resource of position i, its index.
 unfoldable pub symbolAnswer : Settings → ℕ → (ℕ → View) → List ℕ → Symbol → Answer
-symbolAnswer s n view ks (symbol.Sent i b0 b1) = replyOn 2 (carrierOf s n i (view (getD ks i 0))) b0 b1
+symbolAnswer s n view ks (symbol.Sent i b0 b1) = replyOn kindMultiplexed (carrierOf s n i (view (getD ks i 0))) b0 b1
 symbolAnswer s n view ks symbol.Silent = Silent
 
 unfoldable pub multiplexedAnswer : Settings → ℕ → (ℕ → View) → List ℕ → Answer

@@ -24,6 +24,11 @@ ghost use Rattle.heard.specs.Memory.{viewAgo};
 ghost use Rattle.reply.specs.Replies.{replyOn, missShown, secondBit, onScheduled, loneAnswer, bundledAnswer};
 ghost use Rattle.reply.specs.Replies.{stateOf, carrierOf, windowState, multiplexedAnswer, windowAnswer};
 
+// The kinds of a reply, as specs/Kinds.antt has them.
+const KIND_BUNDLED: u16 = 1;
+
+const KIND_MULTIPLEXED: u16 = 2;
+
 fn reply_on(kind: u16, mapped: Mapped, b0: u16, b1: u16) -> Answer
     ensures { λ r. ⌜ r ≡ replyOn kind mapped b0 b1 ⌝ }
 {
@@ -72,7 +77,7 @@ fn lone_answer(s: Settings, seen: Seen) -> Answer
     if seen.scheduled {
         let b0 = seen.first as u16;
         let b1 = second_bit(s, seen);
-        return reply_on(1, on_scheduled(s), b0, b1);
+        return reply_on(KIND_BUNDLED, on_scheduled(s), b0, b1);
     }
     Answer::Silent
 }
@@ -92,7 +97,7 @@ fn bundled_answer(s: Settings, n: u16, size: u16, seen: Seen) -> Answer
     let mapped = resource::resource_sized(s, size, seen.position, cce);
     let b0 = seen.first as u16;
     let b1 = second_bit(s, seen);
-    reply_on(1, mapped, b0, b1)
+    reply_on(KIND_BUNDLED, mapped, b0, b1)
 }
 
 // The digit of a heard position's state: 0 for A, 1 for N.
@@ -164,7 +169,7 @@ fn multiplexed_answer(s: Settings, n: u16, past: [Slot; 13], w: Window) -> Answe
             let k = w.k;
             let t = past[(k[i as usize] - 1) as usize];
             let mapped = carrier_of(s, n, w.size, i, view_in(t));
-            reply_on(2, mapped, b0, b1)
+            reply_on(KIND_MULTIPLEXED, mapped, b0, b1)
         }
     }
 }

@@ -501,7 +501,7 @@ fn engine_claims(list: &List, scratch: &mut [u8]) -> u64 {
     let (marks, room) = (scratch.as_mut_ptr(), scratch.len());
     // SAFETY: list and scratch are lent with their lengths and do not overlap.
     let answer = unsafe { feedback_claims(list.settings, list.n, claims, count, marks, room) };
-    verdict(answer)
+    claims_sum(answer)
 }
 
 fn plain_rust_claims(list: &List, scratch: &mut [u8]) -> u64 {
@@ -509,9 +509,9 @@ fn plain_rust_claims(list: &List, scratch: &mut [u8]) -> u64 {
     let (marks, room) = (scratch.as_mut_ptr(), scratch.len());
     // SAFETY: list and scratch are lent with their lengths and do not overlap.
     let answer = unsafe { plain_claims(list.settings, list.n, claims, count, marks, room) };
-    verdict(answer)
+    claims_sum(answer)
 }
 
-fn verdict(answer: ClaimsAnswer) -> u64 {
+fn claims_sum(answer: ClaimsAnswer) -> u64 {
     u64::from(answer.kind) << 32 | answer.index
 }

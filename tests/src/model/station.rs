@@ -58,7 +58,7 @@ impl Model {
         Some(ReadingAnswer::multiplexed(position, cce, delivered))
     }
 
-    /// The verdict on a list of claims, and every byte of the scratch afterwards.
+    /// The answer to a list of claims, and every byte of the scratch afterwards.
     pub fn claims(
         &self,
         settings: Settings,

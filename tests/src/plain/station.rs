@@ -41,7 +41,7 @@ pub extern "C" fn plain_reading(
     }
 }
 
-/// The verdict on a list of claims, under the signature of the C call.
+/// The answer to a list of claims, under the signature of the C call.
 ///
 /// # Safety
 ///

@@ -1,8 +1,8 @@
 -- `handset::state::is_valid` meets its contract. Assumes nothing.
 use Prim.Native.Nat.{ℕ, _/_, _%_}
-use mathlib.Core.Bool.{Bool, _&&_, _||_}
-use mathlib.Core.Path.{_≡_, sym, _∙_}
-use lib.Dec.{eqb, ltb}
+use mathlib.Core.Bool.{Bool, _&&_}
+use mathlib.Core.Path.{_≡_, sym}
+use lib.Dec.{ltb}
 use borrow.Author.Needs.{needs}
 use Rattle.frame.specs.declared.Settings.{Settings}
 use Rattle.frame.specs.Layout.{downlink}
