@@ -1,7 +1,6 @@
 pub mod Accepted
 pub mod Answers
 pub mod Arms
-pub mod Backward
 pub mod Below
 pub mod Causes
 pub mod Distances

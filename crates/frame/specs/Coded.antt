@@ -8,7 +8,7 @@ use lib.ListN.{length}
 use Rattle.frame.specs.declared.Window.{Window}
 use Rattle.frame.specs.declared.table.Order.{Order}
 use Rattle.frame.specs.declared.table.Row.{Row}
-use Rattle.frame.specs.Distance.{before, distanceOf, answeredPosition}
+use Rattle.frame.specs.Distance.{distanceOf, answeredPosition}
 use Rattle.frame.specs.Layout.{Letter, D, S, U, letterOf, downlink}
 use Rattle.frame.specs.Order.{orderOf}
 use Rattle.frame.specs.Table.{windowOf}
@@ -69,8 +69,3 @@ codedPosition c d = cond (downlink c d) (answeredPosition c d) 0
 -- the position of each of a configuration's ten subframes
 unfoldable pub positionDigits : ℕ → ℕ
 positionDigits c = digits 10 (codedPosition c)
-
--- the subframes before n, `count` of them, a bit each: bit j is 1 where the subframe j + 1 before n is downlink
-unfoldable pub backBits : ℕ → ℕ → ℕ → ℕ
-backBits zero c n = 0
-backBits (suc count) c n = cond (downlink c (before n 1)) 1 0 + 2 * backBits count c (before n 1)

@@ -10,7 +10,6 @@ pub use refusals::has_scheduled;
 pub use refusals::is_bundled;
 pub use refusals::settings_refusal;
 pub use refusals::window_refusal;
-pub use table::downlinks_before;
 pub use table::is_downlink;
 pub use table::size_of;
 pub use table::window_of;

@@ -4,7 +4,7 @@ use crate::digits::digit_at;
 use crate::digits::packed;
 ghost use mathlib.Core.Path.{_≡_};
 ghost use lib.ListN.{length};
-ghost use Rattle.frame.specs.Coded.{layoutDigits, sizeDigits, distanceDigits, positionDigits, codedPosition, backBits, codedK, codedOrder, codedWindow};
+ghost use Rattle.frame.specs.Coded.{layoutDigits, sizeDigits, distanceDigits, positionDigits, codedPosition, codedK, codedOrder, codedWindow};
 ghost use Rattle.frame.specs.Distance.{distanceOf};
 ghost use Rattle.frame.specs.Layout.{downlink};
 ghost use Rattle.frame.specs.Table.{windowOf};
@@ -162,30 +162,6 @@ pub fn is_downlink(config: u16, n: u16) -> bool
         return false;
     }
     digit_at(layout_of(config), n) != UPLINK
-}
-
-// Derived from the layouts: the downlink subframes of a configuration, a bit each, read from subframe 0 to 9.
-fn downlinks_of(config: u16) -> u32
-    ensures { λ r. ⌜ r ≡ backBits 10 config 10 ⌝ }
-{
-    match config {
-        0 => 0b1100011000,
-        1 => 0b1100111001,
-        2 => 0b1101111011,
-        3 => 0b1100011111,
-        4 => 0b1100111111,
-        5 => 0b1101111111,
-        6 => 0b1100011001,
-        _ => 0,
-    }
-}
-
-// The thirteen subframes before n: bit j is 1 where the subframe j + 1 before n is downlink. Three frames in a row hold them.
-pub fn downlinks_before(config: u16, n: u16) -> u32
-    ensures { λ r. ⌜ r ≡ backBits 13 config n ⌝ }
-{
-    let frames = downlinks_of(config) * 0x100401;
-    (frames >> (10 - n % 10)) % 0x2000
 }
 
 // M of the window of subframe n; 0 where there is none, outside the table too.

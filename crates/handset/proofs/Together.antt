@@ -78,9 +78,9 @@ dai-within dai = go (decLt 0 dai) (decLt dai 5)
     go (yes a) (no b) = rw (le-ltb dai 1 (omega arith), lt-ltb 4 dai (omega arith), lt-ltb 0 dai a, le-ltb dai 5 (omega arith))
     go (no a) b = rw (lt-ltb dai 1 (omega arith), le-ltb 0 dai (omega arith))
 
--- The tests of a slot together, the kind among them.
-abbrev pub together : Bool → Bool → Bool → Bool → ℕ → Bool
-together down carried pdcch set kind = eqb kind 0 || (down && (((eqb kind 1 && carried && pdcch) || (eqb kind 2 && carried && set)) || (eqb kind 3 && pdcch)))
+-- The tests of a slot that heard something together, the kind among them.
+abbrev pub heardTogether : Bool → Bool → Bool → ℕ → Bool
+heardTogether carried pdcch set kind = ((eqb kind 1 && carried && pdcch) || (eqb kind 2 && carried && set)) || (eqb kind 3 && pdcch)
 
 module _ (s : Settings) (n : ℕ) (t : Slot) where
   abbrev carried : Bool
@@ -90,7 +90,7 @@ module _ (s : Settings) (n : ℕ) (t : Slot) where
   pdcch = ltb (t .cce) (edge (s .nrb) 4) && ltb 0 (t .dai) && ltb (t .dai) 5
 
   abbrev Valid : Type 0
-  Valid = slotValid s n t ≡ together (downlink (s .config) n) carried pdcch (hasScheduled s) (t .kind)
+  Valid = slotValid s n t ≡ (eqb (t .kind) 0 || (downlink (s .config) n && heardTogether carried pdcch (hasScheduled s) (t .kind)))
 
   none : (t .kind ≡ 1 → ⊥) → (t .kind ≡ 2 → ⊥) → (t .kind ≡ 3 → ⊥) → Dec (t .kind ≡ 0) → Valid
   unfolding slotValid heardRefusal

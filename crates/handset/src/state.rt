@@ -5,16 +5,17 @@ use heard::Slot;
 use resource::Cce;
 ghost use mathlib.Core.Path.{_≡_};
 ghost use Prim.Native.Nat.{_≤_};
-ghost use Rattle.frame.specs.Layout.{downlink};
-ghost use Rattle.handset.specs.Checked.{slotValid, allValid, allFirst};
+ghost use Rattle.handset.specs.Checked.{slotValid};
 ghost use Rattle.handset.specs.Sound.{previous, allSound, stateRefusal};
 
-// A remembered subframe is of a kind that there is, and what it heard is valid in subframe n by itself. The kind is drawn into the
-// tests and not branched on: what was heard thirteen times over is not foreseen.
-fn is_valid(s: Settings, n: u16, down: bool, t: Slot) -> bool
-    requires { ⌜ down ≡ downlink (s .config) n ⌝ }
+// A remembered subframe is of a kind that there is, and what it heard is valid in subframe n by itself. The kinds that heard something
+// are drawn into the tests and not branched on: which of them thirteen subframes had is hard to foresee.
+fn is_valid(s: Settings, n: u16, t: Slot) -> bool
     ensures { λ r. ⌜ r ≡ slotValid s n t ⌝ }
 {
+    if t.kind == 0 {
+        return true;
+    }
     let two = (t.results / 4 % 2) as u16;
     let carried = two < s.blocks;
     let cce = Cce::new(t.cce as u16);
@@ -22,7 +23,7 @@ fn is_valid(s: Settings, n: u16, down: bool, t: Slot) -> bool
     let grant = (t.kind == 1) & carried & pdcch;
     let block = (t.kind == 2) & carried & frame::has_scheduled(s);
     let release = (t.kind == 3) & pdcch;
-    (t.kind == 0) | (down & (grant | block | release))
+    frame::is_downlink(s.config, n) & (grant | block | release)
 }
 
 // The subframe before n; before 0 comes 9. No division: the check below asks thirteen times.
@@ -36,60 +37,27 @@ fn subframe_before(n: u16) -> u16
     n - 1
 }
 
-// Every remembered subframe is valid by itself in the subframe it was fed in: the newest in the one before `next`, and so on back.
-// The newest is tested apart, so that the other twelve are tested four at a time.
-fn all_valid(s: Settings, next: u16, past: [Slot; 13]) -> bool
-    requires { ⌜ next ≤ 9 ⌝ }
-    ensures { λ r. ⌜ r ≡ allValid s next past ⌝ }
-{
-    let all = frame::downlinks_before(s.config, next);
-    let newest = past[0];
-    let mut n = subframe_before(next);
-    if !is_valid(s, n, all % 2 == 1, newest) {
-        return false;
-    }
-    let mut downlinks = all / 2;
-    let mut valid = true;
-    let mut i = 1;
-    while i < 13 {
-        n = subframe_before(n);
-        let t = past[i];
-        valid = valid & is_valid(s, n, downlinks % 2 == 1, t);
-        downlinks = downlinks / 2;
-        i += 1;
-    }
-    valid
-}
-
-// No remembered scheduled block is a second one in its window.
-fn all_first(config: u16, next: u16, past: [Slot; 13]) -> bool
-    requires { ⌜ next ≤ 9 ⌝ }
-    ensures { λ r. ⌜ r ≡ allFirst config next past ⌝ }
-{
-    let mut n = next;
-    let mut i = 0;
-    while i < 13 {
-        n = subframe_before(n);
-        let t = past[i];
-        i += 1;
-        if t.kind == 2 {
-            if heard::block_before(config, n, past, i) {
-                return false;
-            }
-        }
-    }
-    true
-}
-
-// Every remembered subframe is sound in the subframe it was fed in.
+// Every remembered subframe is sound in the subframe it was fed in: the newest in the one before `next`, and so on back. Each is
+// valid by itself, and no scheduled block is a second one in its window: only such a block looks at the older ones.
 fn all_sound(s: Settings, next: u16, past: [Slot; 13]) -> bool
     requires { ⌜ next ≤ 9 ⌝ }
     ensures { λ r. ⌜ r ≡ allSound s next past ⌝ }
 {
-    if all_valid(s, next, past) {
-        return all_first(s.config, next, past);
+    let mut n = next;
+    let mut valid = true;
+    let mut i = 0;
+    while i < 13 {
+        n = subframe_before(n);
+        let t = past[i];
+        valid = valid & is_valid(s, n, t);
+        i += 1;
+        if t.kind == 2 {
+            if heard::block_before(s.config, n, past, i) {
+                return false;
+            }
+        }
     }
-    false
+    valid
 }
 
 // 8 where the state fails 1 to 6 or 17, expects a subframe over 9, or remembers what fails 9 to 12 or 18; else 0.
