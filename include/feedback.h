@@ -466,10 +466,12 @@ struct feedback_inverse_answer feedback_inverse(struct feedback_settings setting
  * sent. If it names a PDCCH, and the station sent this handset none with that first
  * CCE at that position, or if it names a scheduled block and none was sent there,
  * the reply is not this handset's, but a false alarm of the receiver (or another
- * handset's reply): the station confirms nothing by it, at any position. So a scheduler may conclude this, from the window, what it sent there
- * and the reading alone. A block that it sent is confirmed if what the reading names
- * was sent, a PDCCH at that position with that first CCE or the scheduled block at
- * that position, and
+ * handset's reply): the station confirms nothing by it, at any position.
+ *
+ * So a scheduler may conclude this, from the window, what it sent there and the
+ * reading alone. A block that it sent is confirmed if what the reading names was
+ * sent, a PDCCH at that position with that first CCE or the scheduled block at that
+ * position, and
  *
  *   bundled       read as a PDCCH: the block's grant is the one named, or was sent
  *                 before it where at most four PDCCHs of the window were sent up to

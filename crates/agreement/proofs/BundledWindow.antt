@@ -100,19 +100,26 @@ second-joined s m (Released p) = refl
 abbrev pub LowCce : Settings → Heard → Type 0
 LowCce set x = (k c : ℕ) → asLast k x ≡ heardAt k c → c < edge (set .nrb) 4
 
--- `read` is the station's reading; on a PDCCH's resource it reads that PDCCH, and on the configured resource a scheduled block that
--- was heard.
+-- On a PDCCH's resource the station's reading, `read`, reads that PDCCH.
+abbrev pub ReadsPdcch : Settings → ℕ → (ℕ → ℕ → ℕ → Reading) → Type 0
+ReadsPdcch set n read =
+    (m c r b0 b1 : ℕ) → resourceOf set n m c ≡ mapped.At (record { 0 = r })
+    → read r b0 b1 ≡ readAt set (sizeOf set n) (place.Pdcch m (record { 0 = c })) b0 b1
+
+-- On the configured resource it reads a scheduled block that was heard.
+abbrev pub ReadsBlock : Settings → ℕ → (ℕ → Heard) → (ℕ → ℕ → ℕ → Reading) → Type 0
+ReadsBlock set n H read =
+    (k : ℕ) → member k (windowOf (set .config) n) ≡ true → isBlock (H k) ≡ true
+    → (m : ℕ) × (m < sizeOf set n) × (getD (windowOf (set .config) n) m 0 ≡ k)
+    × ((b0 b1 : ℕ) → read (set .scheduled) b0 b1 ≡ readAt set (sizeOf set n) (place.Block m) b0 b1)
+
 module _ (set : Settings) (n : ℕ) (good : windowRefusal set n ≡ 0) (ok : Accepted set) (mode : bundles set (sizeOf set n) ≡ true)
     (S : ℕ → Send) (H : ℕ → Heard) (F : ℕ → View) (read : ℕ → ℕ → ℕ → Reading)
     (rule : RuleFrom 0 (map S (timesOf (windowOf (set .config) n))))
     (brings : (k : ℕ) → 1 ≤ k → k ≤ 13 → Brings (S k) (H k))
     (low : (k : ℕ) → 1 ≤ k → k ≤ 13 → LowCce set (H k))
     (view : (k : ℕ) → 1 ≤ k → k ≤ 13 → F k ≡ viewOf (H k))
-    (reads-pdcch : (m c r b0 b1 : ℕ) → resourceOf set n m c ≡ mapped.At (record { 0 = r })
-    → read r b0 b1 ≡ readAt set (sizeOf set n) (place.Pdcch m (record { 0 = c })) b0 b1)
-    (reads-block : (k : ℕ) → member k (windowOf (set .config) n) ≡ true → isBlock (H k) ≡ true
-    → (m : ℕ) × (m < sizeOf set n) × (getD (windowOf (set .config) n) m 0 ≡ k)
-    × ((b0 b1 : ℕ) → read (set .scheduled) b0 b1 ≡ readAt set (sizeOf set n) (place.Block m) b0 b1)) where
+    (reads-pdcch : ReadsPdcch set n read) (reads-block : ReadsBlock set n H read) where
   ks : List ℕ
   ks = windowOf (set .config) n
 

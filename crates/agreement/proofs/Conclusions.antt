@@ -2,14 +2,15 @@
 -- repository.
 -- Assumes nothing.
 use Prim.Native.Nat.{ℕ, _/_, _%_, _^_, _<_}
-use mathlib.Core.Bool.{true, false}
-use mathlib.Core.List.{List}
+use mathlib.Core.Bool.{Bool, true, false}
+use mathlib.Core.List.{List, [], _∷_}
 use mathlib.Core.Logic.{_⊎_, inl, inr}
-use mathlib.Core.Path.{_≡_, ap, _∙_}
+use mathlib.Core.Path.{_≡_, refl, ap, _∙_}
 use native.Mathlib.Decide.{ℕ-discrete}
 use native.Mathlib.Omega.{arith}
 use lib.ListN.{length, getD}
 use Rattle.frame.specs.declared.Settings.{Settings}
+use Rattle.frame.specs.Layout.{downlink}
 use Rattle.frame.specs.Order.{member, timesOf}
 use Rattle.frame.proofs.Accepted.{accepted}
 use Rattle.resource.specs.declared.Cce.{Cce}
@@ -45,14 +46,27 @@ module _ (e : Engine) (d : Demand3 e) (set : Settings) (sent : ℕ → Send) (it
   brought : (k : ℕ) → Brings (sentAgo sent s k) (heardAgo (heardInRun set items) s k)
   brought k = ago-brings sent (heardInRun set items) (replied .brings) s k
 
+  holds : HoldsAfter e set sent items
+  holds = d .run set (replied .accepted) sent (replied .schedule) items (replied .brings)
+
+  -- A subframe that was answered with a reply has a window.
+  has-window : 0 < length (windowAt set s)
+  has-window = go (windowAt set s) refl (downlink (set .config) (s % 10)) refl
+    where
+      go : (ks : List ℕ) → windowAt set s ≡ ks → (down : Bool) → downlink (set .config) (s % 10) ≡ down → 0 < length (windowAt set s)
+      go (k ∷ ks) is down b = rw is (omega arith)
+      go [] is true b =
+          let z : _≡_ {A = ℕ} 0 1 = cc (replied .answered, holds .taken (replied .item) s (replied .brought) (replied .subframe) b) in
+          absurd (omega arith)
+      go [] is false b =
+          let z : _≡_ {A = ℕ} 0 1 = cc (replied .answered, holds .noWindow (replied .item) s (replied .brought) (replied .subframe) b is) in
+          absurd (omega arith)
+
   -- It says one of the two of every window with a position.
   window : (m : ℕ) → m < length (windowAt set s)
       → Answered
   window m h = go (ℕ-discrete (set .mode) 0) (ℕ-discrete (length (windowAt set s)) 1)
     where
-      holds : HoldsAfter e set sent items
-      holds = d .run set (replied .accepted) sent (replied .schedule) items (replied .brings)
-
       go : Dec (set .mode ≡ 0) → Dec (length (windowAt set s) ≡ 1)
           → Answered
       go (yes mode) size = inl (holds .bundled (replied .item) s (replied .brought) (replied .subframe) (omega arith) (inl mode))
@@ -115,10 +129,10 @@ module _ (e : Engine) (d : Demand3 e) (set : Settings) (sent : ℕ → Send) (it
       → (m : ℕ) → m < length (windowAt set s) → isPdcch (H (getD (windowAt set s) m 0)) ≡ false
   none-heard named b0 b1 is m h = by-block m h named b0 b1 is .0 .none (getD (windowAt set s) m 0) (in-time m h)
 
-  block-heard : 0 < length (windowAt set s) → (named b0 b1 : ℕ) → readingAt e set sent s r ≡ reading.Bundled (place.Block named) b0 b1
+  block-heard : (named b0 b1 : ℕ) → readingAt e set sent s r ≡ reading.Bundled (place.Block named) b0 b1
       → isBlock (H (getD (windowAt set s) named 0)) ≡ true
-  block-heard some named b0 b1 is =
-      let l = by-block 0 some named b0 b1 is in
+  block-heard named b0 b1 is =
+      let l = by-block 0 has-window named b0 b1 is in
       rw (← l .1) (l .0 .heard)
 
   delivered-heard : (named : Place) (positions : ℕ) → readingAt e set sent s r ≡ reading.Multiplexed named positions

@@ -12,7 +12,6 @@ use lib.ListN.{length, getD, List·getD-eq-default}
 use borrow.Author.Tests.{eq-eqb, ne-eqb, le-leb, lt-leb}
 use Rattle.frame.specs.declared.Settings.{Settings}
 use Rattle.frame.specs.Layout.{downlink}
-use Rattle.frame.specs.Order.{member}
 use Rattle.frame.specs.Settings.{hasScheduled, bundles, settingsRefusal}
 use Rattle.frame.specs.Table.{windowOf}
 use Rattle.frame.proofs.Accepted.{Accepted, accepted}
@@ -21,7 +20,6 @@ use Rattle.frame.proofs.Windows.{window-uplink, multiplexed-size}
 use Rattle.confirmation.specs.declared.Send.{Send}
 use Rattle.confirmation.specs.declared.Send.the-variants as send
 use Rattle.confirmation.specs.Sent.{isBlock as isSentBlock, toldOf}
-use Rattle.resource.specs.declared.Mapped.the-variants as mapped
 use Rattle.resource.specs.Calls.{sizeOf, resourceOf}
 use Rattle.reply.specs.declared.Answer.{Answer}
 use Rattle.reply.specs.declared.Answer.the-variants as answer
@@ -38,15 +36,14 @@ use Rattle.handset.specs.declared.Fed.{Fed}
 use Rattle.handset.specs.declared.Handset.{Handset}
 use Rattle.handset.specs.Feed.{answerOf, nextAnswer, feedRefusal, fedAs, feedOf}
 use Rattle.handset.specs.Make.{memory}
-use Rattle.station.specs.declared.Place.the-variants as place
 use Rattle.station.specs.declared.Reading.{Reading}
 use Rattle.station.specs.declared.Told.{Told}
 use Rattle.station.specs.declared.Told.the-variants as told
-use Rattle.station.specs.Readings.{readAt, toldRefusal, readOf}
+use Rattle.station.specs.Readings.{toldRefusal, readOf}
 use Rattle.station.proofs.Back.{told-fine, read-there, read-block}
 use Rattle.agreement.specs.Run.{asHeard, sentAgo, heardAgo, causeAfter, Schedule, Brings, windowAt}
 use Rattle.agreement.specs.Window.{inTime, Bundled, Multiplexed}
-use Rattle.agreement.proofs.BundledWindow.{LowCce, bundled-window}
+use Rattle.agreement.proofs.BundledWindow.{LowCce, ReadsPdcch, ReadsBlock, bundled-window}
 use Rattle.agreement.proofs.Entries.{member-at}
 use Rattle.agreement.proofs.Memory.{ValidPast, after, pushed-after, view-after, low-after, cause-after, sound-after}
 use Rattle.agreement.proofs.MultiplexedWindow.{multiplexed-window}
@@ -170,14 +167,11 @@ module _ (set : Settings) (good : settingsRefusal set ≡ 0) (sent : ℕ → Sen
           let p = told-position (sentAgo sent (length l)) (windowOf (set .config) n) m e in
           told-fine set n m (p .0) (ago-set (getD (windowOf (set .config) n) m 0) (p .1))
 
-  reads-pdcch : (m c r b0 b1 : ℕ) → resourceOf set n m c ≡ mapped.At (record { 0 = r })
-      → readIn set sent (length l) r b0 b1 ≡ readAt set (sizeOf set n) (place.Pdcch m (record { 0 = c })) b0 b1
+  reads-pdcch : ReadsPdcch set n (readIn set sent (length l))
   unfolding told-there
   reads-pdcch m c r b0 b1 there = read-there set n m c r there told-there told-right b0 b1
 
-  reads-block : 0 < length (windowOf (set .config) n) → (k : ℕ) → member k (windowOf (set .config) n) ≡ true → isBlock (heardAgo heard (length l) k) ≡ true
-      → (m : ℕ) × (m < sizeOf set n) × (getD (windowOf (set .config) n) m 0 ≡ k)
-      × ((b0 b1 : ℕ) → readIn set sent (length l) (set .scheduled) b0 b1 ≡ readAt set (sizeOf set n) (place.Block m) b0 b1)
+  reads-block : 0 < length (windowOf (set .config) n) → ReadsBlock set n (heardAgo heard (length l)) (readIn set sent (length l))
   reads-block some k inside h =
       let S : ℕ → Send = sentAgo sent (length l) in
       let was = block-sent (S k) (heardAgo heard (length l) k) (ago-brings sent heard brings (length l) k) h in

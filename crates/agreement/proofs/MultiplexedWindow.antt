@@ -8,7 +8,7 @@ use mathlib.Core.Path.{_≡_, refl, sym, ap, _∙_}
 use native.Mathlib.Omega.{arith}
 use lib.ListN.{length, getD, length-map}
 use Rattle.frame.specs.declared.Settings.{Settings}
-use Rattle.frame.specs.Order.{member, timesOf}
+use Rattle.frame.specs.Order.{timesOf}
 use Rattle.frame.specs.Settings.{bundles, windowRefusal}
 use Rattle.frame.specs.Table.{windowOf}
 use Rattle.frame.proofs.Lists as lists
@@ -41,7 +41,7 @@ use Rattle.station.specs.declared.Reading.{Reading}
 use Rattle.station.specs.Readings.{placePosition, readAt}
 use Rattle.station.proofs.Back.{read-symbol}
 use Rattle.agreement.specs.Window.{Entry, isHeard, anyOf, decodedFirst, decodedSecond, stateIn, ReadAs, Carries, MultiplexedReply, Multiplexed}
-use Rattle.agreement.proofs.BundledWindow.{LowCce}
+use Rattle.agreement.proofs.BundledWindow.{LowCce, ReadsPdcch, ReadsBlock}
 use Rattle.agreement.proofs.Entries.{AllOf, all-of, of-all, of-window, member-at, same-position, in-time, in-window, entry, none-of, all-none}
 use Rattle.agreement.proofs.Exactly.{sent-exactly}
 
@@ -90,11 +90,7 @@ module _ (set : Settings) (n : ℕ) (good : windowRefusal set n ≡ 0) (mode : b
     (S : ℕ → Send) (H : ℕ → Heard) (F : ℕ → View) (read : ℕ → ℕ → ℕ → Reading)
     (low : (k : ℕ) → 1 ≤ k → k ≤ 13 → LowCce set (H k))
     (view : (k : ℕ) → 1 ≤ k → k ≤ 13 → F k ≡ viewOf (H k))
-    (reads-pdcch : (m c r b0 b1 : ℕ) → resourceOf set n m c ≡ mapped.At (record { 0 = r })
-    → read r b0 b1 ≡ readAt set (sizeOf set n) (place.Pdcch m (record { 0 = c })) b0 b1)
-    (reads-block : (k : ℕ) → member k (windowOf (set .config) n) ≡ true → isBlock (H k) ≡ true
-    → (m : ℕ) × (m < sizeOf set n) × (getD (windowOf (set .config) n) m 0 ≡ k)
-    × ((b0 b1 : ℕ) → read (set .scheduled) b0 b1 ≡ readAt set (sizeOf set n) (place.Block m) b0 b1)) where
+    (reads-pdcch : ReadsPdcch set n read) (reads-block : ReadsBlock set n H read) where
   states : List State
   states = map (λ (k : ℕ). stateIn (H k)) (windowOf (set .config) n)
 

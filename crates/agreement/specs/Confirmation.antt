@@ -68,7 +68,7 @@ pub record Conclusions (e : Engine) : Type 0 where
       → isPdcch (heardThere set items s m) ≡ false
   -- Read as the scheduled block: that block was heard, ACK or NACK, and every PDCCH of the window was lost.
   pub blockHeard : (set : Settings) (sent : ℕ → Send) (items : List Item) (s : ℕ) (r : Reply) → Replied e set sent items s r
-      → 0 < length (windowAt set s) → (named b0 b1 : ℕ) → readingAt e set sent s r ≡ reading.Bundled (place.Block named) b0 b1
+      → (named b0 b1 : ℕ) → readingAt e set sent s r ≡ reading.Bundled (place.Block named) b0 b1
       → isBlock (heardThere set items s named) ≡ true
   pub noneHeard : (set : Settings) (sent : ℕ → Send) (items : List Item) (s : ℕ) (r : Reply) → Replied e set sent items s r
       → (named b0 b1 : ℕ) → readingAt e set sent s r ≡ reading.Bundled (place.Block named) b0 b1

@@ -1,7 +1,7 @@
 -- Demand 3, whole, as a statement about an engine: its make, feed, resource, inverse and reading as functions. Document 00, demand
--- 3, document 01, "The runs of demand 3", and document 02, U1: each field quotes the sentence that it states. proofs/Demand3.antt proves it of the
--- definitions that the promises of the code are equations with: makeOf (handset::make), feedOf (handset::feed), resourceOf and
--- inverseOf (resource::resource_of and inverse_of), readOf (station::read).
+-- 3, document 01, "The runs of demand 3", and document 02, U1: each field quotes the sentence that it states. proofs/Demand3.antt
+-- proves it of the definitions that the promises of the code are equations with: makeOf (handset::make), feedOf (handset::feed),
+-- resourceOf and inverseOf (resource::resource_of and inverse_of), readOf (station::read).
 -- Assumes nothing.
 use Prim.Native.Nat.{ℕ, _%_, _<_}
 use mathlib.Core.Bool.{true, false}

@@ -1,11 +1,13 @@
 -- The cases that document 01 wants proved ("Cases to prove"), as one fact about the definitions; its lines in their order.
 -- Assumes nothing.
-use Prim.Native.Nat.{ℕ, zero, suc, _+_, _-_, _%_}
+use Prim.Native.Nat.{ℕ, zero, suc}
 use mathlib.Core.Bool.{cond}
 use mathlib.Core.List.{List, [], _∷_, map}
 use mathlib.Core.Path.{_≡_}
 use lib.Dec.{eqb}
 use Rattle.frame.specs.declared.Settings.{Settings}
+use Rattle.frame.specs.Distance.{before}
+use Rattle.frame.specs.Settings.{noResource}
 use Rattle.frame.specs.Table.{windowOf}
 use Rattle.resource.specs.declared.Inverted.the-variants as inverted
 use Rattle.resource.specs.declared.Mapped.{Mapped}
@@ -26,11 +28,7 @@ edges nrb = map (edge nrb) (0 ∷ 1 ∷ 2 ∷ 3 ∷ 4 ∷ [])
 
 -- a cell with N_RB 50 and N1 10, in mode 0, of one block, with no scheduled resource
 abbrev pub cell : ℕ → Settings
-cell config = record { config = config; nrb = 50; n1 = 10; mode = 0; blocks = 1; scheduled = 65535 }
-
--- the subframe of the frame that lies k before n
-abbrev pub before : ℕ → ℕ → ℕ
-before n k = (n + 20 - k) % 10
+cell config = record { config = config; nrb = 50; n1 = 10; mode = 0; blocks = 1; scheduled = noResource }
 
 -- the position of a subframe in the window of n, from the table: the first m whose k_m leads to it
 abbrev pub subframePosition : ℕ → ℕ → List ℕ → ℕ

@@ -16,8 +16,8 @@ pub use table::window_of;
 
 // The settings of a cell (document 01, "Settings"), as raw numbers: a call refuses what 01 does not allow. `config` is the
 // uplink-downlink configuration, `nrb` is N_RB, `n1` is N1 (36.213's N_PUCCH^(1)), `mode` is 0 for bundling and 1 for multiplexing,
-// `blocks` is the most transport blocks that a grant carries. `scheduled` is the resource configured for scheduled blocks (document
-// 02, U1), 65535 where none is set.
+// `blocks` is the most transport blocks that a grant or a scheduled block carries. `scheduled` is the resource configured for
+// scheduled blocks (document 02, U1), 65535 where none is set.
 #[repr(C)]
 pub struct Settings {
     pub config: u16,

@@ -1,11 +1,12 @@
 -- Refusal 8: lent state fails 1 to 6, expects a subframe over 9, or remembers a grant failing 9 to 12 in the subframe it was fed in;
 -- "so does one that breaks a rule on settings or grants added later": 17, and 18 after what it remembers from before.
 -- Assumes nothing.
-use Prim.Native.Nat.{ℕ, _+_, _%_}
+use Prim.Native.Nat.{ℕ}
 use mathlib.Core.Bool.{Bool, true, cond, _&&_}
 use mathlib.Core.List.{List, [], _∷_}
 use lib.Dec.{eqb, leb}
 use Rattle.frame.specs.declared.Settings.{Settings}
+use Rattle.frame.specs.Distance.{before}
 use Rattle.frame.specs.Settings.{settingsRefusal}
 use Rattle.heard.specs.declared.Slot.{Slot}
 use Rattle.heard.specs.Heard.{causeOf}
@@ -18,7 +19,7 @@ slotSound s n older t = leb (t .kind) 3 && eqb (causeOf s n (blockAgo older) (he
 
 -- The subframe before n; before 0 comes 9.
 abbrev pub previous : ℕ → ℕ
-previous n = (n + 9) % 10
+previous n = before n 1
 
 -- The newest slot was fed in the subframe before n, the next one in the subframe before that, and so on.
 unfoldable pub allSound : Settings → ℕ → List Slot → Bool

@@ -26,9 +26,8 @@ use Rattle.fold.specs.Fold.{seenOf}
 use Rattle.heard.specs.Memory.{bit}
 use Rattle.reply.specs.Kinds.{kindBundled, kindMultiplexed}
 
--- A reply of a kind (specs/Kinds.antt) with two bits, on the resource that the map gives. The one place that makes a
--- reply. A valid grant has a resource; without one nothing is sent, which no state that 8 accepts comes to
--- (handset/proofs/Silences.antt).
+-- A reply of a kind (specs/Kinds.antt) with two bits, on the resource that the map gives. The one place that makes a reply. A valid
+-- grant has a resource; without one nothing is sent, which no state that 8 accepts comes to (handset/proofs/Silences.antt).
 unfoldable pub replyOn : ℕ → Mapped → ℕ → ℕ → Answer
 replyOn kind (mapped.At r) b0 b1 = Sent (record { kind = kind; resource = r; b0 = b0; b1 = b1 })
 replyOn kind (mapped.Refused k) b0 b1 = Silent

@@ -1,5 +1,5 @@
--- When a window's reply is silent: document 01, "The bundled reply" and "The multiplexed reply"; document 02, U1. handset/proofs/Silences.antt shows
--- that a handset is silent for these causes and no other.
+-- When a window's reply is silent: document 01, "The bundled reply" and "The multiplexed reply"; document 02, U1.
+-- handset/proofs/Silences.antt shows that a handset is silent for these causes and no other.
 -- Assumes nothing.
 use Prim.Native.Nat.{ℕ, _<_, _≤_}
 use mathlib.Core.Bool.{true, false}

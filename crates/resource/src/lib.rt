@@ -1,4 +1,4 @@
-// The PUCCH resource of a grant, and the grant's place back from a resource (document 01, "Resources").
+// The PUCCH resource of a PDCCH, a grant or a release, and its place back from a resource (document 01, "Resources").
 use frame::Settings;
 ghost use mathlib.Core.Path.{_≡_};
 ghost use Prim.Native.Nat.{_≤_};
@@ -8,7 +8,7 @@ ghost use Rattle.resource.specs.Calls.{ccesOf, resourceIn, inverseIn, re
 ghost use Rattle.resource.specs.Bounds.{Bounds};
 ghost use Rattle.resource.specs.Search.{Searched};
 
-// The number of a grant's first CCE. CCEs and PUCCH resources are counted apart: only the map and its
+// The number of a PDCCH's first CCE. CCEs and PUCCH resources are counted apart: only the map and its
 // inverse lead from one count to the other.
 #[repr(C)]
 pub struct Cce(u16);
@@ -57,7 +57,7 @@ pub enum Inverted {
     Refused(u16),
 }
 
-// The resource of the grant at position m with first CCE c, in the window of uplink subframe n.
+// The resource of the PDCCH at position m with first CCE c, in the window of uplink subframe n.
 pub fn resource_of(s: Settings, n: u16, m: u16, c: Cce) -> Mapped
     ensures { λ r. ⌜ r ≡ resourceOf s n m (c .0) ⌝ }
 {

@@ -162,7 +162,8 @@ fn place_of(s: Settings, n: u16, size: u16, told: Told, r: Resource) -> Placed
     place_dynamic(s, size, r)
 }
 
-// The reply that came on resource r in uplink subframe n with the bits b0 and b1, the second 0 in a one-bit reply.
+// The reply that came on resource r in uplink subframe n with the bits b0 and b1, the second 0 in a one-bit reply. `told` is the
+// position of the scheduled block that was sent in the window, if one was.
 pub fn read(s: Settings, n: u16, told: Told, r: Resource, b0: u16, b1: u16) -> Reading
     ensures { λ x. ⌜ x ≡ readOf s n told (r .0) b0 b1 ⌝ }
 {
