@@ -10,13 +10,16 @@
 #include <stdio.h>
 #include <stdlib.h>
 
-/* The runs: each configuration in each mode it has. Arguments replace the numbers of the first. */
-enum { CONFIG, MODE, FRAMES, LOSS, SEED, ARGUMENTS };
+/*
+ * The runs: each configuration in each mode it has, and two with special subframes too short for
+ * data (SHORT 1, else 0). Arguments replace the numbers of the first.
+ */
+enum { CONFIG, MODE, FRAMES, LOSS, SEED, SHORT, ARGUMENTS };
 static uint16_t runs[][ARGUMENTS] = {
     {0, 0, 2, 30, 230},  {0, 1, 2, 30, 230},  {1, 0, 2, 30, 16},      {1, 1, 2, 30, 16},
     {2, 0, 4, 30, 1021}, {2, 1, 4, 30, 1021}, {3, 0, 3, 30, 102},     {3, 1, 3, 30, 102},
     {4, 0, 4, 30, 372},  {4, 1, 4, 30, 372},  {5, 0, 10, 50, 17369},
-    {6, 0, 2, 30, 657},  {6, 1, 2, 30, 657},
+    {6, 0, 2, 30, 657},  {6, 1, 2, 30, 657},  {2, 0, 4, 30, 1021, 1}, {2, 1, 4, 30, 1021, 1},
 };
 
 /* A number below the limit; the same seed gives the same numbers. */
@@ -61,6 +64,16 @@ static bool is_pdcch(struct sent sent)
     return sent.kind == FEEDBACK_SLOT_GRANT || sent.kind == FEEDBACK_SLOT_RELEASE;
 }
 
+/* Data is sent in every downlink subframe but a special one that is too short for it. */
+static bool takes_data(struct feedback_settings settings, unsigned subframe)
+{
+    bool has_two = settings.config < 3 || settings.config == 6;
+    bool special = subframe == 1 || (subframe == 6 && has_two);
+    bool is_short = settings.special == 0 ||
+                    settings.special == (settings.prefix == FEEDBACK_PREFIX_NORMAL ? 5 : 4);
+    return !(special && is_short);
+}
+
 /* Holds grants back until no two share a PUCCH resource. Bit m of the answer: one at position m. */
 static unsigned hold_back(const struct station *station, uint16_t n, uint16_t *claims, size_t count)
 {
@@ -93,11 +106,14 @@ static struct window plan(struct station *station, uint16_t n)
         unsigned m = window.table.order[i], lot = draw(&station->random, 8);
         struct sent *sent = &window.sent[m];
         uint16_t blocks = (uint16_t)(1 + draw(&station->random, 2));
+        bool data = takes_data(station->settings, (n + 20u - window.table.k[m]) % 10);
+        if (m == window.scheduled && !data)
+            window.scheduled = FEEDBACK_NONE; /* none is sent in this window */
         if (m == window.scheduled)
             *sent = (struct sent){.kind = FEEDBACK_SLOT_SCHEDULED, .blocks = blocks};
-        else if (lot < 5)
+        else if (lot < 5 && data)
             *sent = (struct sent){.kind = FEEDBACK_SLOT_GRANT, .blocks = blocks};
-        else if (lot == 5)
+        else if (lot < 6)
             *sent = (struct sent){.kind = FEEDBACK_SLOT_RELEASE};
         if (!is_pdcch(*sent))
             continue; /* no PDCCH there */
@@ -276,16 +292,19 @@ static int run(const uint16_t number[ARGUMENTS])
 {
     struct feedback_settings settings = FEEDBACK_SETTINGS(number[CONFIG], 50, 10, number[MODE], 2);
     settings.scheduled = 7; /* for the scheduled block, below N1 */
+    if (number[SHORT])
+        settings.special = 5; /* FEEDBACK_SETTINGS gives 7: special subframes carry data */
     struct feedback_made made = feedback_make(settings);
     accepted(made.refusal);
     struct station station = {.settings = settings, .random = number[SEED]};
     struct radio radio = {.handset = made.handset, .random = ~station.random, .loss = number[LOSS]};
     struct tally tally = {0};
     int width = number[CONFIG] == 5 ? 55 : 25; /* of nine subframes, or four */
-    printf("\nconfiguration %u, %s, %u frames, %u %% lost, seed %u\n"
+    printf("\nconfiguration %u, %s, %u frames, %u %% lost, seed %u%s\n"
            "frame.n |%-*s| reply          | reading            | blocks that leave the buffer\n",
            number[CONFIG], number[MODE] == 0 ? "bundling" : "multiplexing", number[FRAMES],
-           number[LOSS], number[SEED], width, " subframes in time order");
+           number[LOSS], number[SEED], number[SHORT] ? ", no data in special subframes" : "",
+           width, " subframes in time order");
     for (unsigned s = 0; s < number[FRAMES] * 10u; s++) {
         struct feedback_fed fed = receive_in(&radio, s, send_in(&station, s));
         struct verdict verdict = {0};
@@ -307,8 +326,9 @@ int main(int argc, char **argv)
         char *end;
         long value = strtol(argv[i], &end, 10), most = i - 1 == LOSS ? 100 : 65535;
         if (i > ARGUMENTS || end == argv[i] || *end != '\0' || value < 0 || value > most) {
-            fprintf(stderr, "usage: cell [CONFIGURATION [MODE [FRAMES [LOSS-PERCENT [SEED]]]]]; "
-                            "refused argument %d: one too many, or not a number 0 to %ld\n",
+            fprintf(stderr,
+                    "usage: cell [CONFIGURATION [MODE [FRAMES [LOSS-PERCENT [SEED [SHORT]]]]]]; "
+                    "refused argument %d: one too many, or not a number 0 to %ld\n",
                     i, most);
             return 2;
         }

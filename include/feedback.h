@@ -4,10 +4,10 @@
  * The handset end hears grants, scheduled blocks and releases and says what to
  * send on PUCCH. The station end reads what came in on PUCCH and says what is
  * acknowledged. The rules are those of 3GPP TS 36.213 version 9.3.0 (Release 9),
- * sections 7.3 and 10.1, for one serving cell with dynamic grants and
- * semi-persistent scheduling, and PUCCH formats 1a, 1b and 1b with channel
- * selection. Link with libfeedback.a, which is built for x86-64 with the System V
- * calling convention. For C99 and C++98 and all later.
+ * sections 7.3 and 10.1, and 7.1.7 for special subframes without data, for one
+ * serving cell with dynamic grants and semi-persistent scheduling, and PUCCH formats
+ * 1a, 1b and 1b with channel selection. Link with libfeedback.a, which is built for
+ * x86-64 with the System V calling convention. For C99 and C++98 and all later.
  *
  *   calls of both ends      feedback_window, feedback_answered
  *   calls of the station    feedback_resource, feedback_inverse,
@@ -23,8 +23,16 @@
  * TERMS
  *
  * subframe    0 to 9 in the frame. Downlink here means a downlink subframe or a
- *             special one: both carry grants. n is always the uplink subframe in
+ *             special one: both carry PDCCHs. n is always the uplink subframe in
  *             which the reply is sent.
+ * special     subframe 1, and 6 in configurations 0, 1, 2 and 6: S in the table below.
+ * subframe    It is too short for data, so that TS 36.213, section 7.1.7, allows no
+ *             PDSCH there, in special subframe configurations 0 and 5 with the normal
+ *             cyclic prefix of the downlink and 0 and 4 with the extended one. Then a
+ *             station sends no grant and no scheduled block there. A release may be
+ *             sent there, and is heard and answered as anywhere: windows, positions
+ *             and resources do not move. In all other special subframe configurations
+ *             a special subframe is like a downlink one here.
  * grant       a PDCCH that schedules one or two transport blocks in its own
  *             subframe. Its first CCE and its DAI come with it.
  * scheduled   one or two transport blocks that come on a schedule (semi-persistent
@@ -113,9 +121,9 @@
  *             feedback_answered       64
  *             feedback_resource       64
  *             feedback_inverse        64
- *             feedback_reading        256
- *             feedback_claims         128
- *             feedback_make           64
+ *             feedback_reading        512
+ *             feedback_claims         256
+ *             feedback_make           128
  *             feedback_feed_nothing   4096
  *             feedback_feed_grant     2048
  *             feedback_feed_scheduled 2048
@@ -134,8 +142,8 @@
 #include <stdint.h>
 
 /* This header's version: major * 10000 + minor * 100 + patch, and the same as text. */
-#define FEEDBACK_VERSION 20000
-#define FEEDBACK_VERSION_TEXT "2.0.0"
+#define FEEDBACK_VERSION 30000
+#define FEEDBACK_VERSION_TEXT "3.0.0"
 
 #define FEEDBACK_WINDOW_MOST 9     /* the most subframes of a window: M in configuration 5 */
 #define FEEDBACK_MEMORY 13         /* the subframes that a handset remembers: the greatest k */
@@ -165,10 +173,10 @@ extern "C" {
 /*
  * Why a call refuses: the value of refusal in every answer, 0 for no refusal. Each
  * call names the refusals it can give. Where several causes are met, the first in
- * this order is given: 1 to 6, 17, 7, 8, 9, 10, 11, 12, 18, 13, 14, 15, 16. A refused
- * call changes nothing: no buffer is written, no state moves on, nothing is made.
- * Beside a refusal every other number of the answer is 0, with two exceptions: a feed
- * gives back the handset as it was, and 16 comes with an index.
+ * this order is given: 1 to 6, 17, 19, 7, 8, 9, 20, 10, 11, 12, 18, 13, 14, 15, 16. A
+ * refused call changes nothing: no buffer is written, no state moves on, nothing is
+ * made. Beside a refusal every other number of the answer is 0, with two exceptions: a
+ * feed gives back the handset as it was, and 16 comes with an index.
  */
 enum feedback_refusal {
     FEEDBACK_NOT_REFUSED = 0,
@@ -181,11 +189,11 @@ enum feedback_refusal {
     FEEDBACK_REFUSED_SUBFRAME = 7,      /* subframe over 9 or without a window; in
                                            feedback_answered an uplink subframe, which lies in no
                                            window, or one over 9 */
-    FEEDBACK_REFUSED_STATE = 8,         /* lent state fails 1 to 6 or 17, expects a subframe over
-                                           9, or remembers what fails 9 to 12 or 18 there, in the
-                                           subframe that brought it (so two scheduled blocks of
-                                           one window too); also a remembered kind that is not in
-                                           enum feedback_slot_kind */
+    FEEDBACK_REFUSED_STATE = 8,         /* lent state fails 1 to 6, 17 or 19, expects a subframe
+                                           over 9, or remembers what fails 9 to 12, 18 or 20
+                                           there, in the subframe that brought it (so two
+                                           scheduled blocks of one window too); also a remembered
+                                           kind that is not in enum feedback_slot_kind */
     FEEDBACK_REFUSED_UPLINK = 9,        /* grant, scheduled block or release in an uplink
                                            subframe */
     FEEDBACK_REFUSED_CARRIED = 10,      /* blocks carried 0 or over the setting */
@@ -200,9 +208,15 @@ enum feedback_refusal {
     FEEDBACK_REFUSED_SCRATCH = 15,      /* scratch shorter than M * N_4 */
     FEEDBACK_REFUSED_CLAIM = 16,        /* claim with m not below M or CCE not below N_4 */
     FEEDBACK_REFUSED_SCHEDULED_RESOURCE = 17, /* scheduled resource set and not below N1 */
-    FEEDBACK_REFUSED_SCHEDULED = 18     /* scheduled block with no scheduled resource set, or a
+    FEEDBACK_REFUSED_SCHEDULED = 18,    /* scheduled block with no scheduled resource set, or a
                                            second one heard in one window; in feedback_reading a
                                            scheduled position told with no resource set */
+    FEEDBACK_REFUSED_SPECIAL = 19,      /* prefix not 0 or 1, or special subframe configuration
+                                           over 8 with the normal prefix, over 6 with the
+                                           extended */
+    FEEDBACK_REFUSED_SHORT = 20         /* grant or scheduled block in a special subframe too
+                                           short for data; in feedback_reading a scheduled
+                                           position told whose subframe is such a one */
 };
 
 /* The kind of a feed's answer, and of a reading (there 0, 1 or 2). */
@@ -228,6 +242,12 @@ enum feedback_mode {
     FEEDBACK_MODE_MULTIPLEXING = 1
 };
 
+/* The cyclic prefix of the downlink in a cell, as in feedback_settings. */
+enum feedback_prefix {
+    FEEDBACK_PREFIX_NORMAL = 0,
+    FEEDBACK_PREFIX_EXTENDED = 1
+};
+
 /* What a remembered subframe brought, as in feedback_slot: the kinds, and the bits of results. */
 enum feedback_slot_kind {
     FEEDBACK_SLOT_NOTHING = 0,
@@ -242,16 +262,19 @@ enum feedback_slot_results {
 };
 
 /*
- * The settings of a handset in a cell. 12 bytes. config, nrb and n1 are the cell's,
- * the same for all its handsets; mode, blocks and scheduled are the handset's own,
- * set by higher layers for each, and its replies are read with them. Every call that
- * takes settings refuses 1 to 6 and 17 for them; feedback_window, feedback_answered,
- * feedback_resource, feedback_inverse and feedback_claims ask no more of mode, blocks
- * and scheduled than that, and answer alike for all handsets of a cell.
+ * The settings of a handset in a cell. 16 bytes. config, nrb, n1, prefix and special are
+ * the cell's, the same for all its handsets; mode, blocks and scheduled are the
+ * handset's own, set by higher layers for each, and its replies are read with them.
+ * Every call that takes settings refuses 1 to 6, 17 and 19 for them; feedback_window,
+ * feedback_answered, feedback_resource, feedback_inverse and feedback_claims ask no more
+ * of mode, blocks, scheduled, prefix and special than that, and answer alike for all
+ * handsets of a cell.
  *
- * FEEDBACK_SETTINGS, below, fills the first five and sets scheduled to FEEDBACK_NONE;
- * where a scheduled resource is configured, write it into the field afterwards. Those
- * that a later version adds it fills too.
+ * FEEDBACK_SETTINGS, below, fills the first five, sets scheduled to FEEDBACK_NONE,
+ * prefix to 0 and special to 7, with which special subframes carry data. Where a
+ * scheduled resource is configured, and where the cell has another prefix or special
+ * subframe configuration, write it into the field afterwards. Settings that a later
+ * version adds it fills too.
  */
 struct feedback_settings {
     uint16_t config;    /* uplink-downlink configuration, 0 to 6 */
@@ -262,11 +285,17 @@ struct feedback_settings {
     uint16_t scheduled; /* the PUCCH resource that higher layers configure for scheduled blocks,
                            below N1, or FEEDBACK_NONE: none is set. A field left 0 is resource 0,
                            and not "none"; where N1 is 0 it is refused 17 */
+    uint16_t prefix;    /* the cyclic prefix of the downlink, 0 normal, 1 extended */
+    uint16_t special;   /* special subframe configuration, 0 to 8 with the normal prefix, 0 to 6
+                           with the extended. 0 forbids data in special subframes, as 5 does with
+                           the normal prefix and 4 with the extended: a grant or scheduled block
+                           there is refused 20. So where fields are filled by hand, set this one
+                           too; FEEDBACK_SETTINGS gives 7, with which nothing is refused 20 */
 };
 
 /* The answer of feedback_window. 40 bytes. */
 struct feedback_window_answer {
-    uint16_t refusal;                     /* 0, or 1 to 7 or 17 */
+    uint16_t refusal;                     /* 0, or 1 to 7, 17 or 19 */
     uint16_t size;                        /* M, 1 to 9; 0 if refused */
     uint16_t k[FEEDBACK_WINDOW_MOST];     /* k_0 to k_(M-1), K as printed; 0 from M on */
     uint16_t order[FEEDBACK_WINDOW_MOST]; /* the positions 0 to M - 1 in time order, the earliest
@@ -275,7 +304,7 @@ struct feedback_window_answer {
 
 /* The answer of feedback_answered. 8 bytes. */
 struct feedback_answered_answer {
-    uint16_t refusal;  /* 0, or 1 to 7 or 17 */
+    uint16_t refusal;  /* 0, or 1 to 7, 17 or 19 */
     uint16_t n;        /* the uplink subframe that answers; 0 if refused */
     uint16_t k;        /* how many subframes later that is, 4 to 13; 0 if refused */
     uint16_t position; /* the position m in the window of n, 0 to M - 1; 0 if refused */
@@ -283,20 +312,20 @@ struct feedback_answered_answer {
 
 /* The answer of feedback_resource. 4 bytes. */
 struct feedback_resource_answer {
-    uint16_t refusal;  /* 0, or 1 to 7, 11 or 17 */
+    uint16_t refusal;  /* 0, or 1 to 7, 11, 17 or 19 */
     uint16_t resource; /* the PUCCH resource, N1 to N1 + M * N_4 - 1; 0 if refused */
 };
 
 /* The answer of feedback_inverse. 6 bytes. */
 struct feedback_inverse_answer {
-    uint16_t refusal;  /* 0, or 1 to 7, 13 or 17 */
+    uint16_t refusal;  /* 0, or 1 to 7, 13, 17 or 19 */
     uint16_t position; /* the position m in the window, 0 to M - 1; 0 if refused */
     uint16_t cce;      /* the first CCE, 0 to N_4 - 1; 0 if refused */
 };
 
 /* The answer of feedback_reading. 16 bytes. */
 struct feedback_reading_answer {
-    uint16_t refusal;   /* 0, or 1 to 7, 11, 13, 14, 17 or 18 */
+    uint16_t refusal;   /* 0, or 1 to 7, 11, 13, 14 or 17 to 20 */
     uint16_t kind;      /* FEEDBACK_KIND_BUNDLED or FEEDBACK_KIND_MULTIPLEXED; 0 if refused */
     uint16_t position;  /* the position m of the PDCCH or scheduled block whose resource this is;
                            0 if refused */
@@ -312,7 +341,7 @@ struct feedback_reading_answer {
 
 /* The answer of feedback_claims. 16 bytes. */
 struct feedback_claims_answer {
-    uint16_t refusal; /* 0, or 1 to 7, 15, 16 or 17 */
+    uint16_t refusal; /* 0, or 1 to 7, 15, 16, 17 or 19 */
     uint16_t kind;    /* FEEDBACK_CLAIMS_CLEAN or FEEDBACK_CLAIMS_CLASH; 0 if refused */
     uint64_t index;   /* clash: the index of the first claim that is equal to an earlier one;
                          refused 16: the index of the first bad claim; else 0 */
@@ -328,7 +357,7 @@ struct feedback_slot {
 };
 
 /*
- * The state of a handset. 66 bytes without padding.
+ * The state of a handset. 70 bytes without padding.
  *
  * feedback_make makes one, a feed takes one and gives back the next. It is plain
  * bytes: it may be copied, stored, and given back later, as often as you like,
@@ -337,7 +366,7 @@ struct feedback_slot {
  * of a slot that have no meaning are carried along unchanged; a feed puts 0 into such
  * bytes of the slot that it adds.
  *
- * A handset that was stored by a version before 2.0.0 has 64 bytes and another
+ * A handset that was stored by a version before 3.0.0 has 64 or 66 bytes and another
  * layout: it cannot be fed to this one. Make a fresh handset.
  */
 struct feedback_handset {
@@ -346,17 +375,17 @@ struct feedback_handset {
     struct feedback_slot past[FEEDBACK_MEMORY]; /* the last 13 subframes, the newest first */
 };
 
-/* The answer of feedback_make. 68 bytes. */
+/* The answer of feedback_make. 72 bytes. */
 struct feedback_made {
-    uint16_t refusal;                /* 0, or 1 to 6 or 17 */
-    struct feedback_handset handset; /* the fresh handset; 66 zero bytes if refused, a state
+    uint16_t refusal;                /* 0, or 1 to 6, 17 or 19 */
+    struct feedback_handset handset; /* the fresh handset; 70 zero bytes if refused, a state
                                         that every feed refuses with 8 */
 };
 
-/* The answer of a feed. 76 bytes. */
+/* The answer of a feed. 80 bytes. */
 struct feedback_fed {
-    uint16_t refusal;  /* 0, or 8 (feedback_feed_nothing), 8 to 12 (feedback_feed_grant), 8, 9, 10
-                          or 18 (feedback_feed_scheduled), 8, 9, 11 or 12
+    uint16_t refusal;  /* 0, or 8 (feedback_feed_nothing), 8 to 12 or 20 (feedback_feed_grant), 8,
+                          9, 10, 18 or 20 (feedback_feed_scheduled), 8, 9, 11 or 12
                           (feedback_feed_release) */
     uint16_t kind;     /* one of enum feedback_kind */
     uint16_t resource; /* bundled, multiplexed: the PUCCH resource to send on; else 0 */
@@ -375,7 +404,7 @@ struct feedback_fed {
  * Position order[0] has the earliest subframe, order[M - 1] the latest: with w the
  * answer, w.k[w.order[j]] falls as j rises.
  *
- * Refuses 1 to 6, 17 and 7.
+ * Refuses 1 to 6, 17, 19 and 7.
  */
 FEEDBACK_MUST_USE
 struct feedback_window_answer feedback_window(struct feedback_settings settings, uint16_t n);
@@ -388,9 +417,10 @@ struct feedback_window_answer feedback_window(struct feedback_settings settings,
  *   subframe   the downlink subframe, 0 to 9
  *
  * The answer's n is (subframe + k) modulo 10, and the subframe has the answer's
- * position in the window of n. Each downlink subframe is in exactly one window.
+ * position in the window of n. Each downlink subframe is in exactly one window, a
+ * special one too short for data as well: a release there is answered.
  *
- * Refuses 1 to 6, 17 and 7; 7 is an uplink subframe here, which lies in no window,
+ * Refuses 1 to 6, 17, 19 and 7; 7 is an uplink subframe here, which lies in no window,
  * or one over 9.
  */
 FEEDBACK_MUST_USE
@@ -406,7 +436,7 @@ struct feedback_answered_answer feedback_answered(struct feedback_settings setti
  *              the PDCCH, 0 to M - 1
  *   cce        the first CCE of the PDCCH, 0 to N_4 - 1
  *
- * Refuses 1 to 6, 17, 7 and 11.
+ * Refuses 1 to 6, 17, 19, 7 and 11.
  */
 FEEDBACK_MUST_USE
 struct feedback_resource_answer feedback_resource(struct feedback_settings settings, uint16_t n,
@@ -419,8 +449,8 @@ struct feedback_resource_answer feedback_resource(struct feedback_settings setti
  *   n          the uplink subframe of the reply, 0 to 9, one with a window
  *   resource   the PUCCH resource, N1 to N1 + M * N_4 - 1
  *
- * Refuses 1 to 6, 17, 7 and 13; 13 also for the resource of scheduled blocks, which
- * no PDCCH has.
+ * Refuses 1 to 6, 17, 19, 7 and 13; 13 also for the resource of scheduled blocks,
+ * which no PDCCH has.
  */
 FEEDBACK_MUST_USE
 struct feedback_inverse_answer feedback_inverse(struct feedback_settings settings, uint16_t n,
@@ -432,8 +462,9 @@ struct feedback_inverse_answer feedback_inverse(struct feedback_settings setting
  *   settings             the settings of the handset that replied
  *   n                    the uplink subframe of the reply, 0 to 9, one with a window
  *   scheduled_position   the position m of the scheduled block that was SENT to this
- *                        handset in the window of n, heard or not, 0 to M - 1;
- *                        FEEDBACK_NONE where none was sent
+ *                        handset in the window of n, heard or not, 0 to M - 1, and
+ *                        not that of a special subframe too short for data, where
+ *                        none can be sent; FEEDBACK_NONE where none was sent
  *   resource             the PUCCH resource on which the reply came
  *   b0, b1               its bits, each 0 or 1; in a one-bit reply (bundled,
  *                        settings.blocks 1) b1 is 0
@@ -487,13 +518,15 @@ struct feedback_inverse_answer feedback_inverse(struct feedback_settings setting
  * handset, whatever was lost: crates/confirmation/specs/Confirmed.antt has the rule,
  * crates/agreement/proofs/Conclusions.antt the proof. It needs PDCCHs with DAIs by
  * the rule above, at most one scheduled block sent in a window and its position told
- * here, a handset that is fed, for every subframe, what was sent there or nothing,
- * and its reply as it was sent, read with its own settings.
+ * here, no grant and no scheduled block sent in a special subframe too short for data,
+ * a handset that is fed, for every subframe, what was sent there or nothing, and its
+ * reply as it was sent, read with its own settings.
  *
- * Refuses 1 to 6, 17, 7, 11, 18, 13 and 14. 11 is a position told that is not below
- * M, and 18 one told with no resource set, both whatever resource the reply came on.
- * 13 is not given for settings.scheduled where a position is told; without one it is.
- * On that resource 14 goes by the position told.
+ * Refuses 1 to 6, 17, 19, 7, 20, 11, 18, 13 and 14. 20 is a position told whose subframe
+ * is a special one too short for data, 11 one told that is not below M, and 18 one told
+ * with no resource set, all three whatever resource the reply came on. 13 is not given
+ * for settings.scheduled where a position is told; without one it is. On that resource
+ * 14 goes by the position told.
  */
 FEEDBACK_MUST_USE
 struct feedback_reading_answer feedback_reading(struct feedback_settings settings, uint16_t n,
@@ -522,9 +555,10 @@ struct feedback_reading_answer feedback_reading(struct feedback_settings setting
  * of a claim before that index (of any claim, when clean), else 0. Later bytes
  * keep their values. What scratch held before does not matter.
  *
- * Refuses 1 to 6, 17, 7, 15 and 16. If refused, all of scratch is as it was. 16 is
+ * Refuses 1 to 6, 17, 19, 7, 15 and 16. If refused, all of scratch is as it was. 16 is
  * given for a bad claim anywhere in the list, even after a clash, with the index of
- * the first bad one.
+ * the first bad one. A claim at the position of a special subframe too short for data is
+ * not refused: a release may be there.
  *
  * A count or room of 0 is a list or scratch of length 0, and its pointer may then
  * be NULL; with any other length NULL is an error that no refusal catches, as is
@@ -543,8 +577,8 @@ struct feedback_claims_answer feedback_claims(struct feedback_settings settings,
  *
  *   settings   the settings of the handset
  *
- * Refuses 1 to 6 and 17; nothing is made then, and the handset beside the refusal is
- * 66 zero bytes.
+ * Refuses 1 to 6, 17 and 19; nothing is made then, and the handset beside the refusal
+ * is 70 zero bytes.
  */
 FEEDBACK_MUST_USE
 struct feedback_made feedback_make(struct feedback_settings settings);
@@ -585,8 +619,9 @@ struct feedback_fed feedback_feed_nothing(struct feedback_handset handset);
  * The kind of the answer is FEEDBACK_KIND_TAKEN: only a downlink subframe can bring
  * a grant.
  *
- * Refuses 8 to 12. The handset of the answer is then the one given, byte for
- * byte: it still expects the same subframe.
+ * Refuses 8, 9, 20, 10, 11 and 12. 20 is a grant in a special subframe too short for
+ * data. The handset of the answer is then the one given, byte for byte: it still
+ * expects the same subframe.
  */
 FEEDBACK_MUST_USE
 struct feedback_fed feedback_feed_grant(struct feedback_handset handset, uint16_t blocks,
@@ -607,9 +642,10 @@ struct feedback_fed feedback_feed_grant(struct feedback_handset handset, uint16_
  * The kind of the answer is FEEDBACK_KIND_TAKEN: only a downlink subframe can bring
  * a scheduled block.
  *
- * Refuses 8, 9, 10 and 18. 18 is a block with no resource set, or the second one that
- * the handset heard in one window; one that was lost does not count. The handset of
- * the answer is then the one given, byte for byte: it still expects the same subframe.
+ * Refuses 8, 9, 20, 10 and 18. 20 is a block in a special subframe too short for data.
+ * 18 is a block with no resource set, or the second one that the handset heard in one
+ * window; one that was lost does not count. The handset of the answer is then the one
+ * given, byte for byte: it still expects the same subframe.
  */
 FEEDBACK_MUST_USE
 struct feedback_fed feedback_feed_scheduled(struct feedback_handset handset, uint16_t blocks,
@@ -628,7 +664,7 @@ struct feedback_fed feedback_feed_scheduled(struct feedback_handset handset, uin
  * is fed later is not refused.
  *
  * The kind of the answer is FEEDBACK_KIND_TAKEN: only a downlink subframe can bring
- * a release.
+ * a release, a special one too short for data as well.
  *
  * Refuses 8, 9, 11 and 12. The handset of the answer is then the one given, byte for
  * byte: it still expects the same subframe.
@@ -646,11 +682,11 @@ struct feedback_fed feedback_feed_release(struct feedback_handset handset, uint1
  * ld --gc-sections by retain, where they have it. With a compiler that has neither,
  * use FEEDBACK_LAYOUT_LINKED once in your code: its value is 1, and it refers to the
  * name in the same way. A program without the library, such as a test of your own,
- * needs a feedback_layout_2 of its own.
+ * needs a feedback_layout_3 of its own.
  */
 FEEDBACK_MUST_USE
-uint16_t feedback_layout_2(void);
-#define FEEDBACK_LAYOUT_LINKED (feedback_layout_2() == 2)
+uint16_t feedback_layout_3(void);
+#define FEEDBACK_LAYOUT_LINKED (feedback_layout_3() == 3)
 
 #if defined(__GNUC__)
 #if defined(__ELF__) && defined(__has_attribute)
@@ -661,7 +697,7 @@ uint16_t feedback_layout_2(void);
 #ifndef FEEDBACK_KEPT
 #define FEEDBACK_KEPT __attribute__((used))
 #endif
-static uint16_t (*const feedback_layout_kept)(void) FEEDBACK_KEPT = feedback_layout_2;
+static uint16_t (*const feedback_layout_kept)(void) FEEDBACK_KEPT = feedback_layout_3;
 #undef FEEDBACK_KEPT
 #endif
 
@@ -678,13 +714,15 @@ static uint16_t (*const feedback_layout_kept)(void) FEEDBACK_KEPT = feedback_lay
 #define FEEDBACK_PLACE(type, field, place) \
     FEEDBACK_HOLDS(type##_has_##field##_at_##place, offsetof(struct type, field) == place)
 
-FEEDBACK_SIZE(feedback_settings, 12)
+FEEDBACK_SIZE(feedback_settings, 16)
 FEEDBACK_PLACE(feedback_settings, config, 0)
 FEEDBACK_PLACE(feedback_settings, nrb, 2)
 FEEDBACK_PLACE(feedback_settings, n1, 4)
 FEEDBACK_PLACE(feedback_settings, mode, 6)
 FEEDBACK_PLACE(feedback_settings, blocks, 8)
 FEEDBACK_PLACE(feedback_settings, scheduled, 10)
+FEEDBACK_PLACE(feedback_settings, prefix, 12)
+FEEDBACK_PLACE(feedback_settings, special, 14)
 FEEDBACK_SIZE(feedback_window_answer, 40)
 FEEDBACK_PLACE(feedback_window_answer, refusal, 0)
 FEEDBACK_PLACE(feedback_window_answer, size, 2)
@@ -720,14 +758,14 @@ FEEDBACK_PLACE(feedback_slot, kind, 0)
 FEEDBACK_PLACE(feedback_slot, cce, 1)
 FEEDBACK_PLACE(feedback_slot, dai, 2)
 FEEDBACK_PLACE(feedback_slot, results, 3)
-FEEDBACK_SIZE(feedback_handset, 66)
+FEEDBACK_SIZE(feedback_handset, 70)
 FEEDBACK_PLACE(feedback_handset, settings, 0)
-FEEDBACK_PLACE(feedback_handset, next, 12)
-FEEDBACK_PLACE(feedback_handset, past, 14)
-FEEDBACK_SIZE(feedback_made, 68)
+FEEDBACK_PLACE(feedback_handset, next, 16)
+FEEDBACK_PLACE(feedback_handset, past, 18)
+FEEDBACK_SIZE(feedback_made, 72)
 FEEDBACK_PLACE(feedback_made, refusal, 0)
 FEEDBACK_PLACE(feedback_made, handset, 2)
-FEEDBACK_SIZE(feedback_fed, 76)
+FEEDBACK_SIZE(feedback_fed, 80)
 FEEDBACK_PLACE(feedback_fed, refusal, 0)
 FEEDBACK_PLACE(feedback_fed, kind, 2)
 FEEDBACK_PLACE(feedback_fed, resource, 4)
@@ -747,10 +785,11 @@ FEEDBACK_HOLDS(feedback_size_t_has_8_bytes, sizeof(size_t) == 8)
 /*
  * Settings from their numbers: an expression of type struct feedback_settings. A
  * number over 65535 becomes 65535, which every call refuses as the setting that it
- * is. The settings that came later, scheduled and those of a version to come, it
- * fills in such a way that the calls answer as they did before: scheduled with
- * FEEDBACK_NONE. Code that uses it need not change. It is a call of a function,
- * which C does not allow where a static object gets its value.
+ * is. The settings that came later and those of a version to come it fills in such a
+ * way that the calls answer as they did before: scheduled with FEEDBACK_NONE, prefix
+ * with FEEDBACK_PREFIX_NORMAL and special with 7, so that special subframes carry data.
+ * Code that uses it need not change. It is a call of a function, which C does not allow
+ * where a static object gets its value.
  */
 #define FEEDBACK_SETTINGS(config, nrb, n1, mode, blocks) \
     feedback_settings_of(config, nrb, n1, mode, blocks)
@@ -778,6 +817,8 @@ static inline struct feedback_settings feedback_settings_of(uint64_t config, uin
     settings.mode = feedback_setting_of(mode);
     settings.blocks = feedback_setting_of(blocks);
     settings.scheduled = FEEDBACK_NONE;
+    settings.prefix = FEEDBACK_PREFIX_NORMAL;
+    settings.special = 7;
     return settings;
 }
 

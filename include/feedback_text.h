@@ -57,6 +57,10 @@ static inline const char *feedback_refusal_text(unsigned refusal)
         return "Refused 17: the resource set for scheduled blocks is not below N1.";
     case FEEDBACK_REFUSED_SCHEDULED:
         return "Refused 18: a scheduled block with no resource set, or the second one of a window.";
+    case FEEDBACK_REFUSED_SPECIAL:
+        return "Refused 19: the prefix or the special subframe configuration is out of its range.";
+    case FEEDBACK_REFUSED_SHORT:
+        return "Refused 20: a grant or scheduled block in a special subframe too short for data.";
     default:
         return "This number is no refusal.";
     }

@@ -11,7 +11,7 @@
 #include <stdlib.h>
 #include <string.h>
 
-#if FEEDBACK_VERSION != 20000
+#if FEEDBACK_VERSION != 30000
 #error "FEEDBACK_VERSION is for the preprocessor too"
 #endif
 
@@ -149,6 +149,8 @@ static void numbers(void)
     EQUAL(FEEDBACK_REFUSED_CLAIM, 16);
     EQUAL(FEEDBACK_REFUSED_SCHEDULED_RESOURCE, 17);
     EQUAL(FEEDBACK_REFUSED_SCHEDULED, 18);
+    EQUAL(FEEDBACK_REFUSED_SPECIAL, 19);
+    EQUAL(FEEDBACK_REFUSED_SHORT, 20);
     EQUAL(FEEDBACK_KIND_REFUSED, 0);
     EQUAL(FEEDBACK_KIND_BUNDLED, 1);
     EQUAL(FEEDBACK_KIND_MULTIPLEXED, 2);
@@ -160,6 +162,8 @@ static void numbers(void)
     EQUAL(FEEDBACK_CLAIMS_CLASH, 2);
     EQUAL(FEEDBACK_MODE_BUNDLING, 0);
     EQUAL(FEEDBACK_MODE_MULTIPLEXING, 1);
+    EQUAL(FEEDBACK_PREFIX_NORMAL, 0);
+    EQUAL(FEEDBACK_PREFIX_EXTENDED, 1);
     EQUAL(FEEDBACK_SLOT_NOTHING, 0);
     EQUAL(FEEDBACK_SLOT_GRANT, 1);
     EQUAL(FEEDBACK_SLOT_SCHEDULED, 2);
@@ -171,11 +175,11 @@ static void numbers(void)
     EQUAL(FEEDBACK_MEMORY, 13);
     EQUAL(FEEDBACK_SCRATCH_MOST, 1206); /* M 9, and N_4 134 where N_RB is 110 */
     EQUAL(FEEDBACK_NONE, 65535);
-    EQUAL(FEEDBACK_VERSION, 20000);
+    EQUAL(FEEDBACK_VERSION, 30000);
     sprintf(version, "%d.%d.%d", FEEDBACK_VERSION / 10000, FEEDBACK_VERSION / 100 % 100,
             FEEDBACK_VERSION % 100);
     SAME(FEEDBACK_VERSION_TEXT, version);
-    EQUAL(feedback_layout_2(), 2);
+    EQUAL(feedback_layout_3(), 3);
     EQUAL(FEEDBACK_LAYOUT_LINKED, 1);
 }
 
@@ -184,13 +188,15 @@ static void numbers(void)
 
 static void layout(void)
 {
-    SIZE(feedback_settings, 12);
+    SIZE(feedback_settings, 16);
     PLACE(feedback_settings, config, 0);
     PLACE(feedback_settings, nrb, 2);
     PLACE(feedback_settings, n1, 4);
     PLACE(feedback_settings, mode, 6);
     PLACE(feedback_settings, blocks, 8);
     PLACE(feedback_settings, scheduled, 10);
+    PLACE(feedback_settings, prefix, 12);
+    PLACE(feedback_settings, special, 14);
     SIZE(feedback_window_answer, 40);
     PLACE(feedback_window_answer, refusal, 0);
     PLACE(feedback_window_answer, size, 2);
@@ -226,14 +232,14 @@ static void layout(void)
     PLACE(feedback_slot, cce, 1);
     PLACE(feedback_slot, dai, 2);
     PLACE(feedback_slot, results, 3);
-    SIZE(feedback_handset, 66);
+    SIZE(feedback_handset, 70);
     PLACE(feedback_handset, settings, 0);
-    PLACE(feedback_handset, next, 12);
-    PLACE(feedback_handset, past, 14);
-    SIZE(feedback_made, 68);
+    PLACE(feedback_handset, next, 16);
+    PLACE(feedback_handset, past, 18);
+    SIZE(feedback_made, 72);
     PLACE(feedback_made, refusal, 0);
     PLACE(feedback_made, handset, 2);
-    SIZE(feedback_fed, 76);
+    SIZE(feedback_fed, 80);
     PLACE(feedback_fed, refusal, 0);
     PLACE(feedback_fed, kind, 2);
     PLACE(feedback_fed, resource, 4);
@@ -255,9 +261,17 @@ static struct feedback_settings with_scheduled(struct feedback_settings settings
     return settings;
 }
 
+static struct feedback_settings with_special(struct feedback_settings settings, uint16_t prefix,
+                                             uint16_t special)
+{
+    settings.prefix = prefix;
+    settings.special = special;
+    return settings;
+}
+
 static void settings_macro(void)
 {
-    struct feedback_settings given = {2, 50, 10, 0, 1, 65535};
+    struct feedback_settings given = {2, 50, 10, 0, 1, 65535, 0, 7};
     struct feedback_settings made = FEEDBACK_SETTINGS(2, 50, 10, 0, 1);
     EQUAL(given.config, 2);
     EQUAL(given.nrb, 50);
@@ -265,6 +279,8 @@ static void settings_macro(void)
     EQUAL(given.mode, 0);
     EQUAL(given.blocks, 1);
     EQUAL(given.scheduled, FEEDBACK_NONE);
+    EQUAL(given.prefix, FEEDBACK_PREFIX_NORMAL);
+    EQUAL(given.special, 7);
     BYTES(&given, &made, sizeof made);
     made = FEEDBACK_SETTINGS(65536, 65535, 131077, 4294967297u, 65534);
     EQUAL(made.config, 65535);
@@ -273,6 +289,8 @@ static void settings_macro(void)
     EQUAL(made.mode, 65535);
     EQUAL(made.blocks, 65534);
     EQUAL(made.scheduled, FEEDBACK_NONE);
+    EQUAL(made.prefix, 0);
+    EQUAL(made.special, 7);
 }
 
 /* Every call refuses these settings with this number, and a feed of such a state 8. */
@@ -327,11 +345,15 @@ static void settings_refused(struct feedback_settings bad, unsigned refusal)
     BYTES(&fed.handset, &handset, sizeof handset);
 }
 
-/* The same with a scheduled resource set that is not below N1: 17 comes after 1 to 6. */
+/*
+ * The same with a scheduled resource set that is not below N1, and with a prefix that there is not:
+ * 17 and 19 come after 1 to 6.
+ */
 static void all_refused(struct feedback_settings bad, unsigned refusal)
 {
     settings_refused(bad, refusal);
     settings_refused(with_scheduled(bad, 65534), refusal);
+    settings_refused(with_special(bad, 2, 9), refusal);
 }
 
 static void settings(void)
@@ -355,10 +377,30 @@ static void settings(void)
     EQUAL(feedback_make(with_scheduled(none, 65535)).refusal, 0);
 }
 
+/* 0 to 8 with the normal prefix, 0 to 6 with the extended; 17 comes before 19. */
+static void special_settings(void)
+{
+    struct feedback_settings cell = FEEDBACK_SETTINGS(4, 6, 2047, 1, 1);
+    uint16_t special;
+    for (special = 0; special < 12; special++) {
+        struct feedback_settings normal = with_special(cell, FEEDBACK_PREFIX_NORMAL, special);
+        struct feedback_settings extended = with_special(cell, FEEDBACK_PREFIX_EXTENDED, special);
+        EQUAL(feedback_make(normal).refusal, special <= 8 ? 0 : FEEDBACK_REFUSED_SPECIAL);
+        EQUAL(feedback_make(extended).refusal, special <= 6 ? 0 : FEEDBACK_REFUSED_SPECIAL);
+    }
+    settings_refused(with_special(cell, FEEDBACK_PREFIX_NORMAL, 9), FEEDBACK_REFUSED_SPECIAL);
+    settings_refused(with_special(cell, FEEDBACK_PREFIX_EXTENDED, 7), FEEDBACK_REFUSED_SPECIAL);
+    settings_refused(with_special(cell, 2, 6), FEEDBACK_REFUSED_SPECIAL);
+    settings_refused(with_special(cell, 256, 6), FEEDBACK_REFUSED_SPECIAL);
+    settings_refused(with_special(cell, 0, 256 + 7), FEEDBACK_REFUSED_SPECIAL);
+    settings_refused(with_special(with_scheduled(cell, 2047), 2, 9),
+                     FEEDBACK_REFUSED_SCHEDULED_RESOURCE);
+}
+
 /* The order in which causes are given, as the header tells it; the tests below meet it in pairs. */
 static void order(void)
 {
-    HOLDS(strstr(text, " 1 to 6, 17, 7, 8, 9, 10, 11, 12, 18, 13, 14, 15, 16.") != NULL);
+    HOLDS(strstr(text, " 1 to 6, 17, 19, 7, 8, 9, 20, 10, 11, 12, 18, 13, 14, 15, 16. ") != NULL);
 }
 
 /* ---- windows ---- */
@@ -381,16 +423,20 @@ static const char *printed_row(const char *at, char *row)
     return at;
 }
 
-/* The same row as the calls give it; which downlink subframes are special no call tells. */
+/* The same row as the calls give it: where it is short, a special subframe takes no grant. */
 static void called_row(uint16_t config, char *row)
 {
+    struct feedback_handset handset =
+        feedback_make(with_special(settings_of(config, 0, 2), FEEDBACK_PREFIX_NORMAL, 5)).handset;
     uint16_t n;
     unsigned m;
     row += sprintf(row, "%u ", 0u + config);
     for (n = 0; n < 10; n++) {
-        struct feedback_answered_answer answered = feedback_answered(settings_of(config, 0, 2), n);
-        int uplink = answered.refusal == FEEDBACK_REFUSED_SUBFRAME;
-        *row++ = uplink ? 'U' : rows[config][2 + n] == 'S' ? 'S' : 'D';
+        unsigned refusal = feedback_feed_grant(handset, 1, 1, 0, 0, 1).refusal;
+        int uplink = refusal == FEEDBACK_REFUSED_UPLINK;
+        EQUAL(feedback_answered(handset.settings, n).refusal, uplink ? 7 : 0);
+        *row++ = uplink ? 'U' : refusal == FEEDBACK_REFUSED_SHORT ? 'S' : 'D';
+        handset.next++;
     }
     for (n = 0; n < 10; n++) {
         struct feedback_window_answer window = feedback_window(settings_of(config, 0, 2), n);
@@ -607,6 +653,42 @@ static void reading_scheduled(void)
     EQUAL(reading.position, 2);
     EQUAL(reading.delivered, 4);
     EQUAL(reading.scheduled, 1);
+}
+
+/* The window of 7 is 9, 0, 3 and 1: position 3 is special, and too short where this is 20. */
+static void reading_short(void)
+{
+    struct feedback_settings none = settings_of(2, 0, 2);
+    struct feedback_settings cell = with_scheduled(none, 6);
+    struct feedback_settings settings = with_special(cell, FEEDBACK_PREFIX_NORMAL, 5);
+    struct feedback_reading_answer reading = feedback_reading(settings, 7, 3, 6, 0, 1);
+    EQUAL(reading.refusal, FEEDBACK_REFUSED_SHORT);
+    EQUAL(reading.kind, FEEDBACK_KIND_REFUSED);
+    EQUAL(reading.position, 0);
+    EQUAL(reading.b1, 0);
+    EQUAL(reading.scheduled, 0);
+    reading = feedback_reading(settings, 7, 3, 104, 0, 1); /* whatever the resource */
+    EQUAL(reading.refusal, FEEDBACK_REFUSED_SHORT);
+    reading = feedback_reading(settings, 7, 3, 9, 2, 2); /* and the bits */
+    EQUAL(reading.refusal, FEEDBACK_REFUSED_SHORT);
+    reading = feedback_reading(settings, 3, 3, 6, 0, 1);
+    EQUAL(reading.refusal, FEEDBACK_REFUSED_SUBFRAME);
+    reading = feedback_reading(settings, 7, 4, 6, 0, 1); /* no subframe of the window */
+    EQUAL(reading.refusal, FEEDBACK_REFUSED_CCE);
+    settings.scheduled = FEEDBACK_NONE;
+    reading = feedback_reading(settings, 7, 3, 6, 0, 1);
+    EQUAL(reading.refusal, FEEDBACK_REFUSED_SHORT);
+    reading = feedback_reading(settings, 7, 2, 6, 0, 1);
+    EQUAL(reading.refusal, FEEDBACK_REFUSED_SCHEDULED);
+    reading = feedback_reading(settings, 7, FEEDBACK_NONE, 104, 0, 1);
+    EQUAL(reading.refusal, 0); /* as in reading_bundled: a release may be there */
+    EQUAL(reading.position, 3);
+    EQUAL(reading.cce, 13);
+    EQUAL(feedback_reading(with_special(cell, 0, 0), 7, 3, 6, 0, 1).refusal, 20);
+    EQUAL(feedback_reading(with_special(cell, 0, 4), 7, 3, 6, 0, 1).refusal, 0);
+    EQUAL(feedback_reading(with_special(cell, 1, 0), 7, 3, 6, 0, 1).refusal, 20);
+    EQUAL(feedback_reading(with_special(cell, 1, 4), 7, 3, 6, 0, 1).refusal, 20);
+    EQUAL(feedback_reading(with_special(cell, 1, 5), 7, 3, 6, 0, 1).refusal, 0);
 }
 
 static void reading_scheduled_refused(void)
@@ -1009,6 +1091,45 @@ static void blocks_refused(void)
     refused(handset, feedback_feed_nothing(handset), FEEDBACK_REFUSED_STATE);
 }
 
+/* Subframe 1 is special: a release is taken there and answered in 7, and data is not taken. */
+static void short_refused(void)
+{
+    struct feedback_settings settings =
+        with_special(settings_of(2, FEEDBACK_MODE_BUNDLING, 2), FEEDBACK_PREFIX_EXTENDED, 4);
+    struct feedback_handset none = fresh(settings);
+    struct feedback_handset handset = fresh(with_scheduled(settings, 6));
+    unsigned i;
+    handset = scheduled(handset, 2, 1, 0);
+    refused(handset, feedback_feed_grant(handset, 2, 1, 1, 4, 1), FEEDBACK_REFUSED_SHORT);
+    refused(handset, feedback_feed_grant(handset, 0, 1, 1, 61, 5), FEEDBACK_REFUSED_SHORT);
+    refused(handset, feedback_feed_scheduled(handset, 2, 1, 1), FEEDBACK_REFUSED_SHORT);
+    refused(handset, feedback_feed_scheduled(handset, 0, 1, 1), FEEDBACK_REFUSED_SHORT);
+    none.next = 1;
+    refused(none, feedback_feed_scheduled(none, 2, 1, 1), FEEDBACK_REFUSED_SHORT);
+    refused(handset, feedback_feed_release(handset, 61, 5), FEEDBACK_REFUSED_CCE);
+    refused(handset, feedback_feed_release(handset, 60, 5), FEEDBACK_REFUSED_DAI);
+    nothing(handset, FEEDBACK_KIND_TAKEN);
+    handset = release(handset, 4, 1);
+    refused(handset, feedback_feed_grant(handset, 2, 1, 1, 4, 1), FEEDBACK_REFUSED_UPLINK);
+    handset = nothing(handset, FEEDBACK_KIND_SILENT);
+    for (i = 3; i < 7; i++)
+        handset = nothing(handset, FEEDBACK_KIND_TAKEN);
+    replies(handset, FEEDBACK_KIND_BUNDLED, 47, 1, 0); /* 3 * 11 + 4 + 10; the block's bits */
+    handset.settings.mode = FEEDBACK_MODE_MULTIPLEXING;
+    replies(handset, FEEDBACK_KIND_MULTIPLEXED, 47, 0, 0); /* -N-A is ---A, 00 of 3 */
+    handset.past[5].kind = FEEDBACK_SLOT_GRANT;            /* in place of the release */
+    refused(handset, feedback_feed_nothing(handset), FEEDBACK_REFUSED_STATE);
+    handset.settings.special = 5; /* long enough with this prefix, and not with the other */
+    replies(handset, FEEDBACK_KIND_MULTIPLEXED, 47, 1, 1); /* -N-N is ---N, 11 of 3 */
+    handset.settings.prefix = FEEDBACK_PREFIX_NORMAL;
+    refused(handset, feedback_feed_nothing(handset), FEEDBACK_REFUSED_STATE);
+    handset.past[5].kind = FEEDBACK_SLOT_SCHEDULED;
+    handset.past[6].kind = FEEDBACK_SLOT_NOTHING;
+    refused(handset, feedback_feed_nothing(handset), FEEDBACK_REFUSED_STATE);
+    handset.past[5].kind = FEEDBACK_SLOT_NOTHING;
+    replies(handset, FEEDBACK_KIND_SILENT, 0, 0, 0);
+}
+
 /* ---- the texts ---- */
 
 /* Each number below the limit has a text of its own with its word in it; the rest share one. */
@@ -1040,12 +1161,13 @@ static void all_texts(void)
         "12: the DAI",          "13: the PUCCH resource",
         "14: the bits",         "15: the scratch",
         "16: a claim",          "17: the resource set for scheduled blocks",
-        "18: a scheduled block"};
+        "18: a scheduled block", "19: the prefix or the special subframe configuration",
+        "20: a grant or scheduled block in a special subframe"};
     static const char *const kinds[] = {"refused", "bundled reply", "multiplexed reply",
                                         "Silent",  "downlink",      "uplink"};
     static const char *const claims_kinds[] = {"refused", "clean", "clash"};
     static const char *const slot_kinds[] = {"nothing", "grant", "scheduled block", "release"};
-    texts(feedback_refusal_text, refusals, 19);
+    texts(feedback_refusal_text, refusals, 21);
     texts(feedback_kind_text, kinds, 6);
     texts(feedback_claims_kind_text, claims_kinds, 3);
     texts(feedback_slot_kind_text, slot_kinds, 4);
@@ -1062,6 +1184,7 @@ int main(int argc, char **argv)
     layout();
     settings_macro();
     settings();
+    special_settings();
     order();
     table();
     window_of_2();
@@ -1071,6 +1194,7 @@ int main(int argc, char **argv)
     reading_bundled();
     reading_multiplexed();
     reading_scheduled();
+    reading_short();
     reading_scheduled_refused();
     claims_of_1();
     claims_of_5();
@@ -1083,6 +1207,7 @@ int main(int argc, char **argv)
     feeds_refused();
     releases_refused();
     blocks_refused();
+    short_refused();
     all_texts();
     if (failures == 0)
         printf("%u checks\n", checks);

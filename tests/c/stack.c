@@ -94,7 +94,7 @@ static unsigned draw(unsigned limit)
 
 /*
  * All configurations, modes and blocks (mode 1 of configuration 5 is refused), three bandwidths;
- * a scheduled resource is set in most.
+ * a scheduled resource is set in most, and in some special subframes are too short for data.
  */
 static void fill_settings(void)
 {
@@ -104,18 +104,24 @@ static void fill_settings(void)
         settings[i] = FEEDBACK_SETTINGS(i % 7, bandwidths[i / 28], 10, i / 7 % 2, 1 + i / 14 % 2);
         if (i % 5 > 0)
             settings[i].scheduled = 5;
+        if (i % 3 == 0)
+            settings[i].special = 5;
     }
 }
 
-/* What a subframe brings: a scheduled block, where it is not refused, a release or a grant. */
+/*
+ * What a subframe brings: a scheduled block, where it is not refused, a release or a grant; where
+ * it is too short for data, a release.
+ */
 static struct feedback_fed something(struct feedback_handset handset, uint16_t dai)
 {
     struct feedback_fed fed = feedback_feed_scheduled(handset, 1, draw(4) > 0, 0);
     if (fed.refusal == 0 && draw(4) == 0)
         return fed;
     uint16_t cce = (uint16_t)draw(7);
-    return draw(4) == 0 ? feedback_feed_release(handset, cce, dai)
-                        : feedback_feed_grant(handset, 1, draw(4) > 0, 0, cce, dai);
+    return fed.refusal == FEEDBACK_REFUSED_SHORT || draw(4) == 0
+               ? feedback_feed_release(handset, cce, dai)
+               : feedback_feed_grant(handset, 1, draw(4) > 0, 0, cce, dai);
 }
 
 /* The states of runs that lose none, a third, two thirds and all of what is sent; some spoilt. */

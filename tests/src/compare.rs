@@ -30,7 +30,7 @@ pub const BANDWIDTHS: u64 = 105;
 pub const CCES: u64 = 7397;
 
 /// The highest refusal number.
-const LAST_REFUSAL: usize = 18;
+const LAST_REFUSAL: usize = 20;
 
 /// The highest kind of an answer.
 const LAST_KIND: usize = 5;

@@ -6,6 +6,30 @@ use crate::Settings;
 /// The four ways to set mode and blocks; one of the modes is not for configuration 5.
 pub const MODE_AND_BLOCKS: [(u16, u16); 4] = [(0, 1), (0, 2), (1, 1), (1, 2)];
 
+/// The 16 pairs of prefix and special configuration that are allowed, 0 to 8 with the
+/// normal prefix and 0 to 6 with the extended one.
+pub const SPECIALS: [(u16, u16); 16] = [
+    (0, 0),
+    (0, 1),
+    (0, 2),
+    (0, 3),
+    (0, 4),
+    (0, 5),
+    (0, 6),
+    (0, 7),
+    (0, 8),
+    (1, 0),
+    (1, 1),
+    (1, 2),
+    (1, 3),
+    (1, 4),
+    (1, 5),
+    (1, 6),
+];
+
+/// The four of them in which a special subframe is too short for data.
+pub const SHORT: [(u16, u16); 4] = [(0, 0), (0, 5), (1, 0), (1, 4)];
+
 /// The 26 ways to set configuration, mode and blocks.
 pub fn cell(nrb: u16, n1: u16, scheduled: u16) -> impl Iterator<Item = Settings> {
     let modes = |config| (0..=u16::from(config != 5)).map(move |mode| (config, mode));

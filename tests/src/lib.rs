@@ -30,7 +30,7 @@ pub mod c {
     };
 
     extern "C" {
-        pub fn feedback_layout_2() -> u16;
+        pub fn feedback_layout_3() -> u16;
 
         pub fn feedback_window(settings: Settings, n: u16) -> WindowAnswer;
 
@@ -88,9 +88,9 @@ pub mod c {
 }
 
 /// The number of the structs' layout.
-pub fn layout_2() -> u16 {
+pub fn layout_3() -> u16 {
     // SAFETY: the call gives a number, and is lent no memory.
-    unsafe { c::feedback_layout_2() }
+    unsafe { c::feedback_layout_3() }
 }
 
 /// The engine's window of uplink subframe `n`.

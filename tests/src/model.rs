@@ -34,10 +34,14 @@ pub const NRB: std::ops::RangeInclusive<u16> = 6..=110;
 /// The longest window.
 const LONGEST: u16 = 9;
 
+/// The special configurations by prefix, normal and extended: the last one that there
+/// is, and those in which 7.1.7 allows no PDSCH.
+const SPECIALS: [(u16, [u16; 2]); 2] = [(8, [0, 5]), (6, [0, 4])];
+
 /// The order in which the causes of a refusal are tried. 01's numbers rise, and a
 /// number that came later stands directly behind the one that it is said to be
-/// after: 17 after 6, 18 after 12.
-const ORDER: [u16; 18] = [1, 2, 3, 4, 5, 6, 17, 7, 8, 9, 10, 11, 12, 18, 13, 14, 15, 16];
+/// after: 17 after 6, 18 after 12, 19 after 17, 20 after 9.
+const ORDER: [u16; 20] = [1, 2, 3, 4, 5, 6, 17, 19, 7, 8, 9, 20, 10, 11, 12, 18, 13, 14, 15, 16];
 
 /// The window of one uplink subframe of one configuration.
 #[derive(Clone, Debug, PartialEq, Eq)]
@@ -196,6 +200,13 @@ pub fn is_uplink(config: u16, subframe: u16) -> bool {
     frame(config).chars().nth(usize::from(subframe)) == Some('U')
 }
 
+/// Whether a subframe, 0 to 9, is a special one that is too short for data.
+pub fn is_short(settings: Settings, subframe: u16) -> bool {
+    let is_special = frame(settings.config).chars().nth(usize::from(subframe)) == Some('S');
+    let of_prefix = SPECIALS.get(usize::from(settings.prefix));
+    is_special && of_prefix.is_some_and(|(_, without)| without.contains(&settings.special))
+}
+
 /// Whether the reply for a window of `size` subframes is bundled.
 pub fn bundles(settings: Settings, size: u16) -> bool {
     settings.mode == 0 || size == 1
@@ -203,7 +214,8 @@ pub fn bundles(settings: Settings, size: u16) -> bool {
 
 /// The first among the causes that the settings meet.
 fn settings_refusal(settings: Settings) -> Option<u16> {
-    let Settings { config, nrb, n1, mode, blocks, scheduled, .. } = settings;
+    let Settings { config, nrb, n1, mode, blocks, scheduled, prefix, special } = settings;
+    let last_special = SPECIALS.get(usize::from(prefix)).map(|(last, _)| *last);
     first_met([
         (1, config > 6),
         (2, !NRB.contains(&nrb)),
@@ -212,6 +224,7 @@ fn settings_refusal(settings: Settings) -> Option<u16> {
         (5, (mode, config) == (1, 5)),
         (6, ![1, 2].contains(&blocks)),
         (17, scheduled != NONE && scheduled >= n1),
+        (19, last_special.is_none_or(|last| special > last)),
     ])
 }
 

@@ -26,6 +26,43 @@ pub const K: [[&[u8]; 10]; 7] = [
     [&[], &[], &[7], &[7], &[5], &[], &[], &[7], &[7], &[]],
 ];
 
+/// The frame of each configuration.
+const FRAMES: [&[u8; 10]; 7] = [
+    b"DSUUUDSUUU",
+    b"DSUUDDSUUD",
+    b"DSUDDDSUDD",
+    b"DSUUUDDDDD",
+    b"DSUUDDDDDD",
+    b"DSUDDDDDDD",
+    b"DSUUUDSUUD",
+];
+
+/// The special subframes of each configuration, bit n for subframe n, and with the
+/// downlink ones.
+const SPECIAL: [u16; 7] = subframes(false);
+const DOWNLINK: [u16; 7] = subframes(true);
+
+const fn subframes(downlink: bool) -> [u16; 7] {
+    let mut masks = [0; 7];
+    let mut config = 0;
+    while config < 7 {
+        let mut n = 0;
+        while n < 10 {
+            let letter = FRAMES[config][n];
+            if letter == b'S' || downlink && letter == b'D' {
+                masks[config] |= 1 << n;
+            }
+            n += 1;
+        }
+        config += 1;
+    }
+    masks
+}
+
+/// By prefix the last special configuration, and those without data, bit s for s.
+const LAST_SPECIAL: [u16; 2] = [8, 6];
+const WITHOUT_DATA: [u16; 2] = [1 << 0 | 1 << 5, 1 << 0 | 1 << 4];
+
 /// M by configuration and subframe, 0 where there is no window.
 const SIZES: [[u8; 10]; 7] = sizes();
 
@@ -105,6 +142,8 @@ fn check(settings: &Settings) -> Result<(), u16> {
         Err(6)
     } else if settings.scheduled != NONE && settings.scheduled >= settings.n1 {
         Err(17)
+    } else if settings.prefix > 1 || settings.special > LAST_SPECIAL[usize::from(settings.prefix)] {
+        Err(19)
     } else {
         Ok(())
     }
@@ -113,6 +152,11 @@ fn check(settings: &Settings) -> Result<(), u16> {
 /// Whether the reply for a window of `size` subframes is bundled.
 fn bundles(settings: &Settings, size: u16) -> bool {
     settings.mode == 0 || size == 1
+}
+
+/// Whether special subframes are too short for data, by settings that have been checked.
+fn is_short(settings: &Settings) -> bool {
+    WITHOUT_DATA[usize::from(settings.prefix)] >> settings.special & 1 == 1
 }
 
 /// N_4, the number of CCEs, for a bandwidth that has been checked.

@@ -1,11 +1,12 @@
 //! Pseudo-random inputs from fixed seeds, the same in every run.
 
+use crate::every::SPECIALS;
 use crate::model::{edge, Model, Window, NRB};
 use crate::{Block, Grant, Handset, Heard, Release, Settings, Slot, NONE};
 
 /// Numbers that are a limit somewhere, lie beside one, or would be allowed if
 /// only their low eight bits were read.
-const SPECIAL: [u16; 32] = [
+const LIMITS: [u16; 32] = [
     0, 1, 2, 3, 4, 5, 6, 7, 8, 9, 10, 13, 14, 50, 110, 111, 133, 134, 135, 255, 256, 257, 258, 306,
     1206, 2046, 2047, 2048, 3252, 3253, 32768, 65535,
 ];
@@ -49,15 +50,15 @@ impl Random {
         values[self.below(values.len())]
     }
 
-    /// Any 16-bit number, every other time a special one.
+    /// Any 16-bit number, every other time one at a limit.
     pub fn any(&mut self) -> u16 {
         match self.once_in(2) {
-            true => self.one_of(&SPECIAL),
+            true => self.one_of(&LIMITS),
             false => (self.number() >> 32) as u16,
         }
     }
 
-    /// Any byte, every other time a special number cut to its low eight bits.
+    /// Any byte, every other time a number at a limit cut to its low eight bits.
     pub fn any_byte(&mut self) -> u8 {
         self.any() as u8
     }
@@ -70,8 +71,8 @@ impl Random {
         }
     }
 
-    /// Settings that are allowed.
-    pub fn settings(&mut self) -> Settings {
+    /// Settings that are allowed, as 01 has them: what came later is as before.
+    pub fn plain_settings(&mut self) -> Settings {
         let config = self.below16(7);
         let nrb = NRB.start() + self.below16(NRB.count() as u16);
         let n1 = self.below16(2048);
@@ -79,11 +80,23 @@ impl Random {
         Settings::plain(config, nrb, n1, mode, 1 + self.below16(2))
     }
 
-    /// Settings that are allowed, with a scheduled resource.
-    pub fn scheduled_settings(&mut self) -> Settings {
+    /// The same with a scheduled resource.
+    pub fn plain_scheduled_settings(&mut self) -> Settings {
         let n1 = 1 + self.below16(2047);
         let scheduled = self.below16(n1);
-        Settings { n1, ..self.settings() }.with_scheduled(scheduled)
+        Settings { n1, ..self.plain_settings() }.with_scheduled(scheduled)
+    }
+
+    /// Settings that are allowed, with any prefix and special configuration.
+    pub fn settings(&mut self) -> Settings {
+        let (prefix, special) = self.one_of(&SPECIALS);
+        self.plain_settings().with_special(prefix, special)
+    }
+
+    /// The same with a scheduled resource.
+    pub fn scheduled_settings(&mut self) -> Settings {
+        let (prefix, special) = self.one_of(&SPECIALS);
+        self.plain_scheduled_settings().with_special(prefix, special)
     }
 
     /// Settings of which each number is once in `times` any number. Every other time
@@ -93,7 +106,7 @@ impl Random {
             true => self.settings(),
             false => self.scheduled_settings(),
         };
-        let Settings { config, nrb, n1, mode, blocks, scheduled, .. } = settings;
+        let Settings { config, nrb, n1, mode, blocks, scheduled, prefix, special } = settings;
         let config = self.unless_once_in(times, config);
         let nrb = self.unless_once_in(times, nrb);
         let n1 = self.unless_once_in(times, n1);
@@ -104,7 +117,18 @@ impl Random {
             true => self.near_n1(n1),
             false => scheduled,
         };
-        Settings::plain(config, nrb, n1, mode, blocks).with_scheduled(scheduled)
+        let prefix = if self.once_in(times) { self.near(2) } else { prefix };
+        let special = if self.once_in(times) { self.near(9) } else { special };
+        let settings = Settings::plain(config, nrb, n1, mode, blocks);
+        settings.with_scheduled(scheduled).with_special(prefix, special)
+    }
+
+    /// A number up to a limit, or any.
+    fn near(&mut self, limit: u16) -> u16 {
+        match self.once_in(2) {
+            true => self.below16(limit + 1),
+            false => self.any(),
+        }
     }
 
     /// A number around N1, or any.
@@ -132,7 +156,7 @@ impl Random {
         self.unless_once_in(16, n)
     }
 
-    /// A grant that is allowed in the downlink, its flags any numbers.
+    /// A grant that is allowed in a subframe with data, its flags any numbers.
     pub fn grant(&mut self, settings: Settings) -> Grant {
         Grant {
             blocks: 1 + self.below16(settings.blocks),
@@ -143,8 +167,8 @@ impl Random {
         }
     }
 
-    /// A scheduled block that is allowed in the downlink if it is the first of its
-    /// window.
+    /// A scheduled block that is allowed in a subframe with data if it is the first
+    /// of its window.
     pub fn block(&mut self, settings: Settings) -> Block {
         let Grant { blocks, first, second, .. } = self.grant(settings);
         Block { blocks, first, second }
@@ -196,7 +220,7 @@ impl Random {
     pub fn damage(&mut self, mut handset: Handset) -> Handset {
         for _ in 0..1 + self.below(3) {
             let settings = &mut handset.settings;
-            match self.below(20) {
+            match self.below(24) {
                 0 => settings.config = self.any(),
                 1 => settings.nrb = self.any(),
                 2 => settings.n1 = self.any(),
@@ -208,6 +232,9 @@ impl Random {
                 8 => settings.nrb = NRB.start() + self.below16(NRB.count() as u16),
                 9 => handset.next = self.any(),
                 10 => handset.next = self.below16(10),
+                11 => settings.prefix = self.near(2),
+                12 => settings.special = self.near(9),
+                13 => (settings.prefix, settings.special) = self.one_of(&SPECIALS),
                 _ => self.damage_slot(&mut handset.past),
             }
         }

@@ -16,17 +16,25 @@ pub struct Settings {
     pub mode: u16,
     pub blocks: u16,
     pub scheduled: u16,
+    pub prefix: u16,
+    pub special: u16,
 }
 
 impl Settings {
-    /// The settings that 01 names; what later papers add is as before.
+    /// The settings that 01 names; what later papers add is as before: no scheduled
+    /// resource, and special subframes that are long enough for data.
     pub const fn plain(config: u16, nrb: u16, n1: u16, mode: u16, blocks: u16) -> Self {
-        Self { config, nrb, n1, mode, blocks, scheduled: NONE }
+        Self { config, nrb, n1, mode, blocks, scheduled: NONE, prefix: 0, special: 7 }
     }
 
     /// The same with a scheduled resource.
     pub const fn with_scheduled(self, scheduled: u16) -> Self {
         Self { scheduled, ..self }
+    }
+
+    /// The same with a prefix and a special configuration.
+    pub const fn with_special(self, prefix: u16, special: u16) -> Self {
+        Self { prefix, special, ..self }
     }
 }
 
@@ -277,7 +285,7 @@ impl Slot {
 impl Handset {
     /// What stands beside a refusal to make one: every byte is 0.
     pub const NONE: Self = Self {
-        settings: Settings::plain(0, 0, 0, 0, 0).with_scheduled(0),
+        settings: Settings::plain(0, 0, 0, 0, 0).with_scheduled(0).with_special(0, 0),
         next: 0,
         past: [Slot::NOTHING; 13],
     };

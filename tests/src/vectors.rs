@@ -16,7 +16,7 @@ const SETTINGS: [&str; 9] =
 
 /// The settings that the engine does not have yet, and the values at which they
 /// change nothing.
-const LATER: [(&str, u16); 3] = [("prefix", 0), ("special", 7), ("ports", 1)];
+const LATER: [(&str, u16); 1] = [("ports", 1)];
 
 /// One case: a line, under the names of its columns.
 #[derive(Clone, Debug)]
@@ -75,9 +75,11 @@ impl<'a> Case<'a> {
         for (name, neutral) in LATER {
             assert_eq!(number(name), neutral, "{self}: {name} is not there yet");
         }
-        let [config, nrb, n1, mode, blocks, scheduled] =
-            ["configuration", "N_RB", "N1", "mode", "blocks", "scheduled"].map(number);
-        Settings::plain(config, nrb, n1, mode, blocks).with_scheduled(scheduled)
+        let [config, nrb, n1, mode, blocks] =
+            ["configuration", "N_RB", "N1", "mode", "blocks"].map(number);
+        let [scheduled, prefix, special] = ["scheduled", "prefix", "special"].map(number);
+        let settings = Settings::plain(config, nrb, n1, mode, blocks);
+        settings.with_scheduled(scheduled).with_special(prefix, special)
     }
 
     /// The lent handset: its settings, the subframe expected, and seven numbers for

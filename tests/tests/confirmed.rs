@@ -9,7 +9,7 @@
 
 use feedback_tests::compare::WINDOWS;
 use feedback_tests::every;
-use feedback_tests::model::{bundles, edge, Model, Window};
+use feedback_tests::model::{bundles, edge, is_short, Model, Window};
 use feedback_tests::random::Random;
 use feedback_tests::{
     feed, make, reading, resource, Block, Fed, Grant, Handset, Heard, ReadingAnswer, Release,
@@ -312,6 +312,7 @@ struct Cell<'a> {
 }
 
 /// What a pattern leads to: what the station knows, and what it does not know.
+#[derive(Debug)]
 struct Outcome {
     sent: Vec<Option<Sent>>,
     fed: Fed,
@@ -913,4 +914,107 @@ fn what_was_not_sent_confirms_nothing() {
         every_pattern_with_a_block(&fates, &BLOCKS_OF_ONE, window.size(), &mut each);
         assert!(wrong.iter().all(|wrong| *wrong > 0), "{settings:?}, {window:?}: {wrong:?}");
     }
+}
+
+/// A cell, and the same cell with special subframes that are too short for data: the
+/// window has one, at this position.
+struct Shortened<'a> {
+    long: Cell<'a>,
+    cell: Cell<'a>,
+    position: usize,
+}
+
+impl<'a> Shortened<'a> {
+    /// Nothing, where the window has no special subframe.
+    fn new(long: Cell<'a>, (prefix, special): (u16, u16)) -> Option<Self> {
+        let Cell { settings, window, .. } = long;
+        let settings = settings.with_special(prefix, special);
+        let at = |k: &u16| is_short(settings, (window.n + 20 - k) % 10);
+        let position = window.k.iter().position(at)?;
+        Some(Self { long, cell: Cell::new(settings, window), position })
+    }
+
+    /// Where the station sends no data there, the reply and its reading are what they
+    /// are in the cell with longer ones, and so is what is confirmed.
+    fn try_pattern(&self, found: &mut Found, pattern: &[Fate]) {
+        let sent = pattern[self.position].sent(0);
+        if sent.is_some_and(|sent| sent.blocks() > 0) {
+            return;
+        }
+        let (short, long) = (self.cell.run(pattern), self.long.run(pattern));
+        let answer = |fed: Fed| (fed.kind, fed.resource, fed.b0, fed.b1);
+        let context = || format!("{:?}, {pattern:?}: {short:?}, {long:?}", self.cell.settings);
+        assert_eq!(answer(short.fed), answer(long.fed), "{}", context());
+        assert_eq!((&short.sent, short.read), (&long.sent, long.read), "{}", context());
+        found.try_pattern(&self.cell, RULE, pattern);
+    }
+}
+
+/// Special subframes too short for data, in which the station sends releases only:
+/// each window of up to four that has one, with grants, releases and at most one
+/// scheduled block at its other positions.
+#[test]
+fn every_pattern_with_a_short_special() {
+    let model = Model::new();
+    for pair in every::SHORT {
+        let (mut patterns, mut confirmed, mut seen) = (0, 0, 0);
+        for long in cells(&model, &[50], SCHEDULED, 1, 4) {
+            let Some(shortened) = Shortened::new(long, pair) else { continue };
+            let (fates, size) =
+                (fates_with_releases(shortened.cell.settings), shortened.cell.window.size());
+            let mut found = Found::default();
+            every_pattern(&fates, size, |pattern| shortened.try_pattern(&mut found, pattern));
+            every_pattern_with_a_block(&fates, &BLOCKS_OF_ONE, size, |pattern| {
+                shortened.try_pattern(&mut found, pattern);
+            });
+            found.assert_exact(&shortened.cell);
+            patterns += found.patterns;
+            confirmed += found.confirmed;
+            seen += 1;
+        }
+        // In both modes two windows of configurations 0, 1, 2 and 6, and one of 3 and 4.
+        // Nothing or a release, lost or heard, at the special subframe; beside it no
+        // other, one, two or three positions: four windows, two, one and three.
+        let beside = |long: u64| match long {
+            0 => 1,
+            _ => 6u64.pow(long as u32 - 1) * (6 + 3 * long),
+        };
+        let all = 3 * (4 * beside(0) + 2 * beside(1) + beside(2) + 3 * beside(3));
+        assert_eq!((seen, patterns), (2 * 10, 2 * all), "{pair:?}");
+        assert!(confirmed > patterns / 4, "{confirmed} of {patterns}");
+    }
+}
+
+/// Likewise the window of nine, and cells of two blocks: patterns at random.
+#[test]
+fn patterns_with_a_short_special() {
+    let model = Model::new();
+    let mut random = Random::new(57);
+    let (mut replies, mut releases) = (0, 0);
+    for pair in every::SHORT {
+        for long in cells(&model, &[6], SCHEDULED, 2, 9) {
+            let Some(shortened) = Shortened::new(long, pair) else { continue };
+            let Cell { settings, window, .. } = shortened.cell;
+            let mut found = Found::default();
+            for number in 0..2000 {
+                let mut pattern: Vec<Fate> = match number % 2 {
+                    0 => window.k.iter().map(|_| random.one_of(&FATES_OF_TWO)).collect(),
+                    _ => vec![heard_two(true, true); window.k.len()],
+                };
+                let place = random.below(pattern.len());
+                pattern[place] = random.one_of(&BLOCKS_OF_TWO);
+                let there = [Fate::Nothing, Fate::LostRelease, Fate::HeardRelease];
+                pattern[shortened.position] = random.one_of(&there);
+                shortened.try_pattern(&mut found, &pattern);
+                let named = shortened.cell.run(&pattern).read;
+                let at = shortened.position as u16;
+                releases += u64::from(named.is_some_and(|read| read.position == at));
+            }
+            assert_eq!(found.patterns, 2000, "{settings:?}");
+            assert_eq!(found.wrong, 0, "{}", found.example.unwrap_or_default());
+            replies += found.replies;
+        }
+    }
+    println!("{replies} replies, {releases} of them for a release in a short special");
+    assert!(replies > 50_000 && releases > 10_000);
 }

@@ -2,7 +2,7 @@
 //! states, and random runs. The whole answer is compared, handset included.
 
 use feedback_tests::compare::{Comparison, BANDWIDTHS, CCES};
-use feedback_tests::model::{edge, is_uplink, Model, NRB};
+use feedback_tests::model::{edge, is_short, is_uplink, Model, NRB};
 use feedback_tests::random::Random;
 use feedback_tests::{Fed, Grant, Handset, Settings, Slot};
 
@@ -147,6 +147,8 @@ fn damaged(handset: Handset) -> Vec<Handset> {
     each(&[0, 2047, 2048, 65535], &|handset, value| handset.settings.n1 = value);
     each(&[0, 1, 2, 65535], &|handset, value| handset.settings.mode = value);
     each(&[0, 1, 2, 3, 65535], &|handset, value| handset.settings.blocks = value);
+    each(&[0, 1, 2, 65535], &|handset, value| handset.settings.prefix = value);
+    each(&[0, 4, 5, 8, 9, 65535], &|handset, value| handset.settings.special = value);
     each(&[0, 1, 2, 5, 9, 10, 65535], &|handset, value| handset.next = value);
     let cces = edge(handset.settings.nrb, 4);
     for at in 0..13 {
@@ -159,7 +161,7 @@ fn damaged(handset: Handset) -> Vec<Handset> {
 }
 
 /// How many those are.
-const DAMAGED: u64 = 6 + 6 + 4 + 4 + 5 + 7 + 13 * (4 + 4 + 5 + 7);
+const DAMAGED: u64 = 6 + 6 + 4 + 4 + 5 + 4 + 6 + 7 + 13 * (4 + 4 + 5 + 7);
 
 /// Each field of the handset with each of its special values, in every subframe
 /// of every configuration, empty and full, fed with nothing, an allowed grant and
@@ -187,7 +189,7 @@ fn damaged_states() {
         }
     }
     assert_eq!(fed, 26 * 10 * 2 * DAMAGED * 3);
-    comparison.finish_with(comparison.total(), &[0, 8, 9, 10], &[0, 1, 2, 3, 4, 5]);
+    comparison.finish_with(comparison.total(), &[0, 8, 9, 10, 20], &[0, 1, 2, 3, 4, 5]);
 }
 
 /// Every byte as every field of every slot.
@@ -232,7 +234,7 @@ fn sent(handset: Handset, dai: Option<u16>, random: &mut Random) -> Option<Grant
     match random.below(16) {
         0..=3 => None,
         4..=6 => Some(random.wild_grant(settings, 3)),
-        _ if is_uplink(settings.config, handset.next) => None,
+        _ if is_uplink(settings.config, handset.next) || is_short(settings, handset.next) => None,
         _ => {
             let grant = random.grant(settings);
             Some(Grant { dai: dai.unwrap_or(grant.dai), ..grant })
@@ -276,5 +278,5 @@ fn random_runs() {
         }
     }
     let kinds = [0, 1, 2, 3, 4, 5];
-    comparison.finish_with(RUNS * (1 + FEEDS), &[0, 8, 9, 10, 11, 12], &kinds);
+    comparison.finish_with(RUNS * (1 + FEEDS), &[0, 8, 9, 10, 11, 12, 20], &kinds);
 }

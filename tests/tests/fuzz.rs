@@ -8,7 +8,7 @@
 
 use feedback_tests::compare::{plain_claims_on, plain_feed, Comparison, Lent, Shown};
 use feedback_tests::guarded::BOTH;
-use feedback_tests::model::{edge, is_uplink, Model, NRB};
+use feedback_tests::model::{edge, is_short, is_uplink, Model, NRB};
 use feedback_tests::plain::{
     plain_answered, plain_inverse, plain_make, plain_reading, plain_resource, plain_window,
 };
@@ -107,7 +107,7 @@ fn windows() {
         1
     });
     assert_eq!(calls, WINDOW_CALLS * times());
-    comparison.finish_with(calls / SAMPLE, &[0, 1, 2, 3, 4, 5, 6, 7, 17], &[]);
+    comparison.finish_with(calls / SAMPLE, &[0, 1, 2, 3, 4, 5, 6, 7, 17, 19], &[]);
 }
 
 #[test]
@@ -129,7 +129,7 @@ fn answers_for_subframes() {
         1
     });
     assert_eq!(calls, ANSWERED_CALLS * times());
-    comparison.finish_with(calls / SAMPLE, &[0, 1, 2, 3, 4, 5, 6, 7, 17], &[]);
+    comparison.finish_with(calls / SAMPLE, &[0, 1, 2, 3, 4, 5, 6, 7, 17, 19], &[]);
 }
 
 #[test]
@@ -154,7 +154,7 @@ fn resources() {
         1
     });
     assert_eq!(calls, RESOURCE_CALLS * times());
-    comparison.finish_with(calls / SAMPLE, &[0, 1, 2, 3, 4, 5, 6, 7, 11, 17], &[]);
+    comparison.finish_with(calls / SAMPLE, &[0, 1, 2, 3, 4, 5, 6, 7, 11, 17, 19], &[]);
 }
 
 #[test]
@@ -179,7 +179,7 @@ fn inverses() {
         1
     });
     assert_eq!(calls, INVERSE_CALLS * times());
-    comparison.finish_with(calls / SAMPLE, &[0, 1, 2, 3, 4, 5, 6, 7, 13, 17], &[]);
+    comparison.finish_with(calls / SAMPLE, &[0, 1, 2, 3, 4, 5, 6, 7, 13, 17, 19], &[]);
 }
 
 /// Half of the readings are told a position, mostly one of the window, and a quarter
@@ -216,7 +216,7 @@ fn readings() {
         1
     });
     assert_eq!(calls, READING_CALLS * times());
-    let refusals = [0, 1, 2, 3, 4, 5, 6, 7, 11, 13, 14, 17, 18];
+    let refusals = [0, 1, 2, 3, 4, 5, 6, 7, 11, 13, 14, 17, 18, 19, 20];
     comparison.finish_with(calls / SAMPLE, &refusals, &[0, 1, 2]);
     println!("read as the scheduled block, by kind: {as_block:?}");
     assert!(as_block[0] == 0 && as_block[1] > 1000 && as_block[2] > 1000);
@@ -240,7 +240,7 @@ fn makings() {
         1
     });
     assert_eq!(calls, MAKE_CALLS * times());
-    comparison.finish_with(calls / SAMPLE, &[0, 1, 2, 3, 4, 5, 6, 17], &[]);
+    comparison.finish_with(calls / SAMPLE, &[0, 1, 2, 3, 4, 5, 6, 17, 19], &[]);
 }
 
 /// A handset that goes from feed to feed; sometimes another takes its place,
@@ -251,7 +251,7 @@ fn feeds() {
     let model = Model::new();
     let mut comparison = Comparison::with(&model);
     let mut handset = Handset::NONE;
-    let mut on_scheduled = 0;
+    let (mut on_scheduled, mut short_releases) = (0, 0);
     let calls = fuzz(5, FEED_CALLS, |random, ask_model| {
         let lent = match random.below(64) {
             0 => random.noise(),
@@ -276,6 +276,9 @@ fn feeds() {
         );
         let is_reply = [Fed::BUNDLED, Fed::MULTIPLEXED].contains(&given.kind);
         on_scheduled += u64::from(is_reply && given.resource == settings.scheduled);
+        if given.refusal == 0 && matches!(heard, Heard::Release(_)) {
+            short_releases += u64::from(is_short(settings, next));
+        }
         if ask_model {
             comparison.feed(lent, heard);
         }
@@ -287,10 +290,11 @@ fn feeds() {
         1
     });
     assert_eq!(calls, FEED_CALLS * times());
-    let refusals = [0, 8, 9, 10, 11, 12, 18];
+    let refusals = [0, 8, 9, 10, 11, 12, 18, 20];
     comparison.finish_with(calls / SAMPLE, &refusals, &[0, 1, 2, 3, 4, 5]);
     println!("{on_scheduled} replies on the scheduled resource");
-    assert!(on_scheduled > 10_000);
+    println!("{short_releases} releases in special subframes too short for data");
+    assert!(on_scheduled > 10_000 && short_releases > 10_000);
 }
 
 /// Claims: mostly allowed ones, and any others.
@@ -351,6 +355,6 @@ fn lists_of_claims() {
         2
     });
     assert_eq!(calls, CLAIMS_CALLS * times());
-    let refusals = [0, 1, 2, 3, 4, 5, 6, 7, 15, 16, 17];
+    let refusals = [0, 1, 2, 3, 4, 5, 6, 7, 15, 16, 17, 19];
     comparison.finish_with(calls / 2 / SAMPLE * 2, &refusals, &[0, 1, 2]);
 }

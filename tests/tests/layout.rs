@@ -1,25 +1,28 @@
 //! The structs of the C calls, byte by byte, and how they are passed.
 
 use feedback_tests::{
-    feed, layout_2, AnsweredAnswer, Block, ClaimsAnswer, Fed, Grant, Handset, Heard, InverseAnswer,
-    Made, ReadingAnswer, Release, ResourceAnswer, Settings, Slot, WindowAnswer, NOT_TOLD,
+    answered, claims, feed, inverse, layout_3, make, reading, resource, window, AnsweredAnswer,
+    Block, ClaimsAnswer, Fed, Grant, Handset, Heard, InverseAnswer, Made, ReadingAnswer, Release,
+    ResourceAnswer, Settings, Slot, WindowAnswer, NOT_TOLD,
 };
 use std::mem::{align_of, offset_of, size_of};
 
 #[test]
-fn layout_is_the_second() {
-    assert_eq!(layout_2(), 2);
+fn layout_is_the_third() {
+    assert_eq!(layout_3(), 3);
 }
 
 #[test]
-fn settings_are_six_16_bit_numbers() {
-    assert_eq!((size_of::<Settings>(), align_of::<Settings>()), (12, 2));
+fn settings_are_eight_16_bit_numbers() {
+    assert_eq!((size_of::<Settings>(), align_of::<Settings>()), (16, 2));
     assert_eq!(offset_of!(Settings, config), 0);
     assert_eq!(offset_of!(Settings, nrb), 2);
     assert_eq!(offset_of!(Settings, n1), 4);
     assert_eq!(offset_of!(Settings, mode), 6);
     assert_eq!(offset_of!(Settings, blocks), 8);
     assert_eq!(offset_of!(Settings, scheduled), 10);
+    assert_eq!(offset_of!(Settings, prefix), 12);
+    assert_eq!(offset_of!(Settings, special), 14);
 }
 
 #[test]
@@ -86,20 +89,20 @@ fn a_slot_is_four_bytes() {
 }
 
 #[test]
-fn a_handset_is_66_bytes() {
-    assert_eq!((size_of::<Handset>(), align_of::<Handset>()), (66, 2));
+fn a_handset_is_70_bytes() {
+    assert_eq!((size_of::<Handset>(), align_of::<Handset>()), (70, 2));
     assert_eq!(offset_of!(Handset, settings), 0);
-    assert_eq!(offset_of!(Handset, next), 12);
-    assert_eq!(offset_of!(Handset, past), 14);
+    assert_eq!(offset_of!(Handset, next), 16);
+    assert_eq!(offset_of!(Handset, past), 18);
 }
 
 #[test]
 fn answers_with_a_handset_have_it_last() {
-    assert_eq!((size_of::<Made>(), align_of::<Made>()), (68, 2));
+    assert_eq!((size_of::<Made>(), align_of::<Made>()), (72, 2));
     assert_eq!(offset_of!(Made, refusal), 0);
     assert_eq!(offset_of!(Made, handset), 2);
 
-    assert_eq!((size_of::<Fed>(), align_of::<Fed>()), (76, 2));
+    assert_eq!((size_of::<Fed>(), align_of::<Fed>()), (80, 2));
     assert_eq!(offset_of!(Fed, refusal), 0);
     assert_eq!(offset_of!(Fed, kind), 2);
     assert_eq!(offset_of!(Fed, resource), 4);
@@ -170,78 +173,45 @@ fn every_kind_comes_back() {
     }
 }
 
-/// Settings take twelve bytes of the sixteen in two registers. A C caller may leave
-/// anything in the other four, and here it does.
-#[cfg(all(target_arch = "x86_64", unix))]
+/// Settings fill the two registers in which they are passed. Of eight numbers no two
+/// are the same here, and each is where it was.
 #[test]
-fn what_lies_beyond_the_settings_is_not_read() {
-    use feedback_tests::{answered, c, claims, inverse, make, reading, resource, window};
-    use std::mem::transmute;
+fn every_number_of_the_settings_comes_back() {
+    let settings = Settings::plain(4, 100, 2000, 1, 2).with_scheduled(1999).with_special(0, 6);
+    let Settings { config, nrb, n1, mode, blocks, scheduled, prefix, special } = settings;
+    let mut numbers = [config, nrb, n1, mode, blocks, scheduled, prefix, special];
+    numbers.sort();
+    assert!(numbers.windows(2).all(|pair| pair[0] < pair[1]), "{numbers:?}");
+    let made = make(settings);
+    assert_eq!((made.refusal, made.handset), (0, Handset::fresh(settings)));
+    assert_eq!(feed(made.handset, None).handset.settings, settings);
+}
 
-    #[repr(C)]
-    #[derive(Clone, Copy)]
-    struct TwoRegisters {
-        settings: Settings,
-        beyond: [u16; 2],
+/// Each number of the settings reaches every call that takes them: out of its range
+/// it is refused by the cause that is its own.
+#[test]
+fn every_number_of_the_settings_arrives() {
+    let good = Settings::plain(4, 100, 2000, 1, 2).with_scheduled(1999).with_special(0, 6);
+    let refused = [
+        (1, Settings { config: 7, ..good }),
+        (2, Settings { nrb: 5, ..good }),
+        (3, Settings { n1: 2048, ..good }),
+        (4, Settings { mode: 2, ..good }),
+        (6, Settings { blocks: 3, ..good }),
+        (17, Settings { scheduled: 2000, ..good }),
+        (19, Settings { prefix: 2, ..good }),
+        (19, Settings { special: 9, ..good }),
+    ];
+    for (number, settings) in refused.into_iter().chain([(0, good)]) {
+        let refusals = [
+            window(settings, 2).refusal,
+            answered(settings, 1).refusal,
+            resource(settings, 2, 0, 0).refusal,
+            inverse(settings, 2, 2000).refusal,
+            reading(settings, 2, NOT_TOLD, 2000, 1, 0).refusal,
+            claims(settings, 2, &[0], &mut [0; 500]).refusal,
+            make(settings).refusal,
+        ];
+        assert_eq!(refusals, [number; 7], "{settings:?}");
     }
-    type Window<S> = unsafe extern "C" fn(S, u16) -> WindowAnswer;
-    type Answered<S> = unsafe extern "C" fn(S, u16) -> AnsweredAnswer;
-    type Resource<S> = unsafe extern "C" fn(S, u16, u16, u16) -> ResourceAnswer;
-    type Inverse<S> = unsafe extern "C" fn(S, u16, u16) -> InverseAnswer;
-    type Reading<S> = unsafe extern "C" fn(S, u16, u16, u16, u16, u16) -> ReadingAnswer;
-    type Claims<S> =
-        unsafe extern "C" fn(S, u16, *const u16, usize, *mut u8, usize) -> ClaimsAnswer;
-    type Make<S> = unsafe extern "C" fn(S) -> Made;
-
-    // SAFETY: on this platform both kinds of struct are passed in the same two
-    // registers.
-    let (wide_resource, wide_inverse, wide_reading, wide_claims, wide_make) = unsafe {
-        (
-            transmute::<Resource<Settings>, Resource<TwoRegisters>>(c::feedback_resource),
-            transmute::<Inverse<Settings>, Inverse<TwoRegisters>>(c::feedback_inverse),
-            transmute::<Reading<Settings>, Reading<TwoRegisters>>(c::feedback_reading),
-            transmute::<Claims<Settings>, Claims<TwoRegisters>>(c::feedback_claims),
-            transmute::<Make<Settings>, Make<TwoRegisters>>(c::feedback_make),
-        )
-    };
-    // SAFETY: likewise.
-    let (wide_window, wide_answered) = unsafe {
-        (
-            transmute::<Window<Settings>, Window<TwoRegisters>>(c::feedback_window),
-            transmute::<Answered<Settings>, Answered<TwoRegisters>>(c::feedback_answered),
-        )
-    };
-    let mut compared = 0;
-    for blocks in 0..=3 {
-        let settings = Settings::plain(1, 50, 10, 0, blocks);
-        for beyond in [[0; 2], [1; 2], [65535; 2], [2, 0], [0, 32768]] {
-            let wide = TwoRegisters { settings, beyond };
-            let (list, mut scratch, mut wide_scratch) = ([256, 0, 256], [7; 130], [7; 130]);
-            let (marks, room) = (wide_scratch.as_mut_ptr(), wide_scratch.len());
-            // SAFETY: list and scratch are lent with their lengths, and apart from
-            // them the calls are lent no memory.
-            let (there, back, read, judged, made) = unsafe {
-                (
-                    wide_resource(wide, 2, 0, 11),
-                    wide_inverse(wide, 2, 32),
-                    wide_reading(wide, 2, NOT_TOLD, 32, 1, 0),
-                    wide_claims(wide, 2, list.as_ptr(), list.len(), marks, room),
-                    wide_make(wide),
-                )
-            };
-            // SAFETY: these calls are lent no memory.
-            let (here, answer) = unsafe { (wide_window(wide, 2), wide_answered(wide, 6)) };
-            let context = format!("blocks {blocks}, {beyond:?}");
-            assert_eq!(here, window(settings, 2), "{context}");
-            assert_eq!(answer, answered(settings, 6), "{context}");
-            assert_eq!(there, resource(settings, 2, 0, 11), "{context}");
-            assert_eq!(back, inverse(settings, 2, 32), "{context}");
-            assert_eq!(read, reading(settings, 2, NOT_TOLD, 32, 1, 0), "{context}");
-            assert_eq!(judged, claims(settings, 2, &list, &mut scratch), "{context}");
-            assert_eq!(wide_scratch, scratch, "{context}");
-            assert_eq!(made, make(settings), "{context}");
-            compared += 7;
-        }
-    }
-    assert_eq!(compared, 4 * 5 * 7);
 }

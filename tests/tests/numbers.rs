@@ -1,4 +1,4 @@
-//! Every refusal number, 1 to 18, from every call that can give it. What is due
+//! Every refusal number, 1 to 20, from every call that can give it. What is due
 //! is written out by hand; the model has no part here.
 
 use feedback_tests::{
@@ -21,8 +21,11 @@ const BLOCK: Block = Block { blocks: 1, first: 1, second: 0 };
 
 const RELEASE: Release = Release { cce: 0, dai: 1 };
 
-/// Settings that meet the causes 1 to 6 and 17, and no other.
-const REFUSED: [(u16, Settings); 13] = [
+/// Prefix and special configuration of special subframes too short for data.
+const SHORT: [(u16, u16); 4] = [(0, 0), (0, 5), (1, 0), (1, 4)];
+
+/// Settings that meet the causes 1 to 6, 17 and 19, and no other.
+const REFUSED: [(u16, Settings); 21] = [
     (1, Settings { config: 7, ..CELL }),
     (2, Settings { nrb: 5, ..CELL }),
     (2, Settings { nrb: 111, ..CELL }),
@@ -36,10 +39,18 @@ const REFUSED: [(u16, Settings); 13] = [
     (17, CELL.with_scheduled(265)),
     (17, CELL.with_scheduled(65534)),
     (17, Settings { n1: 0, ..CELL }.with_scheduled(0)),
+    (19, CELL.with_special(0, 9)),
+    (19, CELL.with_special(0, 263)),
+    (19, CELL.with_special(0, 65535)),
+    (19, CELL.with_special(1, 7)),
+    (19, CELL.with_special(1, 8)),
+    (19, CELL.with_special(2, 0)),
+    (19, CELL.with_special(256, 7)),
+    (19, CELL.with_special(65535, 7)),
 ];
 
 /// Counts the refusals that came as they were due.
-struct Count([u64; 19]);
+struct Count([u64; 21]);
 
 impl Count {
     fn due<T: Debug + PartialEq>(&mut self, number: u16, given: T, due: T) {
@@ -116,7 +127,7 @@ impl Count {
 
 #[test]
 fn every_number_occurs() {
-    let mut count = Count([0; 19]);
+    let mut count = Count([0; 21]);
     let fresh = make(CELL).handset;
     assert_eq!(fresh, Handset::fresh(CELL));
 
@@ -188,6 +199,12 @@ fn every_number_occurs() {
 
     blocks_and_releases_fed(&mut count, fresh);
     told_positions(&mut count);
+    for (prefix, special) in SHORT {
+        let settings = SCHEDULED.with_special(prefix, special);
+        short_specials_remembered(&mut count, Handset { settings, ..expecting });
+        short_specials_fed(&mut count, Handset { settings, ..fresh });
+        short_specials_told(&mut count, settings);
+    }
 
     count.resource(11, CELL, 2, 0, 61);
     count.resource(11, CELL, 2, 2, 0);
@@ -215,7 +232,8 @@ fn every_number_occurs() {
 
     println!("refusals by number: {:?}", count.0);
     let of_settings = |causes: u64| 7 * causes;
-    let states = 7 * (13 + 9 * 7 + 4 + 3) + 1;
+    let states = 7 * (21 + 9 * 7 + 4 + 3) + 1;
+    let shorts = 4;
     let counts = [
         0,
         of_settings(1),
@@ -224,18 +242,20 @@ fn every_number_occurs() {
         of_settings(1),
         of_settings(1),
         of_settings(3),
-        5 * 5 + 7 + 1,
-        states + 7 * (9 * 6 + 4 * 2 + 2) + 2,
-        2 + 4,
+        5 * 5 + 7 + 1 + shorts,
+        states + 7 * (9 * 6 + 4 * 2 + 2) + 2 + shorts * 7 * 3 * 2,
+        2 + 4 + shorts * 3,
         2 + 3,
-        3 + 2 + 5,
-        2 + 2,
+        3 + 2 + 5 + shorts * (2 + 2),
+        2 + 2 + shorts * 2,
         8 + 2,
         7 + 3,
         3,
         3,
         of_settings(4),
-        3 + 4,
+        3 + 4 + shorts * 2,
+        of_settings(8),
+        shorts * (2 * 6 + 2 * 4),
     ];
     assert_eq!(count.0, counts);
     assert!(count.0[1..].iter().all(|number| *number > 0));
@@ -325,4 +345,75 @@ fn told_positions(count: &mut Count) {
     count.told(14, Settings { mode: 1, ..SCHEDULED }, 2, 1, (9, 0, 1));
     let read = ReadingAnswer::bundled(0, 0, 1, 0).as_block();
     assert_eq!(reading(SCHEDULED, 2, 0, 9, 1, 0), read);
+}
+
+/// In configuration 1 the subframes 1 and 6 are special: of what a handset remembers
+/// that expects 2, those 1, 6 and 11 ago, the last in a window that was answered long
+/// since. A release is remembered there, a grant and a block are not.
+fn short_specials_remembered(count: &mut Count, expecting: Handset) {
+    let grant = Slot { kind: Slot::GRANT, cce: 60, dai: 4, results: 1 };
+    let block = Slot { kind: Slot::BLOCK, ..grant };
+    let release = Slot { kind: Slot::RELEASE, ..grant };
+    let with = |ago: usize, slot| {
+        let mut handset = expecting;
+        handset.past[ago - 1] = slot;
+        handset
+    };
+    for ago in [1, 6, 11] {
+        count.bad_state(with(ago, grant));
+        count.bad_state(with(ago, block));
+        assert_eq!(feed_nothing(with(ago, release)).refusal, 0, "{ago}");
+    }
+    for ago in [2, 3, 7, 8, 12, 13] {
+        for slot in [grant, block, release] {
+            assert_eq!(feed_nothing(with(ago, slot)).refusal, 0, "{ago}, {slot:?}");
+        }
+    }
+}
+
+/// 9 comes before 20, and 20 before 10, 11, 12 and 18.
+fn short_specials_fed(count: &mut Count, fresh: Handset) {
+    let all_wrong = Grant { blocks: 0, cce: 61, dai: 5, ..GRANT };
+    let none = Block { blocks: 0, ..BLOCK };
+    let uplink = Handset { next: 2, ..fresh };
+    count.feed_grant(9, uplink, all_wrong);
+    count.feed_scheduled(9, uplink, none);
+    count.feed_release(9, uplink, Release { cce: 61, dai: 5 });
+    for next in [1, 6] {
+        let handset = Handset { next, ..fresh };
+        let unset = Settings { scheduled: NONE, ..fresh.settings };
+        count.feed_grant(20, handset, GRANT);
+        count.feed_grant(20, handset, all_wrong);
+        count.feed_scheduled(20, handset, BLOCK);
+        count.feed_scheduled(20, handset, none);
+        count.feed_scheduled(20, Handset { settings: unset, ..handset }, BLOCK);
+        count.feed_scheduled(20, Handset { settings: unset, ..handset }, none);
+        count.feed_release(11, handset, Release { cce: 61, dai: 5 });
+        count.feed_release(12, handset, Release { cce: 60, dai: 5 });
+        let taken = [feed_release(handset, RELEASE), feed_nothing(handset)];
+        assert_eq!(taken.map(|fed| (fed.refusal, fed.kind)), [(0, Fed::TAKEN); 2]);
+    }
+    for next in [0, 4, 5, 9] {
+        let handset = Handset { next, ..fresh };
+        let taken = [feed_grant(handset, GRANT), feed_scheduled(handset, BLOCK)];
+        assert_eq!(taken.map(|fed| (fed.refusal, fed.kind)), [(0, Fed::TAKEN); 2]);
+    }
+}
+
+/// The windows of 2 and 7 have their special subframe at position 1. It is looked at
+/// whatever came in, after 7 and before 18; where there is no such position, 11.
+fn short_specials_told(count: &mut Count, settings: Settings) {
+    let unset = Settings { scheduled: NONE, ..settings };
+    count.told(7, unset, 4, 1, (8, 2, 2));
+    for n in [2, 7] {
+        count.told(20, settings, n, 1, (9, 1, 0));
+        count.told(20, settings, n, 1, (10, 1, 0));
+        count.told(20, settings, n, 1, (8, 2, 2));
+        count.told(20, unset, n, 1, (8, 2, 2));
+        count.told(11, unset, n, 2, (8, 2, 2));
+        count.told(18, unset, n, 0, (8, 2, 2));
+        let read = ReadingAnswer::bundled(0, 0, 1, 0).as_block();
+        assert_eq!(reading(settings, n, 0, 9, 1, 0), read);
+        assert_eq!(reading(settings, n, NOT_TOLD, 21, 1, 0), ReadingAnswer::bundled(1, 0, 1, 0));
+    }
 }

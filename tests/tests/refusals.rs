@@ -105,12 +105,15 @@ fn compare_make(comparison: &mut Comparison, arguments: [u16; 5]) {
 
 /// Every change of one argument to every 16-bit number.
 fn alone<const A: usize>(start: [u16; A], mut each: impl FnMut([u16; A])) {
-    for at in 0..A {
-        for value in 0..=65535 {
-            let mut arguments = start;
-            arguments[at] = value;
-            each(arguments);
-        }
+    (0..A).for_each(|at| alone_at(at, start, &mut each));
+}
+
+/// Every change of this argument to every 16-bit number.
+fn alone_at<const A: usize>(at: usize, start: [u16; A], mut each: impl FnMut([u16; A])) {
+    for value in 0..=65535 {
+        let mut arguments = start;
+        arguments[at] = value;
+        each(arguments);
     }
 }
 
@@ -433,15 +436,19 @@ const CALLS: u64 = 6;
 
 /// All calls that take settings and no list, with other arguments that are allowed
 /// where settings and subframe are.
-fn compare_all(comparison: &mut Comparison, arguments: [u16; 7]) {
-    let [config, nrb, n1, mode, blocks, scheduled, n] = arguments;
-    let settings = Settings::plain(config, nrb, n1, mode, blocks).with_scheduled(scheduled);
+fn compare_all(comparison: &mut Comparison, settings: Settings, n: u16) {
     comparison.window(settings, n);
     comparison.answered(settings, n);
     comparison.resource(settings, n, 0, 0);
-    comparison.inverse(settings, n, n1);
-    comparison.reading(settings, n, NOT_TOLD, n1, 1, 0);
+    comparison.inverse(settings, n, settings.n1);
+    comparison.reading(settings, n, NOT_TOLD, settings.n1, 1, 0);
     comparison.make(settings);
+}
+
+fn compare_scheduled(comparison: &mut Comparison, arguments: [u16; 7]) {
+    let [config, nrb, n1, mode, blocks, scheduled, n] = arguments;
+    let settings = Settings::plain(config, nrb, n1, mode, blocks).with_scheduled(scheduled);
+    compare_all(comparison, settings, n);
 }
 
 fn compare_told(comparison: &mut Comparison, arguments: [u16; 11]) {
@@ -455,8 +462,8 @@ fn scheduled_resource_with_arguments_changed() {
     let model = Model::new();
     let mut comparison = Comparison::with(&model);
     for start in SCHEDULED_STARTS {
-        alone(start, |arguments| compare_all(&mut comparison, arguments));
-        in_pairs(start, SCHEDULED_CALL, |arguments| compare_all(&mut comparison, arguments));
+        alone(start, |arguments| compare_scheduled(&mut comparison, arguments));
+        in_pairs(start, SCHEDULED_CALL, |arguments| compare_scheduled(&mut comparison, arguments));
     }
     let compared = 4 * (7 * 65536 + number_of_pairs(&SCHEDULED_CALL)) * CALLS;
     comparison.finish_with(compared, &[0, 1, 2, 3, 4, 5, 6, 7, 17], &[]);
@@ -466,7 +473,7 @@ fn scheduled_resource_with_arguments_changed() {
 fn scheduled_resource_with_all_arguments_special() {
     let model = Model::new();
     let mut comparison = Comparison::with(&model);
-    all_together(SCHEDULED_CALL, |arguments| compare_all(&mut comparison, arguments));
+    all_together(SCHEDULED_CALL, |arguments| compare_scheduled(&mut comparison, arguments));
     comparison.finish_with(number_of_all(&SCHEDULED_CALL) * CALLS, &[0, 7], &[]);
     assert_settings_refused(&comparison, 8 * 7 * CALLS);
     // Of configuration and mode seven pairs pass, of N_RB three, of blocks two. Not
@@ -579,4 +586,216 @@ fn later_numbers_in_their_place() {
     let made = make(scheduled);
     assert_eq!((made.refusal, made.handset), (17, Handset::NONE));
     assert_eq!(make(set).handset, Handset::fresh(set));
+}
+
+/// The values tried of the prefix and of the special configuration.
+const PREFIX: &[u16] = &[0, 1, 2, 256, 65535];
+const SPECIAL: &[u16] = &[0, 4, 5, 6, 7, 8, 9, 263, 65535];
+
+/// Prefix and special configuration behind the scheduled resource, among the settings
+/// and the subframe, and among all arguments of the reading.
+const SPECIAL_CALL: [&[u16]; 9] = [CONFIG, NRB, N1, MODE, BLOCKS, SCHEDULED, PREFIX, SPECIAL, N];
+const SPECIAL_TOLD_CALL: [&[u16]; 13] =
+    [CONFIG, NRB, N1, MODE, BLOCKS, SCHEDULED, PREFIX, SPECIAL, N, TOLD, RESOURCE, BIT, BIT];
+
+/// Arguments that are not refused: with special subframes that carry data and with
+/// short ones.
+const SPECIAL_STARTS: [[u16; 9]; 4] = [
+    [1, 50, 10, 0, 1, 9, 0, 7, 2],
+    [5, 110, 2047, 0, 2, 2046, 1, 4, 2],
+    [0, 6, 1, 1, 1, 0, 0, 5, 9],
+    [3, 25, 100, 1, 2, 65535, 1, 6, 3],
+];
+const SPECIAL_TOLD_STARTS: [[u16; 13]; 4] = [
+    [1, 50, 10, 0, 1, 9, 0, 8, 2, 1, 131, 1, 0],
+    [5, 110, 2047, 0, 2, 2046, 1, 5, 2, 7, 2046, 0, 1],
+    [1, 50, 10, 1, 2, 9, 0, 4, 2, 1, 9, 1, 1],
+    [3, 25, 100, 1, 1, 0, 1, 0, 3, 0, 0, 0, 1],
+];
+
+fn compare_special(comparison: &mut Comparison, arguments: [u16; 9]) {
+    let [config, nrb, n1, mode, blocks, scheduled, prefix, special, n] = arguments;
+    let settings = Settings::plain(config, nrb, n1, mode, blocks).with_scheduled(scheduled);
+    compare_all(comparison, settings.with_special(prefix, special), n);
+}
+
+fn compare_special_told(comparison: &mut Comparison, arguments: [u16; 13]) {
+    let [config, nrb, n1, mode, blocks, scheduled, prefix, special, n, told, resource, b0, b1] =
+        arguments;
+    let settings = Settings::plain(config, nrb, n1, mode, blocks).with_scheduled(scheduled);
+    let settings = settings.with_special(prefix, special);
+    comparison.reading(settings, n, told, resource, b0, b1);
+}
+
+/// Where prefix and special configuration stand among the arguments.
+const PREFIX_AND_SPECIAL: [usize; 2] = [6, 7];
+
+#[test]
+fn special_configuration_with_arguments_changed() {
+    let model = Model::new();
+    let mut comparison = Comparison::with(&model);
+    for start in SPECIAL_STARTS {
+        for at in PREFIX_AND_SPECIAL {
+            alone_at(at, start, |arguments| compare_special(&mut comparison, arguments));
+        }
+        in_pairs(start, SPECIAL_CALL, |arguments| compare_special(&mut comparison, arguments));
+    }
+    let compared = 4 * (2 * 65536 + number_of_pairs(&SPECIAL_CALL)) * CALLS;
+    comparison.finish_with(compared, &[0, 1, 2, 3, 4, 5, 6, 7, 17, 19], &[]);
+}
+
+#[test]
+fn special_configuration_with_all_arguments_together() {
+    let model = Model::new();
+    let mut comparison = Comparison::with(&model);
+    let settings: [&[u16]; 5] = [&[1, 5, 7], &[50, 111], &[0, 10, 2048], &[0, 1, 2], &[1, 2, 3]];
+    let [config, nrb, n1, mode, blocks] = settings;
+    let scheduled = &[0, 9, 10, 65535];
+    let n = &[2, 3, 10];
+    let call = [config, nrb, n1, mode, blocks, scheduled, PREFIX, SPECIAL, n];
+    all_together(call, |arguments| compare_special(&mut comparison, arguments));
+    let refusals = [0, 1, 2, 3, 4, 5, 6, 7, 17, 19];
+    comparison.finish_with(3 * 2 * 3 * 3 * 3 * 4 * 45 * 3 * CALLS, &refusals, &[]);
+    // Three pairs of configuration and mode and two numbers of blocks pass. Of the
+    // scheduled resources three are not below N1 where that is 0, and one where it is
+    // 10: one and three pass. Of the 45 pairs of prefix and special configuration six
+    // and four are there.
+    assert_eq!(comparison.refused(17), 3 * 2 * (3 + 1) * 45 * 3 * CALLS);
+    assert_eq!(comparison.refused(19), 3 * 2 * (1 + 3) * (45 - 6 - 4) * 3 * CALLS);
+}
+
+#[test]
+fn claims_with_a_special_configuration() {
+    let model = Model::new();
+    let mut comparison = Comparison::with(&model);
+    let mut lent = Lent::new(3);
+    for [config, nrb, n1, mode, blocks, n, claim, room] in CLAIMS_STARTS {
+        for prefix in PREFIX {
+            for special in SPECIAL {
+                for (scheduled, n) in [(NONE, n), (NONE, 10), (2047, n)] {
+                    let settings = Settings::plain(config, nrb, n1, mode, blocks);
+                    let settings = settings.with_scheduled(scheduled);
+                    let settings = settings.with_special(*prefix, *special);
+                    let scratch = vec![7; room.into()];
+                    comparison.claims(&mut lent, settings, n, &[5, claim, 5], &scratch);
+                    comparison.claims(&mut lent, settings, n, &[65535], &[]);
+                }
+            }
+        }
+    }
+    // Each list is lent in two ways. 19 comes behind 17, and before 7 and 15.
+    comparison.finish_with(4 * 45 * 3 * 2 * 2, &[0, 7, 15, 17, 19], &[0, 2]);
+    assert_eq!(comparison.refused(17), 4 * 45 * 2 * 2);
+    assert_eq!(comparison.refused(19), 4 * 35 * 2 * 2 * 2);
+    assert_eq!(comparison.refused(7), 4 * 10 * 2 * 2);
+}
+
+#[test]
+fn told_short_special_with_arguments_changed() {
+    let model = Model::new();
+    let mut comparison = Comparison::with(&model);
+    for start in SPECIAL_TOLD_STARTS {
+        let mut compare = |arguments| compare_special_told(&mut comparison, arguments);
+        for at in PREFIX_AND_SPECIAL {
+            alone_at(at, start, &mut compare);
+        }
+        in_pairs(start, SPECIAL_TOLD_CALL, &mut compare);
+    }
+    let compared = 4 * (2 * 65536 + number_of_pairs(&SPECIAL_TOLD_CALL));
+    let refusals = [0, 1, 2, 3, 4, 5, 6, 7, 11, 13, 14, 17, 18, 19, 20];
+    comparison.finish_with(compared, &refusals, &[0, 1, 2]);
+}
+
+#[test]
+fn told_short_special_with_all_arguments_together() {
+    let model = Model::new();
+    let mut comparison = Comparison::with(&model);
+    let (config, mode, blocks): (&[u16], &[u16], &[u16]) = (&[1, 5, 7], &[0, 1, 2], &[1, 3]);
+    let (prefix, special): (&[u16], &[u16]) = (&[0, 1, 2], &[0, 4, 5, 6, 7, 9]);
+    let (scheduled, n): (&[u16], &[u16]) = (&[9, 10, 65535], &[2, 3, 10]);
+    let told: &[u16] = &[0, 1, 2, 7, 8, 9, 256, 65534, 65535];
+    let (resource, bit): (&[u16], &[u16]) = (&[9, 10, 131, 65535], &[0, 1, 2]);
+    let settings = [config, &[50], &[10], mode, blocks, scheduled, prefix, special];
+    let [config, nrb, n1, mode, blocks, scheduled, prefix, special] = settings;
+    let call =
+        [config, nrb, n1, mode, blocks, scheduled, prefix, special, n, told, resource, bit, bit];
+    all_together(call, |arguments| compare_special_told(&mut comparison, arguments));
+    let replies = 4 * 3 * 3;
+    let compared = 3 * 3 * 2 * 3 * 18 * 3 * 9 * replies;
+    comparison.finish_with(compared, &[0, 1, 4, 5, 6, 7, 11, 13, 14, 17, 18, 19, 20], &[0, 1, 2]);
+    // Three pairs of configuration and mode pass, one number of blocks and two scheduled
+    // resources, 9 and none. Of prefix and special configuration nine pairs are there,
+    // and four of them are short.
+    assert_eq!(comparison.refused(19), 3 * 2 * (18 - 9) * 3 * 9 * replies);
+    // In configuration 1 the window of 2 has the special subframe 6 at position 1, and
+    // that of 3 none; in 5 the window of 2 has 1 at position 7.
+    assert_eq!(comparison.refused(20), 2 * 4 * (2 + 1) * replies);
+    // Not below M are six, seven and three of the told positions, below it two, one and
+    // five: of these one is short in the first and in the last.
+    assert_eq!(comparison.refused(11), 2 * 9 * (2 * (6 + 7) + 3) * replies);
+    assert_eq!(comparison.refused(18), (2 * (9 * (2 + 1) - 4) + 9 * 5 - 4) * replies);
+}
+
+/// The order with 19 directly behind 17 and 20 directly behind 9, written out by hand:
+/// of a reading all causes are met, and one after another is put right. A position
+/// that is not below M has no subframe, so 20 and 11 are never met together.
+#[test]
+fn nineteen_and_twenty_in_their_place() {
+    let all = Settings::plain(7, 5, 2048, 2, 0).with_scheduled(65534).with_special(2, 9);
+    let nrb = Settings { config: 5, ..all };
+    let n1 = Settings { nrb: 6, ..nrb };
+    let mode = Settings { n1: 2047, ..n1 };
+    let multiplexing = Settings { mode: 1, ..mode };
+    let blocks = Settings { mode: 0, ..multiplexing };
+    let scheduled = Settings { blocks: 1, ..blocks };
+    let prefix = Settings { scheduled: NONE, ..scheduled };
+    let special = Settings { prefix: 1, ..prefix };
+    let later_release = Settings { special: 7, ..special };
+    let short = Settings { special: 4, ..later_release };
+    let long = Settings { special: 5, ..short };
+    let set = Settings { scheduled: 2046, ..long };
+    let steps: [(u16, Settings, u16, u16, u16); 17] = [
+        (1, all, 10, 7, 2045),
+        (2, nrb, 10, 7, 2045),
+        (3, n1, 10, 7, 2045),
+        (4, mode, 10, 7, 2045),
+        (5, multiplexing, 10, 7, 2045),
+        (6, blocks, 10, 7, 2045),
+        (17, scheduled, 10, 7, 2045),
+        (19, prefix, 10, 7, 2045),
+        (19, special, 10, 7, 2045),
+        (19, later_release, 10, 7, 2045),
+        (7, short, 10, 7, 2045),
+        (20, short, 2, 7, 2045),
+        (11, short, 2, 9, 2045),
+        (18, short, 2, 8, 2045),
+        (18, long, 2, 7, 2045),
+        (13, set, 2, 7, 2045),
+        (14, set, 2, 7, 2046),
+    ];
+    for (number, settings, n, told, resource) in steps {
+        let read = reading(settings, n, told, resource, 2, 2);
+        assert_eq!(read, ReadingAnswer::refused(number), "{settings:?}, n {n}, told {told}");
+    }
+    let read = ReadingAnswer::bundled(7, 0, 1, 0).as_block();
+    assert_eq!(reading(set, 2, 7, 2046, 1, 0), read);
+    let short_and_set = Settings { scheduled: 2046, ..short };
+    for resource in [2045, 2046, 2047] {
+        let read = reading(short_and_set, 2, 7, resource, 1, 0);
+        assert_eq!(read, ReadingAnswer::refused(20), "on {resource}");
+    }
+
+    // 19 comes before 7 in every call with a subframe, and ends the list of make.
+    for settings in [prefix, special, later_release] {
+        assert_eq!(window(settings, 10), WindowAnswer::refused(19));
+        assert_eq!(answered(settings, 10), AnsweredAnswer::refused(19));
+        assert_eq!(resource(settings, 10, 9, 7), ResourceAnswer::refused(19));
+        assert_eq!(inverse(settings, 10, 2045), InverseAnswer::refused(19));
+        let mut scratch = [3; 5];
+        assert_eq!(claims(settings, 10, &[65535], &mut scratch), ClaimsAnswer::refused(19, 0));
+        assert_eq!(scratch, [3; 5]);
+        let made = make(settings);
+        assert_eq!((made.refusal, made.handset), (19, Handset::NONE));
+    }
+    assert_eq!(make(short_and_set).handset, Handset::fresh(short_and_set));
 }

@@ -4,7 +4,7 @@
 
 use feedback_tests::compare::{Comparison, BANDWIDTHS, CCES};
 use feedback_tests::every;
-use feedback_tests::model::{edge, is_uplink, Model, NRB};
+use feedback_tests::model::{edge, is_short, is_uplink, Model, NRB};
 use feedback_tests::random::Random;
 use feedback_tests::{answered, Block, Fed, Grant, Handset, Heard, Release, Settings, Slot, NONE};
 
@@ -237,6 +237,8 @@ fn damaged(handset: Handset) -> Vec<Handset> {
     each(&[0, n1 - 1, n1, n1 + 1, 65534, NONE], &|handset, value| {
         handset.settings.scheduled = value;
     });
+    each(&[0, 1, 2, 65535], &|handset, value| handset.settings.prefix = value);
+    each(&[0, 4, 5, 8, 9, 65535], &|handset, value| handset.settings.special = value);
     each(&[0, 1, 2, 5, 9, 10, 65535], &|handset, value| handset.next = value);
     let cces = edge(nrb, 4);
     for at in 0..13 {
@@ -249,7 +251,7 @@ fn damaged(handset: Handset) -> Vec<Handset> {
 }
 
 /// How many those are.
-const DAMAGED: u64 = 6 + 6 + 5 + 4 + 5 + 6 + 7 + 13 * (6 + 4 + 5 + 7);
+const DAMAGED: u64 = 6 + 6 + 5 + 4 + 5 + 6 + 4 + 6 + 7 + 13 * (6 + 4 + 5 + 7);
 
 /// Each field of a full handset with each of its special values, in every subframe
 /// of every configuration, fed with everything that is allowed and with what meets
@@ -318,24 +320,26 @@ fn every_byte_of_every_slot() {
 }
 
 /// What the station of a random run sends next: nothing, something of any numbers,
-/// or something allowed, with a DAI by the rule, or else with any.
+/// or something allowed, with a DAI by the rule, or else with any. In a special
+/// subframe that is too short for data, a release.
 fn sent(handset: Handset, dai: Option<u16>, random: &mut Random) -> Heard {
     let settings = handset.settings;
     let kind = random.below(16);
     if kind < 3 || (kind > 5 && is_uplink(settings.config, handset.next)) {
         return Heard::Nothing;
     }
+    let is_short = is_short(settings, handset.next);
     match kind {
         3..=5 => random.wild_heard(settings, 3),
-        6..=9 => {
+        6..=9 if !is_short => {
             let grant = random.grant(settings);
             Heard::Grant(Grant { dai: dai.unwrap_or(grant.dai), ..grant })
         }
-        10..=12 => {
+        10..=12 if !is_short => Heard::Block(random.block(settings)),
+        _ => {
             let release = random.release(settings);
             Heard::Release(Release { dai: dai.unwrap_or(release.dai), ..release })
         }
-        _ => Heard::Block(random.block(settings)),
     }
 }
 
@@ -348,7 +352,7 @@ fn random_runs() {
     const FEEDS: u64 = 200;
     let model = Model::new();
     let mut comparison = Comparison::with(&model);
-    let mut on_scheduled = 0;
+    let (mut on_scheduled, mut short_releases) = (0, 0);
     for run in 0..RUNS {
         let mut random = Random::new(1 << 40 | run);
         let mut handset = comparison.make(random.scheduled_settings());
@@ -366,6 +370,9 @@ fn random_runs() {
                 continue;
             }
             let fed = comparison.feed(handset, heard);
+            let is_taken_release = fed.refusal == 0 && matches!(heard, Heard::Release(_));
+            let was_short = is_short(handset.settings, handset.next);
+            short_releases += u64::from(is_taken_release && was_short);
             handset = fed.handset;
             let is_reply = [Fed::BUNDLED, Fed::MULTIPLEXED].contains(&fed.kind);
             on_scheduled += u64::from(is_reply && fed.resource == handset.settings.scheduled);
@@ -380,7 +387,8 @@ fn random_runs() {
         }
     }
     println!("{on_scheduled} replies on the scheduled resource");
-    assert!(on_scheduled > 1000);
-    let refusals = [0, 8, 9, 10, 11, 12, 18];
+    println!("{short_releases} releases in special subframes too short for data");
+    assert!(on_scheduled > 1000 && short_releases > 1000);
+    let refusals = [0, 8, 9, 10, 11, 12, 18, 20];
     comparison.finish_with(RUNS * (1 + FEEDS), &refusals, &[0, 1, 2, 3, 4, 5]);
 }

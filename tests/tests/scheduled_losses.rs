@@ -1,13 +1,14 @@
 //! However the losses fall, the station hears the truth, with a schedule too: runs
 //! of a handset in which every window meets every pattern of grants, releases and
-//! at most one scheduled block, not sent, lost and heard. The station is told where
-//! the block was sent, heard or not. Each reply and its reading are held to what the
+//! at most one scheduled block, not sent, lost and heard. In special subframes that
+//! are too short for data the station sends releases only. It is told where the block
+//! was sent, heard or not. Each reply and its reading are held to what the
 //! papers say of what was sent, heard and decoded. The model gives the windows, the
 //! symbol of a state and the positions that are A in every state with one symbol;
 //! beside this, the engine's answers are compared with the model's own.
 
 use feedback_tests::compare::Comparison;
-use feedback_tests::model::{bundles, edge, is_uplink, Model, Window};
+use feedback_tests::model::{bundles, edge, is_short, is_uplink, Model, Window};
 use feedback_tests::random::Random;
 use feedback_tests::{
     feed, make, reading, resource, Block, Fed, Grant, Handset, Heard, ReadingAnswer, Release,
@@ -15,8 +16,20 @@ use feedback_tests::{
 };
 use std::cmp::Reverse;
 
-/// N_RB, N1 and the scheduled resource of the cells.
-const CELLS: [(u16, u16, u16); 3] = [(6, 1, 0), (50, 10, 9), (110, 2047, 3)];
+/// The cells, of which configuration, mode and blocks are set later.
+const CELLS: [Settings; 3] = [cell(6, 1, 0), cell(50, 10, 9), cell(110, 2047, 3)];
+
+/// Cells with special subframes that are too short for data.
+const SHORT_CELLS: [Settings; 4] = [
+    cell(6, 1, 0).with_special(0, 0),
+    cell(50, 10, 9).with_special(0, 5),
+    cell(110, 2047, 3).with_special(1, 0),
+    cell(50, 10, 9).with_special(1, 4),
+];
+
+const fn cell(nrb: u16, n1: u16, scheduled: u16) -> Settings {
+    Settings::plain(0, nrb, n1, 0, 1).with_scheduled(scheduled)
+}
 
 /// What the station sent in a subframe, with the results it has if it is heard.
 #[derive(Clone, Copy, Debug, PartialEq, Eq)]
@@ -89,10 +102,12 @@ enum Fate {
     Block(Results),
 }
 
-/// The fates of a position without a scheduled block, and those of one with it.
+/// The fates of a position without a scheduled block, and those of one with it; and
+/// those of a position whose subframe is too short for data.
 struct Fates {
     others: Vec<Fate>,
     blocks: Vec<Fate>,
+    without_data: Vec<Fate>,
 }
 
 impl Fates {
@@ -107,7 +122,8 @@ impl Fates {
         let mut others = vec![Fate::Nothing];
         others.extend(results.iter().copied().map(Fate::Grant));
         others.extend([true, false].map(|lost| Fate::Release { lost }));
-        Self { others, blocks: results.into_iter().map(Fate::Block).collect() }
+        let blocks = results.into_iter().map(Fate::Block).collect();
+        Self { others, blocks, without_data: Self::without_data() }
     }
 
     /// Nothing, lost and heard, where it is drawn what comes by PDCCH and what is
@@ -117,7 +133,13 @@ impl Fates {
         Self {
             others: [Fate::Nothing].into_iter().chain(pdcch).collect(),
             blocks: [Results::Lost, Results::Drawn].map(Fate::Block).to_vec(),
+            without_data: Self::without_data(),
         }
+    }
+
+    /// Nothing, and a release, lost and heard.
+    fn without_data() -> Vec<Fate> {
+        vec![Fate::Nothing, Fate::Release { lost: true }, Fate::Release { lost: false }]
     }
 
     /// The same without scheduled blocks.
@@ -125,33 +147,59 @@ impl Fates {
         Self { blocks: Vec::new(), ..self }
     }
 
-    /// The patterns over as many positions with at most one scheduled block.
-    fn number_of_patterns(&self, size: u16) -> u64 {
+    /// The patterns with at most one scheduled block over these positions, of which
+    /// some are short. A block is at one that is not.
+    fn number_of_patterns(&self, short: &[bool]) -> u64 {
         let (others, blocks) = (self.others.len() as u64, self.blocks.len() as u64);
-        others.pow(size.into()) + u64::from(size) * blocks * others.pow(u32::from(size) - 1)
+        let long = short.iter().filter(|short| !**short).count() as u64;
+        let without = self.number_without_blocks(short);
+        without + long * blocks * (without / others)
+    }
+
+    fn number_without_blocks(&self, short: &[bool]) -> u64 {
+        short.iter().map(|short| self.others_at(*short).len() as u64).product()
     }
 
     /// The pattern of a number: first come those without a block.
-    fn pattern(&self, number: u64, size: u16) -> Vec<Fate> {
-        let without = (self.others.len() as u64).pow(size.into());
+    fn pattern(&self, number: u64, short: &[bool]) -> Vec<Fate> {
+        let without = self.number_without_blocks(short);
         if number < without {
-            return self.others_by(number, size);
+            return self.others_by(number, short);
         }
         let mut rest = (number - without) as usize;
-        let place = rest % usize::from(size);
-        rest /= usize::from(size);
+        let long: Vec<usize> = (0..short.len()).filter(|at| !short[*at]).collect();
+        let place = long[rest % long.len()];
+        rest /= long.len();
         let block = self.blocks[rest % self.blocks.len()];
         rest /= self.blocks.len();
-        let mut pattern = self.others_by(rest as u64, size - 1);
+        let mut other_positions = short.to_vec();
+        other_positions.remove(place);
+        let mut pattern = self.others_by(rest as u64, &other_positions);
         pattern.insert(place, block);
         pattern
     }
 
-    fn others_by(&self, number: u64, size: u16) -> Vec<Fate> {
-        let base = self.others.len() as u64;
-        let digit = |at| self.others[(number / base.pow(at) % base) as usize];
-        (0..u32::from(size)).map(digit).collect()
+    fn others_by(&self, mut number: u64, short: &[bool]) -> Vec<Fate> {
+        let digit = |short: &bool| {
+            let others = self.others_at(*short);
+            let fate = others[(number % others.len() as u64) as usize];
+            number /= others.len() as u64;
+            fate
+        };
+        short.iter().map(digit).collect()
     }
+
+    fn others_at(&self, short: bool) -> &[Fate] {
+        match short {
+            true => &self.without_data,
+            false => &self.others,
+        }
+    }
+}
+
+/// Whether the subframe of each position of a window is too short for data.
+fn short_positions(settings: Settings, window: &Window) -> Vec<bool> {
+    window.k.iter().map(|k| is_short(settings, (window.n + 20 - k) % 10)).collect()
 }
 
 /// What a reply is read as.
@@ -317,6 +365,7 @@ struct Met {
     blocks_though_missed: u64,
     lost_blocks: u64,
     releases: u64,
+    short_releases: u64,
     after_four: u64,
     after_eight: u64,
 }
@@ -341,6 +390,8 @@ impl Met {
         self.blocks_after_the_pdcch += u64::from(bundled && later);
         let is_release = matches!(answered.positions[named].what, Heard::Release(_));
         self.releases += u64::from(is_release);
+        let is_short = short_positions(answered.settings, answered.window)[named];
+        self.short_releases += u64::from(is_release && is_short);
         self.after_four += u64::from(bundled && read.scheduled == 0 && lost == 4);
         self.after_eight += u64::from(bundled && read.scheduled == 0 && lost == 8);
     }
@@ -352,6 +403,7 @@ impl Met {
         self.blocks_though_missed += other.blocks_though_missed;
         self.lost_blocks += other.lost_blocks;
         self.releases += other.releases;
+        self.short_releases += other.short_releases;
         self.after_four += other.after_four;
         self.after_eight += other.after_eight;
     }
@@ -371,6 +423,7 @@ struct Run<'a> {
     random: Random,
     checked: u64,
     refused: u64,
+    refused_short: u64,
     met: Met,
 }
 
@@ -395,14 +448,18 @@ impl<'a> Run<'a> {
             random: Random::new(seed),
             checked: 0,
             refused: 0,
+            refused_short: 0,
             met: Met::default(),
         }
     }
 
     fn frames(&self) -> u64 {
-        let patterns = |window: &&Window| self.fates.number_of_patterns(window.size());
-        let longest = self.windows.iter().map(patterns).max().expect("a window");
-        FIRST_FRAMES + longest * self.times
+        let longest = self.windows.iter().map(|window| self.number_of_patterns(window)).max();
+        FIRST_FRAMES + longest.expect("a window") * self.times
+    }
+
+    fn number_of_patterns(&self, window: &Window) -> u64 {
+        self.fates.number_of_patterns(&short_positions(self.settings, window))
     }
 
     /// Fills the run: in each frame, each window has its next pattern, no two of
@@ -412,12 +469,13 @@ impl<'a> Run<'a> {
         self.sent = vec![Sent::NOTHING; 10 * frames as usize];
         let mut used = 0;
         for window in self.windows.clone() {
-            let patterns = self.fates.number_of_patterns(window.size());
+            let short = short_positions(self.settings, window);
+            let patterns = self.number_of_patterns(window);
             let mut seen = vec![false; patterns as usize];
             // Windows past the end of the list count too.
             for frame in 0..frames + FIRST_FRAMES {
                 let number = (frame * STRIDE + u64::from(window.n) * 1013) % patterns;
-                let pattern = self.fates.pattern(number, window.size());
+                let pattern = self.fates.pattern(number, &short);
                 self.send(window, (10 * frame) as usize, &pattern);
                 if (FIRST_FRAMES..frames).contains(&frame) {
                     seen[number as usize] = true;
@@ -574,29 +632,51 @@ impl<'a> Run<'a> {
         ends.find(|(k, n)| (s + k) % 10 == *n).map(|(k, _)| s + k)
     }
 
-    /// A block in the next subframe: refused 18 exactly if a block was heard in the
-    /// window, or no resource is set. Where it is taken, the run goes on without it.
+    /// A block in the next subframe: refused 20 exactly if that is too short for data,
+    /// and else 18 exactly if a block was heard in the window, or no resource is set.
+    /// Where it is taken, the run goes on without it.
     fn check_second_block(&mut self, s: usize, handset: Handset) {
         let Some(uplink) = self.answered_at(s) else { return };
         let second = self.has_block[uplink] || self.settings.scheduled == NONE;
         let block = Block { blocks: self.settings.blocks, first: 1, second: 1 };
         let fed = feed(handset, Heard::Block(block));
         let context = || format!("{:?}, s {s}, {handset:?}", self.settings);
-        match second {
-            true => assert_eq!(fed, Fed::refused(18, handset), "{}", context()),
-            false => assert_eq!(fed, Fed::answer(Fed::TAKEN, fed.handset), "{}", context()),
+        let number = match is_short(self.settings, (s % 10) as u16) {
+            true => 20,
+            false if second => 18,
+            false => 0,
+        };
+        match number {
+            0 => assert_eq!(fed, Fed::answer(Fed::TAKEN, fed.handset), "{}", context()),
+            _ => assert_eq!(fed, Fed::refused(number, handset), "{}", context()),
         }
-        self.refused += u64::from(second);
+        self.count_refused(number);
     }
 
-    /// A block or a release with one thing wrong is refused, and the handset is left.
+    fn count_refused(&mut self, number: u16) {
+        self.refused += u64::from(number != 0);
+        self.refused_short += u64::from(number == 20);
+    }
+
+    /// Something with one thing wrong is refused, and the handset is left: a block or a
+    /// release, and where data is what is wrong a grant too.
     fn check_refused(&mut self, s: usize, handset: Handset) {
         let Settings { config, nrb, blocks, .. } = self.settings;
+        let grant = |blocks| Heard::Grant(Grant { blocks, first: 1, second: 1, cce: 0, dai: 1 });
         let block = |blocks| Heard::Block(Block { blocks, first: 1, second: 1 });
         let release = |cce, dai| Heard::Release(Release { cce, dai });
-        let (number, wrong) = match is_uplink(config, (s % 10) as u16) {
-            true => self.random.one_of(&[(9, block(1)), (9, block(0)), (9, release(0, 1))]),
-            false => self.random.one_of(&[
+        let n = (s % 10) as u16;
+        let (number, wrong) = match (is_uplink(config, n), is_short(self.settings, n)) {
+            (true, _) => self.random.one_of(&[(9, block(1)), (9, block(0)), (9, release(0, 1))]),
+            (_, true) => self.random.one_of(&[
+                (20, grant(1)),
+                (20, grant(0)),
+                (20, block(1)),
+                (20, block(blocks + 1)),
+                (11, release(edge(nrb, 4), 1)),
+                (12, release(0, 5)),
+            ]),
+            _ => self.random.one_of(&[
                 (10, block(0)),
                 (10, block(blocks + 1)),
                 (11, release(edge(nrb, 4), 1)),
@@ -606,30 +686,26 @@ impl<'a> Run<'a> {
         };
         let fed = feed(handset, wrong);
         assert_eq!(fed, Fed::refused(number, handset), "{:?}, s {s}: {wrong:?}", self.settings);
-        self.refused += 1;
+        self.count_refused(number);
     }
 }
 
 /// Runs of these configurations in both modes, if they have both. Shows how many
 /// windows were checked, and what was met in them.
-fn hold(
-    configs: &[u16],
-    blocks: u16,
-    cells: &[(u16, u16, u16)],
-    fates: &Fates,
-    times: u64,
-) -> (u64, Met) {
+fn hold(configs: &[u16], blocks: u16, cells: &[Settings], fates: &Fates, times: u64) -> (u64, Met) {
     let model = Model::new();
     let (mut checked, mut refused, mut used, mut met) = (0, 0, 0, Met::default());
-    for config in configs {
-        for mode in 0..=u16::from(*config != 5) {
-            for (nrb, n1, scheduled) in cells {
-                let settings = Settings::plain(*config, *nrb, *n1, mode, blocks);
-                let settings = settings.with_scheduled(*scheduled);
+    for config in configs.iter().copied() {
+        for mode in 0..=u16::from(config != 5) {
+            for cell in cells {
+                let settings = Settings { config, mode, blocks, ..*cell };
                 let mut run = Run::new(&model, settings, fates, times, used);
                 used += run.fill();
                 run.check();
                 assert_eq!(run.checked, run.frames() * run.windows.len() as u64);
+                let has_short = is_short(settings, 1);
+                assert_eq!(has_short, run.refused_short > 0, "{settings:?}");
+                assert_eq!(has_short, run.met.short_releases > 0, "{settings:?}");
                 checked += run.checked;
                 refused += run.refused;
                 met.add(run.met);
@@ -684,7 +760,7 @@ fn assert_all_met_but_four_lost(met: &Met) {
 fn every_pattern_without_a_scheduled_resource() {
     for blocks in [1, 2] {
         let fates = Fates::all(blocks).without_blocks();
-        let cells = [(6, 0, NONE), (50, 10, NONE)];
+        let cells = [cell(6, 0, NONE), cell(50, 10, NONE)];
         let (checked, met) = hold(&UP_TO_FOUR, blocks, &cells, &fates, 1);
         let base = if blocks == 1 { 6 } else { 10u64 };
         assert_eq!(checked, 2 * windows_of_up_to_four(|size| base.pow(size as u32)));
@@ -702,5 +778,46 @@ fn every_pattern_of_nine() {
         assert!(met.lone_blocks > 0 && met.blocks_after_the_pdcch > 0, "{met:?}");
         assert!(met.blocks_though_missed > 0 && met.lost_blocks > 0, "{met:?}");
         assert!(met.releases > 0 && met.after_four > 0 && met.after_eight > 0, "{met:?}");
+    }
+}
+
+/// Special subframes too short for data, windows of up to four: there nothing is sent
+/// or a release, lost and heard, and elsewhere all that is above. A run lasts as long
+/// as the patterns of its longest window. With l long positions and s short ones, with
+/// so many fates of a long position and so many of a block, those are: in configurations
+/// 0 and 6 a window of one long position, in 1 one long and one short, in 2 three and
+/// one, in 3 two and one, in 4 four long ones.
+#[test]
+fn every_pattern_with_short_specials() {
+    for (blocks, fates, of_block, cells) in
+        [(1, 6, 3, &SHORT_CELLS[..]), (2, 10, 7, &SHORT_CELLS[1..3])]
+    {
+        let (checked, met) = hold(&UP_TO_FOUR, blocks, cells, &Fates::all(blocks), 1);
+        let frames = |long: u32, short: u32| {
+            let with_a_block = u64::from(long) * of_block * u64::pow(fates, long - 1);
+            FIRST_FRAMES + (u64::pow(fates, long) + with_a_block) * 3u64.pow(short)
+        };
+        let windows = [
+            4 * frames(1, 0),
+            4 * frames(1, 1),
+            2 * frames(3, 1),
+            3 * frames(2, 1),
+            2 * frames(4, 0),
+            5 * frames(1, 0),
+        ];
+        assert_eq!(checked, cells.len() as u64 * 2 * windows.iter().sum::<u64>());
+        assert_all_met_but_four_lost(&met);
+    }
+}
+
+/// Likewise the window of nine: 3^9 patterns without a block, and for each of eight
+/// places of a block, heard or lost, 3^8 of the other positions.
+#[test]
+fn every_pattern_of_nine_with_a_short_special() {
+    for (blocks, cells) in [(1, &SHORT_CELLS[..1]), (2, &SHORT_CELLS[3..])] {
+        let (checked, met) = hold(&[5], blocks, cells, &Fates::thirds(), 1);
+        assert_eq!(checked, 2 + 19_683 + 8 * 2 * 6_561);
+        assert!(met.lone_blocks > 0 && met.blocks_though_missed > 0, "{met:?}");
+        assert!(met.after_four > 0 && met.after_eight > 0, "{met:?}");
     }
 }

@@ -244,3 +244,31 @@ fn u01_runs() {
     let tally = Tally::of("u01-runs.csv", text, |case, who| Some(run_line(case, who)));
     tally.finish(158, 0);
 }
+
+#[test]
+fn u02_settings() {
+    let text = include_str!("../data/u02-settings.csv");
+    let tally = Tally::of("u02-settings.csv", text, |case, who| Some(settings_line(case, who)));
+    tally.finish(1628, 0);
+}
+
+#[test]
+fn u02_reading() {
+    let text = include_str!("../data/u02-reading.csv");
+    let tally = Tally::of("u02-reading.csv", text, |case, who| Some(reading_line(case, who)));
+    tally.finish(1224, 0);
+}
+
+/// Likewise the lines that remember a grant or a block with none are left out.
+#[test]
+fn u02_states() {
+    let text = include_str!("../data/u02-states.csv");
+    Tally::of("u02-states.csv", text, state_line).finish(5165 - 432, 432);
+}
+
+#[test]
+fn u02_runs() {
+    let text = include_str!("../data/u02-runs.csv");
+    let tally = Tally::of("u02-runs.csv", text, |case, who| Some(run_line(case, who)));
+    tally.finish(84, 0);
+}

@@ -1,15 +1,16 @@
 -- The definitions that a worked run computes with, under two names for an `unfolding` line.
 -- Assumes nothing.
-use Rattle.frame.specs.Distance.{distanceUpTo, distanceOf, shares}
-use Rattle.frame.specs.Layout.{layouts, letterOf, downlink}
+use Rattle.frame.specs.Distance.{distanceUpTo, distanceOf, subframeOf, shares}
+use Rattle.frame.specs.Layout.{layouts, letterOf, downlink, isSpecial}
 use Rattle.frame.specs.Order.{timesOf, orderOf}
 use Rattle.frame.specs.Settings.{bundles, cellRefusal, modeRefusal, blocksRefusal, hasScheduled, scheduledRefusal, laterRefusal, settingsRefusal, noWindowRefusal, windowRefusal}
+use Rattle.frame.specs.Special.{specialRefusal, noPdsch, tooShort}
 use Rattle.frame.specs.Table.{table, windowOf}
 use Rattle.resource.specs.Calls.{pairRefusal, rangeRefusal, resourceOf, inverseOf}
 use Rattle.resource.specs.Formula.{edge, regionOf, resourceNumber, regionBack, positionBack, cceBack}
 use Rattle.symbols.specs.Delivered.{inSomeRow, deliveredAt, deliveredSet, deliveryOf}
 use Rattle.symbols.specs.Selection.{symbolOf, tableOf, table2, table3, table4}
-use Rattle.heard.specs.Heard.{uplinkRefusal, carriedRefusal, pdcchRefusal, unsetRefusal, heardRefusal, blockBefore, secondRefusal, causeOf, viewOf}
+use Rattle.heard.specs.Heard.{uplinkRefusal, shortRefusal, dataRefusal, carriedRefusal, pdcchRefusal, unsetRefusal, heardRefusal, blockBefore, secondRefusal, causeOf, viewOf}
 use Rattle.heard.specs.Memory.{slotOf, heardIn, viewIn, viewAgo, blockAgo}
 use Rattle.fold.specs.Fold.{stepOf, seenFrom, seenOf}
 use Rattle.reply.specs.Replies.{replyOn, expected, missShown, secondBit, loneAnswer, bundledAnswer, stateOf, carrierOf, windowState, symbolAnswer, multiplexedAnswer, windowAnswer}
@@ -20,7 +21,7 @@ use Rattle.station.specs.Readings.{badBits, bundledReading, multiplexedReading,
 
 -- The causes of a refusal and the windows: what the hypotheses of a run ask.
 unfoldable pub schedules : Unit {0}
-unfolding layouts letterOf downlink timesOf cellRefusal modeRefusal blocksRefusal hasScheduled scheduledRefusal laterRefusal settingsRefusal noWindowRefusal windowRefusal table windowOf distanceUpTo distanceOf shares edge uplinkRefusal carriedRefusal pdcchRefusal unsetRefusal heardRefusal blockBefore secondRefusal causeOf
+unfolding layouts letterOf downlink isSpecial timesOf cellRefusal modeRefusal blocksRefusal hasScheduled scheduledRefusal specialRefusal laterRefusal settingsRefusal noWindowRefusal windowRefusal table windowOf distanceUpTo distanceOf subframeOf shares edge noPdsch tooShort uplinkRefusal shortRefusal dataRefusal carriedRefusal pdcchRefusal unsetRefusal heardRefusal blockBefore secondRefusal causeOf
 schedules = tt
 
 -- The handset's half: making and feeding.

@@ -114,10 +114,10 @@ run-second set good sent schedule items brings i b f alone =
     )
 
 -- What may be told is not refused.
-may-tell : (set : Settings) (n : ℕ) (t : Told) → MayTell set n t → toldRefusal set (sizeOf set n) t ≡ 0
+may-tell : (set : Settings) (n : ℕ) (t : Told) → MayTell set n t → toldRefusal set n t ≡ 0
 unfolding toldRefusal
 may-tell set n told.NotTold h = refl
-may-tell set n (told.At m) h = told-fine set n m (h .0) (h .1)
+may-tell set n (told.At m) h = told-fine set n m (h .0) (h .1) (h .2)
 
 -- The theorem of the third demand: it holds of the engine of this repository.
 pub demand3 : Demand3 feedbackEngine

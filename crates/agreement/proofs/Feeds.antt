@@ -1,6 +1,6 @@
 -- One feed of a run: the handset after a history is fed, and its answer is what demand 3 says.
 -- Assumes nothing.
-use Prim.Native.Nat.{ℕ, zero, suc, _-_, _%_, _<_, _≤_}
+use Prim.Native.Nat.{ℕ, zero, suc, _+_, _-_, _*_, _%_, _<_, _≤_}
 use mathlib.Core.Bool.{true, false, or-true, false≢true}
 use mathlib.Core.List.{List, [], _∷_, map}
 use mathlib.Core.Logic.{_⊎_, inl, inr, _↔_}
@@ -11,8 +11,10 @@ use lib.Dec.{eqb}
 use lib.ListN.{length, getD, List·getD-eq-default}
 use borrow.Author.Tests.{eq-eqb, ne-eqb, le-leb, lt-leb}
 use Rattle.frame.specs.declared.Settings.{Settings}
+use Rattle.frame.specs.Distance.{before, subframeOf}
 use Rattle.frame.specs.Layout.{downlink}
 use Rattle.frame.specs.Settings.{hasScheduled, bundles, settingsRefusal}
+use Rattle.frame.specs.Special.{tooShort}
 use Rattle.frame.specs.Table.{windowOf}
 use Rattle.frame.proofs.Accepted.{Accepted, accepted}
 use Rattle.frame.proofs.Causes.{window-accepted}
@@ -139,33 +141,41 @@ module _ (set : Settings) (good : settingsRefusal set ≡ 0) (sent : ℕ → Sen
   block-sent s (Scheduled x) (inr p) e = ap isSentBlock (sym p)
   block-sent s (Released p) b e = absurd (false≢true e)
 
-  -- one that was sent has one too
-  block-set : (n : ℕ) (s : Send) → heardRefusal set n (asHeard s) ≡ 0 → isSentBlock s ≡ true → hasScheduled set ≡ true
-  block-set n send.Nothing e b = absurd (false≢true b)
-  block-set n (send.Granted g) e b = absurd (false≢true b)
-  block-set n (send.Scheduled x) e b = kinds.valid set n (asHeard (send.Scheduled x)) e .2
-  block-set n (send.Released p) e b = absurd (false≢true b)
+  -- one that was sent has one too, and its subframe is long enough for data
+  block-sound : (n : ℕ) (s : Send) → heardRefusal set n (asHeard s) ≡ 0 → isSentBlock s ≡ true → (hasScheduled set ≡ true) × (tooShort set n ≡ false)
+  block-sound n send.Nothing e b = absurd (false≢true b)
+  block-sound n (send.Granted g) e b = absurd (false≢true b)
+  block-sound n (send.Scheduled x) e b = let v = kinds.valid set n (asHeard (send.Scheduled x)) e in (v .2, v .0 .longEnough)
+  block-sound n (send.Released p) e b = absurd (false≢true b)
 
-  ago-set : (k : ℕ) → isSentBlock (sentAgo sent (length l) k) ≡ true → hasScheduled set ≡ true
-  ago-set k e = go (decLe k (length l)) e
+  ago-sound : (k : ℕ) → isSentBlock (sentAgo sent (length l) k) ≡ true → (hasScheduled set ≡ true) × (tooShort set (before n k) ≡ false)
+  ago-sound k e = go (decLe k (length l)) e
     where
-      go : Dec (k ≤ length l) → isSentBlock (sentAgo sent (length l) k) ≡ true → hasScheduled set ≡ true
-      go (yes h) e = block-set ((length l - k) % 10) (sent (length l - k)) (schedule .valid (length l - k)) (rw (le-leb k (length l) h) at e)
+      go : Dec (k ≤ length l) → isSentBlock (sentAgo sent (length l) k) ≡ true → (hasScheduled set ≡ true) × (tooShort set (before n k) ≡ false)
+      go (yes h) e =
+          let same : (length l % 10 + 9 * k) % 10 ≡ (length l - k) % 10 = omega arith in
+          rw same
+          (block-sound ((length l - k) % 10) (sent (length l - k)) (schedule .valid (length l - k)) (rw (le-leb k (length l) h) at e))
       go (no h) e = absurd (false≢true (rw (lt-leb k (length l) (omega arith)) at e))
 
   -- what the reading is told, and that it may be
   told-there : Told
   told-there = toldOf (windowOf (set .config) n) (sentAgo sent (length l))
 
-  told-right : toldRefusal set (sizeOf set n) told-there ≡ 0
+  told-at : (m : ℕ) → toldOf (windowOf (set .config) n) (sentAgo sent (length l)) ≡ told.At m → toldRefusal set n (told.At m) ≡ 0
+  unfolding subframeOf
+  told-at m e =
+      let p = told-position (sentAgo sent (length l)) (windowOf (set .config) n) m e in
+      let q = ago-sound (getD (windowOf (set .config) n) m 0) (p .1) in
+      told-fine set n m (p .0) (q .0) (q .1)
+
+  told-right : toldRefusal set n told-there ≡ 0
   unfolding told-there toldRefusal
   told-right = go (toldOf (windowOf (set .config) n) (sentAgo sent (length l))) refl
     where
-      go : (t : Told) → toldOf (windowOf (set .config) n) (sentAgo sent (length l)) ≡ t → toldRefusal set (sizeOf set n) t ≡ 0
+      go : (t : Told) → toldOf (windowOf (set .config) n) (sentAgo sent (length l)) ≡ t → toldRefusal set n t ≡ 0
       go told.NotTold e = refl
-      go (told.At m) e =
-          let p = told-position (sentAgo sent (length l)) (windowOf (set .config) n) m e in
-          told-fine set n m (p .0) (ago-set (getD (windowOf (set .config) n) m 0) (p .1))
+      go (told.At m) e = told-at m e
 
   reads-pdcch : ReadsPdcch set n (readIn set sent (length l))
   unfolding told-there
@@ -181,7 +191,7 @@ module _ (set : Settings) (good : settingsRefusal set ≡ 0) (sent : ℕ → Sen
         t .0,
         p .0,
         same,
-        λ b0 b1. rw (t .1) (read-block set n (t .0) (window-accepted set n good some) (p .0) (ago-set k was) b0 b1),
+        λ b0 b1. rw (t .1) (read-block set n (t .0) (window-accepted set n good some) (told-at (t .0) (t .1)) b0 b1),
       )
 
   bundled-mode : (set .mode ≡ 0) ⊎ (length (windowOf (set .config) n) ≡ 1) → bundles set (length (windowOf (set .config) n)) ≡ true

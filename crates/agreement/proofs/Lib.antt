@@ -12,6 +12,7 @@ pub mod Folded
 pub mod Memory
 pub mod MultiplexedWindow
 pub mod NeverRefused
+pub mod SameWindows
 pub mod Second
 pub mod Unchanged
 pub mod Worked

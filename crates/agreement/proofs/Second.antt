@@ -34,7 +34,7 @@ module _ (set : Settings) (heard : List Heard) (s : ℕ) (b : ScheduledBlock) (a
   cause-is = rw alone
 
   down : downlink (set .config) (s % 10) ≡ true
-  down = valid set (s % 10) (Scheduled b) alone .0
+  down = valid set (s % 10) (Scheduled b) alone .0 .isDownlink
 
   -- one that was heard before stands in the run
   in-run : (a : ℕ) → isBlock (heardAgo heard s a) ≡ true → (a ≤ s) × (isBlock (getD heard (s - a) Nothing) ≡ true)

@@ -1,10 +1,12 @@
 -- Runs that meet the hypotheses of demand 3, each with every answer and with the station's reading of every reply: the theorem is
--- about something. N_RB 50, N1 10; the scheduled resource, where one is set, is 7.
+-- about something. N_RB 50, N1 10; the scheduled resource, where one is set, is 7. The prefix is normal and the special configuration
+-- 7, which allows data, but in the cells that are named short.
 -- Assumes nothing.
 use Prim.Native.Nat.{ℕ, suc, zero, _+_, _<_}
 use mathlib.Core.Bool.{Bool, true, false}
 use mathlib.Core.List.{List, [], _∷_}
 use mathlib.Core.Path.{_≡_, refl, ap}
+use native.Mathlib.Omega.{arith}
 use lib.Dec.{T}
 use lib.ListN.{length, getD}
 use Rattle.frame.specs.declared.Settings.{Settings}
@@ -28,9 +30,13 @@ use Rattle.agreement.specs.Run.{Item, feed, itemAt, subframeAt, Schedule
 use Rattle.agreement.proofs.Computing.{handsets, stations}
 use Rattle.agreement.proofs.Finite.{sending, scheduleTest, feedsTest, scheduled, brought}
 
--- a cell of so many blocks and with this scheduled resource
+-- a cell of so many blocks, with this scheduled resource, prefix and special configuration
+abbrev cellOf : ℕ → ℕ → ℕ → ℕ → ℕ → ℕ → Settings
+cellOf blocks scheduled prefix special config mode =
+    record { config = config; nrb = 50; n1 = 10; mode = mode; blocks = blocks; scheduled = scheduled; prefix = prefix; special = special }
+
 abbrev cellWith : ℕ → ℕ → ℕ → ℕ → Settings
-cellWith blocks scheduled config mode = record { config = config; nrb = 50; n1 = 10; mode = mode; blocks = blocks; scheduled = scheduled }
+cellWith blocks scheduled = cellOf blocks scheduled 0 7
 
 -- a cell of one block and one of two, with no scheduled resource
 abbrev pub cell : ℕ → ℕ → Settings
@@ -45,6 +51,13 @@ scheduledCell = cellWith 1 7
 
 abbrev pub scheduledTwoBlockCell : ℕ → ℕ → Settings
 scheduledTwoBlockCell = cellWith 2 7
+
+-- the same whose special subframes are too short for data: special configuration 0 with the normal prefix, 4 with the extended one
+abbrev pub shortCell : ℕ → ℕ → Settings
+shortCell = cellOf 1 7 0 0
+
+abbrev pub shortExtendedCell : ℕ → ℕ → Settings
+shortExtendedCell = cellOf 1 7 1 4
 
 -- n times x, then the rest of a list
 abbrev pub times : {A : Type 0} → ℕ → A → List A → List A
@@ -563,6 +576,34 @@ pub eighteen-left : Left secondBlock 5 × Left noResourceSet 0
 unfolding handsets
 eighteen-left = (refl, refl)
 
+-- Configuration 1 with special subframes too short for data: in subframe 1, which is special, a grant is refused 20, and so are a
+-- grant of 2 blocks, which 10 would refuse elsewhere, and a scheduled block; the release that was sent there is heard and answered in
+-- subframe 7, alone in a window of two.
+abbrev pub shortSpecial : Run
+shortSpecial =
+    record {
+      set = shortCell 1 0;
+      sends = nothing ∷ release 10 1 ∷ [];
+      items = hearsNothing ∷ hears 10 1 true ∷ hearsTwo 10 1 true true ∷ hearsBlock true ∷ hearsRelease 10 1 ∷ times 6 hearsNothing [];
+      answers =
+          answer.Taken ∷ answer.Refused 20 ∷ answer.Refused 20 ∷ answer.Refused 20 ∷ answer.Taken
+          ∷ times 2 answer.Silent (times 3 answer.Taken (reply 1 31 1 0 ∷ []));
+      readings = bundledRead 1 10 1 0 ∷ [];
+    }
+
+pub short-special : Worked shortSpecial
+unfolding handsets stations
+short-special = worked shortSpecial refl tt tt refl refl
+
+pub twenty-left : Left shortSpecial 1 × Left shortSpecial 2 × Left shortSpecial 3
+unfolding handsets
+twenty-left = (refl, refl, refl)
+
+-- With data allowed in special subframes a grant may be sent there (allHeard, above); in such a cell it may not.
+pub no-data-there : Schedule (shortCell 1 0) (sending (grant 1 3 1 ∷ grant 1 10 2 ∷ [])) → ⊥
+unfolding handsets
+no-data-there schedule = omega (arith, schedule .valid 1)
+
 -- Configuration 1: scheduled blocks in 0 and 5, one in the window of subframe 7 and one in that of 12. Both are taken and answered;
 -- the second is not decoded.
 abbrev pub blockInEach : Run
@@ -628,3 +669,20 @@ releaseAtIndex =
 pub release-at-index : Worked releaseAtIndex
 unfolding handsets stations
 release-at-index = worked releaseAtIndex refl tt tt refl refl
+
+-- The extended prefix, with special subframes too short for data: a scheduled block in 4 and a release in 6, which is special, are
+-- heard, a grant in 5 is lost. The state is A,D,D,A. The reply goes on the scheduled resource; the reading is told the block's
+-- position, whose subframe is not special.
+abbrev pub shortMultiplexed : Run
+shortMultiplexed =
+    record {
+      set = shortExtendedCell 2 1;
+      sends = times 4 nothing (block 1 ∷ grant 1 5 1 ∷ release 3 2 ∷ []);
+      items = times 4 hearsNothing (hearsBlock true ∷ hearsNothing ∷ hearsRelease 3 2 ∷ times 6 hearsNothing []);
+      answers = answersInTwo (reply 2 7 0 1);
+      readings = multiplexedBlockRead 0 9 ∷ [];
+    }
+
+pub short-multiplexed : Worked shortMultiplexed
+unfolding handsets stations
+short-multiplexed = worked shortMultiplexed refl tt tt refl refl

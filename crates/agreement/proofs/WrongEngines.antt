@@ -19,9 +19,14 @@
 --                   18 is not known: a second scheduled block of a window is taken         not-takes-second-block
 --                       and one where no resource is set                                   not-takes-unset-block
 --                   18 for a scheduled block after one in another window                   not-refuses-across
+--                   20 is not known: a grant in a subframe too short for data is taken     not-takes-short-grant
+--                       and a scheduled block                                              not-takes-short-block
+--                   20 for a release too                                                   not-refuses-short-release
 --   second          a second scheduled block of a window is taken                          not-takes-second-in-window
 --                   18 for a scheduled block after one in another window                   not-refuses-across-windows
 --   leaves          9 whatever the cause                                                   not-refuses-with-nine
+--                   9 for 20                                                               not-nine-for-twenty
+--                   10 before 20                                                           not-ten-before-twenty
 --                   the handset moves on at a refused feed                                 not-moves-on
 --   taken           "silent" for "taken"                                                   not-silent-for-taken
 --   noWindow        "silent" for "no window"                                               not-silent-for-no-window
@@ -63,6 +68,7 @@
 --   isSymbol        the bits exchanged: another row's symbol                               not-exchanged-symbol
 --                   deaf to scheduled blocks                                               not-deaf-to-blocks-multiplexed
 --                   a release counts as not decoded                                        not-fails-release-multiplexed
+--                   deaf in special subframes too short for data                           not-deaf-in-short
 --   isHeard         the right position with the first CCE of another heard grant           not-on-first-cce
 --                   a scheduled block is answered as a grant with first CCE 0              not-grants-block-multiplexed
 --   onResource      on the resource of the first heard grant                               not-on-first-multiplexed
@@ -118,7 +124,7 @@ use Rattle.agreement.specs.Run.{feed, itemAt, heardInRun, subframeAt, se
 use Rattle.agreement.specs.Window.{inTime, Bundled, ReadAs, MultiplexedReply, Multiplexed}
 use Rattle.agreement.proofs.Computing.{schedules}
 use Rattle.agreement.proofs.Finite.{sending}
-use Rattle.agreement.proofs.Worked.{Run, Worked, fed-nothing, allHeard, all-heard, missed, first-missed, oneUndecoded, one-undecoded, twoWindows, two-windows, shared, symbol-shared, loneBlock, lone-block, blockLast, block-last, missedWithBlock, missed-with-block, releaseLast, release-last, blockAtIndex, block-at-index, releaseAtIndex, release-at-index}
+use Rattle.agreement.proofs.Worked.{Run, Worked, fed-nothing, allHeard, all-heard, missed, first-missed, oneUndecoded, one-undecoded, twoWindows, two-windows, shared, symbol-shared, loneBlock, lone-block, blockLast, block-last, missedWithBlock, missed-with-block, releaseLast, release-last, blockAtIndex, block-at-index, releaseAtIndex, release-at-index, shortMultiplexed, short-multiplexed}
 
 -- The engine of this repository, with another making, feeding, resource call, inverse or reading.
 abbrev pub engine : (Settings → Made) → (Handset → Heard → Fed) → (Settings → ℕ → ℕ → ℕ → Mapped) → (Settings → ℕ → ℕ → Inverted)
@@ -277,3 +283,8 @@ module _ (e : Engine) (d : Demand3 e) where
   pub in-release-at-index : MultiplexedIn e releaseAtIndex 12
   unfolding schedules
   in-release-at-index = multiplexed-in releaseAtIndex release-at-index 12 (omega arith) refl refl (omega arith) refl
+
+  -- A release is heard in a special subframe too short for data.
+  pub in-short-multiplexed : MultiplexedIn e shortMultiplexed 12
+  unfolding schedules
+  in-short-multiplexed = multiplexed-in shortMultiplexed short-multiplexed 12 (omega arith) refl refl (omega arith) refl

@@ -9,10 +9,12 @@ use native.Mathlib.Omega.{arith}
 use lib.Dec.{eqb, ltb}
 use lib.ListN.{getD}
 use Rattle.frame.specs.declared.Settings.{Settings}
+use Rattle.frame.specs.Distance.{before}
 use Rattle.frame.specs.Layout.{downlink}
 use Rattle.frame.specs.Once.{InWindow}
 use Rattle.frame.specs.Order.{orderOf}
 use Rattle.frame.specs.Settings.{orElse}
+use Rattle.frame.specs.Special.{tooShort}
 use Rattle.frame.specs.Table.{windowOf}
 use Rattle.frame.proofs.Windows.{exactly-one}
 use Rattle.resource.specs.declared.Inverted.{Inverted}
@@ -26,6 +28,7 @@ use Rattle.heard.specs.declared.Release.{Release}
 use Rattle.heard.specs.declared.ScheduledBlock.{ScheduledBlock}
 use Rattle.heard.specs.declared.Slot.{Slot}
 use Rattle.heard.specs.declared.View.{View}
+use Rattle.heard.specs.declared.View.the-variants.{Unheard}
 use Rattle.heard.specs.Heard.{isBlock, viewOf}
 use Rattle.heard.specs.Memory.{none, bit, heardIn, viewAgo}
 use Rattle.fold.specs.declared.Seen.{Seen}
@@ -45,9 +48,10 @@ use Rattle.station.specs.declared.Told.{Told}
 use Rattle.station.specs.Readings.{readOf}
 use Rattle.agreement.specs.Demand3.{Engine, Demand3}
 use Rattle.agreement.specs.Run.{heardInRun}
+use Rattle.agreement.specs.Window.{isHeard}
 use Rattle.agreement.proofs.Computing.{schedules, handsets, stations}
-use Rattle.agreement.proofs.Worked.{answer-at, fed-nothing, cell, scheduledTwoBlockCell, heardGrant, heardBlock, reply, allHeard, all-heard, missed, first-missed, oneUndecoded, one-undecoded, refusedFeeds, refused-feeds, twoWindows, two-windows, shared, symbol-shared, loneBlock, lone-block, secondBlock, second-block, noResourceSet, no-resource-set, blockInEach, block-in-each, blockAtIndex, block-at-index}
-use Rattle.agreement.proofs.WrongEngines.{engine, madeBy, fedBy, changed, knowsBy, answersBy, answering, replying, replyingIn, sentOn, withBits, same-answer, same-resource, symbol-parts, named-at, one-lost, holds-in, in-all-heard, in-missed, in-one-undecoded, in-two-windows, in-shared, in-shared-before, in-lone-block, in-block-last, in-missed-with-block, in-release-last, in-block-at-index, in-release-at-index}
+use Rattle.agreement.proofs.Worked.{answer-at, fed-nothing, cell, scheduledTwoBlockCell, heardGrant, heardBlock, reply, allHeard, all-heard, missed, first-missed, oneUndecoded, one-undecoded, refusedFeeds, refused-feeds, twoWindows, two-windows, shared, symbol-shared, loneBlock, lone-block, secondBlock, second-block, noResourceSet, no-resource-set, shortSpecial, short-special, blockInEach, block-in-each, blockAtIndex, block-at-index}
+use Rattle.agreement.proofs.WrongEngines.{engine, madeBy, fedBy, changed, knowsBy, answersBy, answering, replying, replyingIn, sentOn, withBits, same-answer, same-resource, symbol-parts, named-at, one-lost, holds-in, in-all-heard, in-missed, in-one-undecoded, in-two-windows, in-shared, in-shared-before, in-lone-block, in-block-last, in-missed-with-block, in-release-last, in-block-at-index, in-release-at-index, in-short-multiplexed}
 
 -- Making.
 
@@ -148,7 +152,66 @@ not-refuses-across d =
     holds-in (fedBy refusesAcross) d blockInEach block-in-each .refusedExactly 5 (heardBlock false) (record { inside = omega arith; brings = refl }) .0
     (18, refl) refl
 
--- The same two, by the words of the window table: subframes 4 and 5 of configuration 2 are in the window of 12; of configuration 1,
+-- One that does not know 20: it takes a grant in a subframe too short for data; and one that knows it for grants alone.
+abbrev pub takesTwenty : Handset → Heard → Fed
+takesTwenty h x = fedAs (cond (eqb (feedRefusal h x) 20) 0 (feedRefusal h x)) h x
+
+pub not-takes-short-grant : Demand3 (fedBy takesTwenty) → ⊥
+unfolding handsets
+not-takes-short-grant d =
+    let r = holds-in (fedBy takesTwenty) d shortSpecial short-special .refusedExactly 1 (heardGrant 1 10 1 true false)
+    (record { inside = omega arith; brings = refl }) .1 (λ e. omega arith) in
+    omega (arith, same-answer {b = answer.Taken} refl (r .1))
+
+abbrev pub takesShortBlock : Handset → Heard → Fed
+takesShortBlock h x = fedAs (cond (eqb (feedRefusal h x) 20 && isBlock x) 0 (feedRefusal h x)) h x
+
+pub not-takes-short-block : Demand3 (fedBy takesShortBlock) → ⊥
+unfolding handsets
+not-takes-short-block d =
+    let r = holds-in (fedBy takesShortBlock) d shortSpecial short-special .refusedExactly 3 (heardBlock true)
+    (record { inside = omega arith; brings = refl }) .1 (λ e. omega arith) in
+    omega (arith, same-answer {b = answer.Taken} refl (r .1))
+
+-- One that refuses a release there too.
+abbrev pub refusesShortRelease : Handset → Heard → Fed
+refusesShortRelease h x = fedAs (orElse (feedRefusal h x) (cond (isHeard x && tooShort (h .settings) (h .next)) 20 0)) h x
+
+pub not-refuses-short-release : Demand3 (fedBy refusesShortRelease) → ⊥
+unfolding handsets
+not-refuses-short-release d =
+    holds-in (fedBy refusesShortRelease) d shortSpecial short-special .refusedExactly 4 (Released (record { cce = record { 0 = 10 }; dai = 1 }))
+    (record { inside = omega arith; brings = refl }) .0 (20, refl) refl
+
+-- One that takes such a subframe for an uplink one: 9 for 20.
+abbrev pub nineForTwenty : Answer → Answer
+nineForTwenty = answering answer.Taken answer.NoWindow answer.Silent answer.Sent (λ (k : ℕ). answer.Refused (cond (eqb k 20) 9 k))
+
+pub not-nine-for-twenty : Demand3 (answersBy nineForTwenty) → ⊥
+unfolding schedules
+not-nine-for-twenty d =
+    let l = holds-in (answersBy nineForTwenty) d shortSpecial short-special .leaves 1 (heardGrant 1 10 1 true false)
+    (record { inside = omega arith; brings = refl }) (λ e. omega arith) in
+    omega (arith, same-answer (ap nineForTwenty (answer-at shortSpecial short-special 1)) (ap (λ (f : Fed). f .answer) l))
+
+-- One that looks at the blocks carried first: 10 for a grant of 2 blocks there.
+abbrev carriesTooMany : Settings → Heard → Bool
+carriesTooMany s Nothing = false
+carriesTooMany s (Granted g) = ltb (s .blocks) (g .blocks)
+carriesTooMany s (Scheduled b) = ltb (s .blocks) (b .blocks)
+carriesTooMany s (Released p) = false
+
+abbrev pub tenBeforeTwenty : Handset → Heard → Fed
+tenBeforeTwenty h x = fedAs (cond (eqb (feedRefusal h x) 20 && carriesTooMany (h .settings) x) 10 (feedRefusal h x)) h x
+
+pub not-ten-before-twenty : Demand3 (fedBy tenBeforeTwenty) → ⊥
+unfolding handsets
+not-ten-before-twenty d =
+    let l = holds-in (fedBy tenBeforeTwenty) d shortSpecial short-special .leaves 2 (heardGrant 2 10 1 true true)
+    (record { inside = omega arith; brings = refl }) (λ e. omega arith) in
+    omega (arith, same-answer {b = answer.Refused 10} refl (ap (λ (f : Fed). f .answer) l))
+
+-- The two of 18, by the words of the window table: subframes 4 and 5 of configuration 2 are in the window of 12; of configuration 1,
 -- subframe 0 is in that of 7 and subframe 5 in that of 12.
 pub not-takes-second-in-window : Demand3 (fedBy takesEighteen) → ⊥
 unfolding handsets
@@ -437,6 +500,18 @@ unfolding handsets
 not-deaf-to-blocks-multiplexed d =
     let m = in-block-at-index (knowsBy deafToBlocks) d .1 _ refl in
     omega (arith, symbol-parts 1 1 0 _ _ _ (m .isSymbol) .2)
+
+-- What comes in a subframe too short for data is not heard: as if it were in no window.
+abbrev pub deafInShort : Handset → Answer → Answer
+deafInShort h =
+    let other : Answer = windowAnswer (h .settings) (h .next) (λ (k : ℕ). cond (tooShort (h .settings) (before (h .next) k)) Unheard (viewAgo (h .past) k)) in
+    answering answer.Taken answer.NoWindow other (λ (r : Reply). other) answer.Refused
+
+pub not-deaf-in-short : Demand3 (knowsBy deafInShort) → ⊥
+unfolding handsets
+not-deaf-in-short d =
+    let m = in-short-multiplexed (knowsBy deafInShort) d .1 _ refl in
+    omega (arith, symbol-parts 0 0 1 _ _ _ (m .isSymbol) .1)
 
 -- A release counts as a grant whose block is not decoded.
 abbrev pub failsRelease : Handset → Answer → Answer

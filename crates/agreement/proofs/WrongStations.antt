@@ -132,7 +132,7 @@ scheduledOnly s n (told.At m) r b0 b1 = cond (eqb r (s .scheduled)) (readOf s n 
 pub not-scheduled-only : Demand3 (readBy scheduledOnly) → ⊥
 unfolding handsets
 not-scheduled-only d =
-    ⊎-elim (λ e. omega (arith, ap readingNumber e)) (λ e. e) (d .givesBack (scheduledCell 2 0) 2 3 20 111 1 0 (told.At 1) (omega arith, refl) refl)
+    ⊎-elim (λ e. omega (arith, ap readingNumber e)) (λ e. e) (d .givesBack (scheduledCell 2 0) 2 3 20 111 1 0 (told.At 1) (omega arith, refl, refl) refl)
 
 -- It does not listen to what it is told: the scheduled resource is refused 13.
 abbrev pub untold : Settings → ℕ → Told → ℕ → ℕ → ℕ → Reading

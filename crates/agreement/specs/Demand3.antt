@@ -10,9 +10,11 @@ use mathlib.Core.Logic.{_⊎_, _↔_}
 use mathlib.Core.Path.{_≡_}
 use lib.ListN.{length, getD, take}
 use Rattle.frame.specs.declared.Settings.{Settings}
+use Rattle.frame.specs.Distance.{subframeOf}
 use Rattle.frame.specs.Layout.{downlink}
 use Rattle.frame.specs.Once.{InWindow, InExactlyOne}
 use Rattle.frame.specs.Settings.{hasScheduled, settingsRefusal, windowRefusal}
+use Rattle.frame.specs.Special.{tooShort}
 use Rattle.confirmation.specs.declared.Send.{Send}
 use Rattle.confirmation.specs.Sent.{toldOf}
 use Rattle.resource.specs.declared.Inverted.{Inverted}
@@ -79,10 +81,11 @@ pub record IsSubframe (set : Settings) (items : List Item) (i s : ℕ) (x : Hear
 abbrev pub readingIn : Engine → Settings → (ℕ → Send) → ℕ → ℕ → ℕ → ℕ → Reading
 readingIn e set sent s = e .read set (s % 10) (toldOf (windowAt set s) (sentAgo sent s))
 
--- What the reading may be told in the window of n: nothing, or a position of the window where a scheduled resource is set.
+-- What the reading may be told in the window of n: nothing, or a position of the window where a scheduled resource is set, whose
+-- subframe is not too short for data (U2).
 abbrev pub MayTell : Settings → ℕ → Told → Type 0
 MayTell set n told.NotTold = Unit {0}
-MayTell set n (told.At m) = (m < sizeOf set n) × (hasScheduled set ≡ true)
+MayTell set n (told.At m) = (m < sizeOf set n) × (hasScheduled set ≡ true) × (tooShort set (subframeOf (set .config) n m) ≡ false)
 
 -- A scheduled block was heard in an earlier subframe d of the window that subframe s is in.
 abbrev pub SecondIn : ℕ → List Heard → ℕ → Type 0

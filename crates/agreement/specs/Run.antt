@@ -35,7 +35,7 @@ handsetAfter step h (feed x ∷ items) = handsetAfter step (step h x .handset) i
 
 -- "A feed is refused exactly when a cause for a feed, .., is met at the run's next subframe, ..; .. what it brought is neither sent
 -- nor heard. The other feeds, counted s = 0, 1, 2, .., are the run's subframes, s mod 10 in the frame."
--- The refusal of x at the subframe after `past`, the newest first: 9 to 12, then 18, which looks at the blocks heard before.
+-- The refusal of x at the subframe after `past`, the newest first: 9 to 12 and 20, then 18, which looks at the blocks heard before.
 abbrev pub causeAfter : Settings → List Heard → Heard → ℕ
 causeAfter set past x = causeOf set (length past % 10) (λ (a : ℕ). isHeardBlock (getD past (a - 1) Nothing)) x
 
@@ -60,7 +60,7 @@ sentOf (Granted g) = send.Granted (record { blocks = g .blocks; cce = g .cce; da
 sentOf (Scheduled b) = send.Scheduled (record { blocks = b .blocks })
 sentOf (Released p) = send.Released (record { cce = p .cce; dai = p .dai })
 
--- What was sent as 9 to 12 and 18 look at it; they don't look at its decoding.
+-- What was sent as 9 to 12, 18 and 20 look at it; they don't look at its decoding.
 abbrev pub asHeard : Send → Heard
 asHeard send.Nothing = Nothing
 asHeard (send.Granted g) = Granted (record { blocks = g .blocks; first = false; second = false; cce = g .cce; dai = g .dai })
@@ -89,7 +89,7 @@ RuleFrom j (x ∷ sends) = (isPdcch x ≡ true → daiOf x ≡ j % 4 + 1) × Rul
 -- hold scheduled blocks", and releases.
 pub record Schedule (set : Settings) (sent : ℕ → Send) : Type 0 where
   -- "A grant, heard or lost, is valid if neither 9 to 12 below nor a refusal of a feed added later would refuse it"; 9 leaves uplink
-  -- subframes nothing, and 18 a block its resource.
+  -- subframes nothing, 20 leaves special ones too short for data a release, and 18 a block its resource.
   pub valid : (s : ℕ) → heardRefusal set (s % 10) (asHeard (sent s)) ≡ 0
   pub rule : (s : ℕ) → RuleFrom 0 (map (sentAgo sent s) (timesOf (windowAt set s)))
   -- U1: scheduled blocks, "at most one sent in a window", heard or lost

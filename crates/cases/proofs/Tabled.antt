@@ -3,6 +3,7 @@
 use mathlib.Core.Path.{refl}
 use Rattle.frame.specs.Order.{timesOf, orderOf}
 use Rattle.frame.specs.Settings.{bundles, cellRefusal, modeRefusal, blocksRefusal, hasScheduled, scheduledRefusal, laterRefusal, settingsRefusal, noWindowRefusal, windowRefusal}
+use Rattle.frame.specs.Special.{specialRefusal}
 use Rattle.frame.specs.Table.{table, windowOf}
 use Rattle.resource.specs.Calls.{pairRefusal, rangeRefusal, resourceOf, inverseOf}
 use Rattle.resource.specs.Formula.{edge, regionOf, resourceNumber}
@@ -12,7 +13,7 @@ use Rattle.reply.specs.Replies.{expected, missShown, bundledAnswer, windowAnswe
 use Rattle.cases.specs.Tabled.{Tabled}
 
 pub tabled : Tabled
-unfolding timesOf orderOf bundles cellRefusal modeRefusal blocksRefusal hasScheduled scheduledRefusal laterRefusal settingsRefusal noWindowRefusal windowRefusal table windowOf pairRefusal rangeRefusal resourceOf inverseOf edge regionOf resourceNumber stepOf seenFrom seenOf viewOf expected missShown bundledAnswer windowAnswer
+unfolding timesOf orderOf bundles cellRefusal modeRefusal blocksRefusal hasScheduled scheduledRefusal specialRefusal laterRefusal settingsRefusal noWindowRefusal windowRefusal table windowOf pairRefusal rangeRefusal resourceOf inverseOf edge regionOf resourceNumber stepOf seenFrom seenOf viewOf expected missShown bundledAnswer windowAnswer
 tabled =
     record {
       bandwidth50 = refl;

@@ -28,7 +28,7 @@ edges nrb = map (edge nrb) (0 ∷ 1 ∷ 2 ∷ 3 ∷ 4 ∷ [])
 
 -- a cell with N_RB 50 and N1 10, in mode 0, of one block, with no scheduled resource
 abbrev pub cell : ℕ → Settings
-cell config = record { config = config; nrb = 50; n1 = 10; mode = 0; blocks = 1; scheduled = noResource }
+cell config = record { config = config; nrb = 50; n1 = 10; mode = 0; blocks = 1; scheduled = noResource; prefix = 0; special = 7 }
 
 -- the position of a subframe in the window of n, from the table: the first m whose k_m leads to it
 abbrev pub subframePosition : ℕ → ℕ → List ℕ → ℕ

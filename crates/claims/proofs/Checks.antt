@@ -29,7 +29,7 @@ module _ (s : Settings) (n : ℕ) (claims old : List ℕ) where
   refused-as k zero next v e h = absurd (h e)
   refused-as k (suc w) next v e h = rw e
 
-  -- 1 to 6, 17 and 7
+  -- 1 to 6, 17, 19 and 7
   pub refused : (k : ℕ) → k ≡ windowRefusal s n → (k ≡ 0 → ⊥) → Right (Refused k 0) old
   unfolding checkedOf scratchRefusal
   refused k e h = right (Refused k 0) old (refused-as k (windowRefusal s n) _ _ e h) refl

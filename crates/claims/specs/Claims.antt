@@ -59,7 +59,7 @@ earlier s n claims (suc i) claim = clashes s n (getD claims i 0) claim || earlie
 unfoldable pub firstClash : Settings → ℕ → List ℕ → ℕ
 firstClash s n claims = firstIndex (λ (i : ℕ). earlier s n claims i (getD claims i 0)) (length claims) 0
 
--- 15: scratch shorter than M × N_4. A call refuses 1 to 6, 17 and 7, then 15. `lent` is the length of the scratch.
+-- 15: scratch shorter than M × N_4. A call refuses 1 to 6, 17, 19 and 7, then 15. `lent` is the length of the scratch.
 unfoldable pub scratchRefusal : Settings → ℕ → ℕ → ℕ
 scratchRefusal s n lent = orElse (windowRefusal s n) (cond (ltb lent (roomOf s n)) 15 0)
 

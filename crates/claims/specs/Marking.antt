@@ -17,7 +17,7 @@ use Rattle.claims.specs.Claims.{claimed, roomOf, isBad, firstBad, marked
 abbrev pub Has : Settings → ℕ → ℕ → ℕ → Type 0
 Has s n claim r = claimed s n claim ≡ mapped.At (record { 0 = r })
 
--- 1 to 6, 17 and 7 are not met, and the numbers are M and N_4.
+-- 1 to 6, 17, 19 and 7 are not met, and the numbers are M and N_4.
 pub record AcceptedWindow (w : ClaimedWindow) : Type 0 where
   pub accepted : windowRefusal (w .s) (w .n) ≡ 0
   pub positions : w .size ≡ sizeOf (w .s) (w .n)

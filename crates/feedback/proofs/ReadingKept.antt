@@ -67,4 +67,4 @@ module _ (s : Settings) (b0 b1 : ℕ) where
 pub reading-kept : (s : Settings) (n : ℕ) (t : Told) (r b0 b1 : ℕ) → ReadingKept (readOf s n t r b0 b1)
 unfolding readOf
 reading-kept s n t r b0 b1 =
-    read-as-kept s b0 b1 (orElse (windowRefusal s n) (toldRefusal s (sizeOf s n) t)) (readOn s n t r b0 b1) (read-on-kept s b0 b1 n t r)
+    read-as-kept s b0 b1 (orElse (windowRefusal s n) (toldRefusal s n t)) (readOn s n t r b0 b1) (read-on-kept s b0 b1 n t r)

@@ -262,10 +262,10 @@ fn fed_numbers(f: Fed) -> FedAnswer
 
 // The number of the structs' layout, which the name carries too: a program that was compiled for another layout does not link.
 #[no_mangle]
-pub extern "C" fn feedback_layout_2() -> u16
-    ensures { λ r. ⌜ r ≡ 2 ⌝ }
+pub extern "C" fn feedback_layout_3() -> u16
+    ensures { λ r. ⌜ r ≡ 3 ⌝ }
 {
-    2
+    3
 }
 
 #[no_mangle]

@@ -10,6 +10,7 @@ use lib.ListN.{length}
 use borrow.Author.Tests.{ltb-true, ltb-false, eq-eqb, ne-eqb, lt-ltb, le-ltb, eqb-false}
 use Rattle.frame.specs.declared.Settings.{Settings}
 use Rattle.frame.specs.Settings.{orElse, outside, cellRefusal, modeRefusal, blocksRefusal, hasScheduled, scheduledRefusal, laterRefusal, settingsRefusal, noWindowRefusal, windowRefusal}
+use Rattle.frame.specs.Special.{lastSpecial, specialRefusal}
 use Rattle.frame.specs.Table.{windowOf}
 
 pub record Accepted (s : Settings) : Type 0 where
@@ -22,6 +23,8 @@ pub record Accepted (s : Settings) : Type 0 where
   pub blocksLeast : 1 ≤ s .blocks
   pub blocksMost : s .blocks ≤ 2
   pub scheduledLow : hasScheduled s ≡ true → s .scheduled < s .n1
+  pub prefix : s .prefix ≤ 1
+  pub special : s .special ≤ lastSpecial (s .prefix)
 
 -- No refusal of two is neither.
 pub neither : (k next : ℕ) → orElse k next ≡ 0 → (k ≡ 0) × (next ≡ 0)
@@ -33,14 +36,16 @@ pub unmet : (b : Bool) (k next : ℕ) → cond b (suc k) next ≡ 0 → (b ≡ f
 unmet true k next e = absurd (omega arith)
 unmet false k next e = (refl, e)
 
+-- Neither of two tests holds.
+neither-test : (a b : Bool) → (a || b) ≡ false → (a ≡ false) × (b ≡ false)
+neither-test true b e = absurd (false≢true (sym e))
+neither-test false b e = (refl, e)
+
 -- A number that is not outside lies between.
 pub between : (low high x : ℕ) → outside low high x ≡ false → (low ≤ x) × (x ≤ high)
-between low high x e = go (ltb x low) (ltb high x) refl refl e
-  where
-    go : (a b : Bool) → ltb x low ≡ a → ltb high x ≡ b → (a || b) ≡ false → (low ≤ x) × (x ≤ high)
-    go true b p q r = let z : _≡_ {A = ℕ} 0 1 = cc in absurd (omega arith)
-    go false true p q r = let z : _≡_ {A = ℕ} 0 1 = cc in absurd (omega arith)
-    go false false p q r = (ltb-false x low p, ltb-false high x q)
+between low high x e =
+    let p = neither-test (ltb x low) (ltb high x) e in
+    (ltb-false x low (p .0), ltb-false high x (p .1))
 
 pub not-outside : (low high x : ℕ) → low ≤ x → x ≤ high → outside low high x ≡ false
 not-outside low high x l h = rw (le-ltb x low l, le-ltb high x h)
@@ -60,9 +65,9 @@ low-where-set true r n1 e h = go (ltb r n1) refl e
     go false b e = absurd (false≢true (sym e))
 
 pub accepted : (s : Settings) → settingsRefusal s ≡ 0 → Accepted s
-unfolding settingsRefusal cellRefusal modeRefusal blocksRefusal laterRefusal scheduledRefusal
-accepted s e =
-    let a = neither (cellRefusal s) (orElse (modeRefusal s) (orElse (blocksRefusal s) (laterRefusal s))) e in
+unfolding settingsRefusal cellRefusal modeRefusal blocksRefusal laterRefusal scheduledRefusal specialRefusal
+accepted s none =
+    let a = neither (cellRefusal s) (orElse (modeRefusal s) (orElse (blocksRefusal s) (laterRefusal s))) none in
     let b = neither (modeRefusal s) (orElse (blocksRefusal s) (laterRefusal s)) (a .1) in
     let d = neither (blocksRefusal s) (laterRefusal s) (b .1) in
     let config = unmet (ltb 6 (s .config)) 0 (cond (outside 6 110 (s .nrb)) 2 (cond (ltb 2047 (s .n1)) 3 0)) (a .0) in
@@ -71,7 +76,9 @@ accepted s e =
     let mode = unmet (ltb 1 (s .mode)) 3 (cond (eqb (s .mode) 1 && eqb (s .config) 5) 5 0) (b .0) in
     let five = unmet (eqb (s .mode) 1 && eqb (s .config) 5) 4 0 (mode .1) in
     let blocks = unmet (outside 1 2 (s .blocks)) 5 0 (d .0) in
-    let scheduled = unmet (hasScheduled s && not (ltb (s .scheduled) (s .n1))) 16 0 (d .1) in
+    let e = neither (scheduledRefusal s) (specialRefusal s) (d .1) in
+    let scheduled = unmet (hasScheduled s && not (ltb (s .scheduled) (s .n1))) 16 0 (e .0) in
+    let special = neither-test (ltb 1 (s .prefix)) _ (unmet (ltb 1 (s .prefix) || ltb (lastSpecial (s .prefix)) (s .special)) 18 0 (e .1) .0) in
     record {
       config = ltb-false 6 (s .config) (config .0);
       nrbLeast = between 6 110 (s .nrb) (nrb .0) .0;
@@ -82,6 +89,8 @@ accepted s e =
       blocksLeast = between 1 2 (s .blocks) (blocks .0) .0;
       blocksMost = between 1 2 (s .blocks) (blocks .0) .1;
       scheduledLow = low-where-set (hasScheduled s) (s .scheduled) (s .n1) (scheduled .0);
+      prefix = ltb-false 1 (s .prefix) (special .0);
+      special = ltb-false (lastSpecial (s .prefix)) (s .special) (special .1);
     }
 
 five-unmet : (m c : ℕ) → (m ≡ 1 → c ≡ 5 → ⊥) → (eqb m 1 && eqb c 5) ≡ false
@@ -92,7 +101,7 @@ set-is-low false r n1 h = refl
 set-is-low true r n1 h = rw (lt-ltb r n1 (h refl))
 
 pub accepting : (s : Settings) → Accepted s → settingsRefusal s ≡ 0
-unfolding settingsRefusal cellRefusal modeRefusal blocksRefusal laterRefusal scheduledRefusal
+unfolding settingsRefusal cellRefusal modeRefusal blocksRefusal laterRefusal scheduledRefusal specialRefusal
 accepting s a =
     rw (
       le-ltb 6 (s .config) (a .config),
@@ -102,9 +111,11 @@ accepting s a =
       five-unmet (s .mode) (s .config) (a .noFive),
       not-outside 1 2 (s .blocks) (a .blocksLeast) (a .blocksMost),
       set-is-low (hasScheduled s) (s .scheduled) (s .n1) (a .scheduledLow),
+      le-ltb 1 (s .prefix) (a .prefix),
+      le-ltb (lastSpecial (s .prefix)) (s .special) (a .special),
     )
 
--- Where 1 to 7 and 17 are not met, the settings are accepted and n has a window.
+-- Where 1 to 7, 17 and 19 are not met, the settings are accepted and n has a window.
 pub answered : (s : Settings) (n : ℕ) → windowRefusal s n ≡ 0 → Accepted s × (0 < length (windowOf (s .config) n))
 unfolding windowRefusal noWindowRefusal
 answered s n e =

@@ -32,6 +32,10 @@ uplinkOf c d = (d + distanceOf c d) % 10
 abbrev pub before : ℕ → ℕ → ℕ
 before n a = (n + 9 * a) % 10
 
+-- The subframe at position m of the window of n, by its number in the frame: 01's n − k_m.
+unfoldable pub subframeOf : ℕ → ℕ → ℕ → ℕ
+subframeOf c n m = before n (getD (windowOf c n) m 0)
+
 -- The subframe a before n is answered in the same uplink subframe as n: that is a further from it. For a downlink n this is to lie
 -- in n's window (SharesExactly).
 unfoldable pub shares : ℕ → ℕ → ℕ → Bool

@@ -33,3 +33,12 @@ carries U = false
 
 unfoldable pub downlink : ℕ → ℕ → Bool
 downlink c n = carries (letterOf c n)
+
+-- A special subframe is one with the letter S.
+abbrev pub isS : Letter → Bool
+isS D = false
+isS S = true
+isS U = false
+
+unfoldable pub isSpecial : ℕ → ℕ → Bool
+isSpecial c n = isS (letterOf c n)

@@ -4,4 +4,5 @@ pub mod Layout
 pub mod Once
 pub mod Order
 pub mod Settings
+pub mod Special
 pub mod Table

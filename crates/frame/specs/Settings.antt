@@ -1,10 +1,11 @@
--- Settings and their refusals: document 01, "Settings" and "Causes and their numbers", 1 to 7; document 02, U1, 17.
+-- Settings and their refusals: document 01, "Settings" and "Causes and their numbers", 1 to 7; document 02, U1, 17, and U2, 19.
 -- Assumes nothing.
 use Prim.Native.Nat.{ℕ, suc}
 use mathlib.Core.Bool.{Bool, cond, not, _&&_, _||_}
 use lib.Dec.{ltb, eqb}
 use lib.ListN.{length}
 use Rattle.frame.specs.declared.Settings.{Settings}
+use Rattle.frame.specs.Special.{specialRefusal}
 use Rattle.frame.specs.Table.{windowOf}
 
 -- 01's number range: x is not one of low, low + 1, .., high.
@@ -40,9 +41,9 @@ hasScheduled s = not (eqb (s .scheduled) noResource)
 unfoldable pub scheduledRefusal : Settings → ℕ
 scheduledRefusal s = cond (hasScheduled s && not (ltb (s .scheduled) (s .n1))) 17 0
 
--- What later papers add to the settings ("A later paper may add settings"), after 6: 17.
+-- What later papers add to the settings ("A later paper may add settings"), after 6: 17, then 19.
 unfoldable pub laterRefusal : Settings → ℕ
-laterRefusal s = scheduledRefusal s
+laterRefusal s = orElse (scheduledRefusal s) (specialRefusal s)
 
 -- Refusals 1 to 6, lowest number first, then those of later papers; 0 if the settings are accepted.
 unfoldable pub settingsRefusal : Settings → ℕ

@@ -2,6 +2,7 @@
 mod answering;
 mod digits;
 mod refusals;
+mod special;
 mod table;
 
 pub use answering::answered_of;
@@ -10,6 +11,8 @@ pub use refusals::has_scheduled;
 pub use refusals::is_bundled;
 pub use refusals::settings_refusal;
 pub use refusals::window_refusal;
+pub use special::is_too_short;
+pub use special::position_too_short;
 pub use table::is_downlink;
 pub use table::size_of;
 pub use table::window_of;
@@ -17,7 +20,8 @@ pub use table::window_of;
 // The settings of a cell (document 01, "Settings"), as raw numbers: a call refuses what 01 does not allow. `config` is the
 // uplink-downlink configuration, `nrb` is N_RB, `n1` is N1 (36.213's N_PUCCH^(1)), `mode` is 0 for bundling and 1 for multiplexing,
 // `blocks` is the most transport blocks that a grant or a scheduled block carries. `scheduled` is the resource configured for
-// scheduled blocks (document 02, U1), 65535 where none is set.
+// scheduled blocks (document 02, U1), 65535 where none is set. `prefix` is 0 for the normal cyclic prefix and 1 for the extended one,
+// `special` is the special subframe configuration (U2).
 #[repr(C)]
 pub struct Settings {
     pub config: u16,
@@ -26,6 +30,8 @@ pub struct Settings {
     pub mode: u16,
     pub blocks: u16,
     pub scheduled: u16,
+    pub prefix: u16,
+    pub special: u16,
 }
 
 // The window of an uplink subframe: M, then K in the print's order, and its positions in time order, earliest first. Zeros stand

@@ -1,5 +1,7 @@
-// Settings and their refusals (document 01, "Settings"; refusals 1 to 7; document 02, U1, 17), and which reply a window takes.
+// Settings and their refusals (document 01, "Settings"; refusals 1 to 7; document 02, U1, 17, and U2, 19), and which reply a window
+// takes.
 use crate::Settings;
+use crate::special::special_refusal;
 use crate::table::size_of;
 ghost use mathlib.Core.Path.{_≡_};
 ghost use Rattle.frame.specs.Settings.{cellRefusal, modeRefusal, blocksRefusal, hasScheduled, scheduledRefusal, laterRefusal, settingsRefusal, windowRefusal, bundles};
@@ -70,11 +72,15 @@ fn scheduled_refusal(s: Settings) -> u16
     0
 }
 
-// What later papers add to the settings: 17.
+// What later papers add to the settings: 17, then 19.
 fn later_refusal(s: Settings) -> u16
     ensures { λ r. ⌜ r ≡ laterRefusal s ⌝ }
 {
-    scheduled_refusal(s)
+    let scheduled = scheduled_refusal(s);
+    if scheduled != 0 {
+        return scheduled;
+    }
+    special_refusal(s)
 }
 
 // The first refusal that the settings meet, 1 to 6 and then those of later papers; 0 if they are accepted.
@@ -96,7 +102,7 @@ pub fn settings_refusal(s: Settings) -> u16
     later_refusal(s)
 }
 
-// The first of refusals 1 to 6, 17 and 7 that settings and uplink subframe n meet; 0 if n has a window.
+// The first of refusals 1 to 6, 17, 19 and 7 that settings and uplink subframe n meet; 0 if n has a window.
 pub fn window_refusal(s: Settings, n: u16) -> u16
     ensures { λ r. ⌜ r ≡ windowRefusal s n ⌝ }
 {

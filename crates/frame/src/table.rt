@@ -6,10 +6,12 @@ ghost use mathlib.Core.Path.{_≡_};
 ghost use lib.ListN.{length};
 ghost use Rattle.frame.specs.Coded.{layoutDigits, sizeDigits, distanceDigits, positionDigits, codedPosition, codedK, codedOrder, codedWindow};
 ghost use Rattle.frame.specs.Distance.{distanceOf};
-ghost use Rattle.frame.specs.Layout.{downlink};
+ghost use Rattle.frame.specs.Layout.{downlink, isSpecial};
 ghost use Rattle.frame.specs.Table.{windowOf};
 
-// The digit of the letter U.
+// The digits of the letters S and U.
+const SPECIAL: u16 = 3;
+
 const UPLINK: u16 = 5;
 
 // A row of Table 10.1-1: M, then K in the print's order.
@@ -162,6 +164,16 @@ pub fn is_downlink(config: u16, n: u16) -> bool
         return false;
     }
     digit_at(layout_of(config), n) != UPLINK
+}
+
+// Subframe n is special, S.
+pub fn is_special(config: u16, n: u16) -> bool
+    ensures { λ r. ⌜ r ≡ isSpecial config n ⌝ }
+{
+    if 9 < n {
+        return false;
+    }
+    digit_at(layout_of(config), n) == SPECIAL
 }
 
 // M of the window of subframe n; 0 where there is none, outside the table too.

@@ -1,4 +1,4 @@
--- What a state is where 8 is not met, and a feed where none of 8 to 12 and 18 is.
+-- What a state is where 8 is not met, and a feed where none of 8 to 12, 18 and 20 is.
 -- Assumes nothing.
 use Prim.Native.Nat.{ℕ, _≤_}
 use mathlib.Core.Bool.{Bool, true, false, _&&_}
@@ -54,7 +54,7 @@ storable s n (Granted g) a e = storable-pdcch s (g .cce .0) (g .dai) a (valid s 
 storable s n (Scheduled b) a e = tt
 storable s n (Released p) a e = storable-pdcch s (p .cce .0) (p .dai) a (valid s n (Released p) e .1)
 
--- Where 8 to 12 and 18 are not met.
+-- Where 8 to 12, 18 and 20 are not met.
 pub record Passed (h : Handset) (x : Heard) : Type 0 where
   pub state : Sound h
   pub heard : heardRefusal (h .settings) (h .next) x ≡ 0

@@ -10,9 +10,10 @@ use borrow.Author.Tests.{ne-eqb, lt-ltb, le-ltb, lt-leb}
 use Rattle.frame.specs.declared.Settings.{Settings}
 use Rattle.frame.specs.Layout.{downlink}
 use Rattle.frame.specs.Settings.{orElse, outside, hasScheduled}
+use Rattle.frame.specs.Special.{tooShort}
 use Rattle.resource.specs.Formula.{edge}
 use Rattle.heard.specs.declared.Slot.{Slot}
-use Rattle.heard.specs.Heard.{uplinkRefusal, carriedRefusal, pdcchRefusal, unsetRefusal, heardRefusal}
+use Rattle.heard.specs.Heard.{uplinkRefusal, shortRefusal, dataRefusal, carriedRefusal, pdcchRefusal, unsetRefusal, heardRefusal}
 use Rattle.heard.specs.Memory.{blocksIn}
 use Rattle.heard.proofs.Remembered.{in-granted, in-scheduled, in-released, in-nothing}
 use Rattle.handset.specs.Checked.{slotValid}
@@ -26,6 +27,15 @@ module _ (s : Settings) (n : ℕ) where
       go : (b : Bool) → eqb (orElse (cond b 0 9) r) 0 ≡ (b && eqb r 0)
       go true = refl
       go false = refl
+
+  data-first : (r : ℕ) → eqb (orElse (dataRefusal s n) r) 0 ≡ (downlink (s .config) n && (not (tooShort s n) && eqb r 0))
+  unfolding dataRefusal uplinkRefusal shortRefusal
+  data-first r = go (downlink (s .config) n) (tooShort s n)
+    where
+      go : (a b : Bool) → eqb (orElse (orElse (cond a 0 9) (cond b 20 0)) r) 0 ≡ (a && (not b && eqb r 0))
+      go true true = refl
+      go true false = refl
+      go false b = refl
 
   carried-first : (blocks r : ℕ) → eqb (orElse (carriedRefusal s blocks) r) 0 ≡ (not (outside 1 (s .blocks) blocks) && eqb r 0)
   unfolding carriedRefusal
@@ -80,7 +90,7 @@ dai-within dai = go (decLt 0 dai) (decLt dai 5)
 
 -- The tests of a slot that heard something together, the kind among them.
 abbrev pub heardTogether : Bool → Bool → Bool → ℕ → Bool
-heardTogether carried pdcch set kind = ((eqb kind 1 && carried && pdcch) || (eqb kind 2 && carried && set)) || (eqb kind 3 && pdcch)
+heardTogether carries pdcch set kind = ((eqb kind 1 && carries && pdcch) || (eqb kind 2 && carries && set)) || (eqb kind 3 && pdcch)
 
 module _ (s : Settings) (n : ℕ) (t : Slot) where
   abbrev carried : Bool
@@ -89,8 +99,12 @@ module _ (s : Settings) (n : ℕ) (t : Slot) where
   abbrev pdcch : Bool
   pdcch = ltb (t .cce) (edge (s .nrb) 4) && ltb 0 (t .dai) && ltb (t .dai) 5
 
+  -- data is in place: as many blocks as the cell allows, in a subframe long enough for them
+  abbrev inPlace : Bool
+  inPlace = carried && not (tooShort s n)
+
   abbrev Valid : Type 0
-  Valid = slotValid s n t ≡ (eqb (t .kind) 0 || (downlink (s .config) n && heardTogether carried pdcch (hasScheduled s) (t .kind)))
+  Valid = slotValid s n t ≡ (eqb (t .kind) 0 || (downlink (s .config) n && heardTogether inPlace pdcch (hasScheduled s) (t .kind)))
 
   none : (t .kind ≡ 1 → ⊥) → (t .kind ≡ 2 → ⊥) → (t .kind ≡ 3 → ⊥) → Dec (t .kind ≡ 0) → Valid
   unfolding slotValid heardRefusal
@@ -103,29 +117,33 @@ module _ (s : Settings) (n : ℕ) (t : Slot) where
   unfolding slotValid heardRefusal
   granted e =
       rw
-      (in-granted t e, e, downlink-first s n (orElse (carriedRefusal s (blocksIn t)) (pdcchRefusal s (t .cce) (t .dai))), carried-first s n (blocksIn t) (pdcchRefusal s (t .cce) (t .dai)), pdcch-passes s n (t .cce) (t .dai), carried-bit t (s .blocks), dai-within (t .dai))
-      (go (downlink (s .config) n) carried (ltb (t .cce) (edge (s .nrb) 4)) (ltb 0 (t .dai)) (ltb (t .dai) 5))
+      (in-granted t e, e, data-first s n (orElse (carriedRefusal s (blocksIn t)) (pdcchRefusal s (t .cce) (t .dai))), carried-first s n (blocksIn t) (pdcchRefusal s (t .cce) (t .dai)), pdcch-passes s n (t .cce) (t .dai), carried-bit t (s .blocks), dai-within (t .dai))
+      (go (downlink (s .config) n) (tooShort s n) carried (ltb (t .cce) (edge (s .nrb) 4)) (ltb 0 (t .dai)) (ltb (t .dai) 5))
     where
-      go : (d c x y z : Bool) → (d && (c && (x && (y && z)))) ≡ (d && ((c && (x && y && z)) || false || false))
-      go false c x y z = refl
-      go true false x y z = refl
-      go true true false y z = refl
-      go true true true false z = refl
-      go true true true true true = refl
-      go true true true true false = refl
+      go : (d h c x y z : Bool) → (d && (not h && (c && (x && (y && z))))) ≡ (d && (((c && not h) && (x && y && z)) || false || false))
+      go false h c x y z = refl
+      go true true true x y z = refl
+      go true true false x y z = refl
+      go true false false x y z = refl
+      go true false true false y z = refl
+      go true false true true false z = refl
+      go true false true true true true = refl
+      go true false true true true false = refl
 
   scheduled : t .kind ≡ 2 → Valid
   unfolding slotValid heardRefusal
   scheduled e =
       rw
-      (in-scheduled t e, e, downlink-first s n (orElse (carriedRefusal s (blocksIn t)) (unsetRefusal s)), carried-first s n (blocksIn t) (unsetRefusal s), set-passes s n, carried-bit t (s .blocks))
-      (go (downlink (s .config) n) carried (hasScheduled s))
+      (in-scheduled t e, e, data-first s n (orElse (carriedRefusal s (blocksIn t)) (unsetRefusal s)), carried-first s n (blocksIn t) (unsetRefusal s), set-passes s n, carried-bit t (s .blocks))
+      (go (downlink (s .config) n) (tooShort s n) carried (hasScheduled s))
     where
-      go : (d c h : Bool) → (d && (c && h)) ≡ (d && (false || (c && h) || false))
-      go false c h = refl
-      go true false h = refl
-      go true true true = refl
-      go true true false = refl
+      go : (d h c r : Bool) → (d && (not h && (c && r))) ≡ (d && (false || ((c && not h) && r) || false))
+      go false h c r = refl
+      go true true true r = refl
+      go true true false r = refl
+      go true false false r = refl
+      go true false true true = refl
+      go true false true false = refl
 
   released : t .kind ≡ 3 → Valid
   unfolding slotValid heardRefusal

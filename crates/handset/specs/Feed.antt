@@ -1,4 +1,4 @@
--- Feeding a handset: document 01, "The running handset" and refusals 8 to 12; document 02, U1, 18.
+-- Feeding a handset: document 01, "The running handset" and refusals 8 to 12; document 02, U1, 18, and U2, 20.
 -- Assumes nothing.
 use Prim.Native.Nat.{ℕ, zero, suc, _+_, _%_}
 use mathlib.Core.Bool.{cond}
@@ -30,7 +30,7 @@ nextAnswer h = answerOf (h .settings) (h .next) (viewAgo (h .past))
 unfoldable pub pushed : Handset → Heard → Handset
 pushed h x = record { settings = h .settings; next = (h .next + 1) % 10; past = slotOf x ∷ slotsFrom 12 0 (h .past) }
 
--- A feed refuses 8, then 9 to 12 and 18 for what it brings in the subframe that is expected.
+-- A feed refuses 8, then 9, 20, 10 to 12 and 18 for what it brings in the subframe that is expected.
 unfoldable pub feedRefusal : Handset → Heard → ℕ
 feedRefusal h x = orElse (stateRefusal h) (causeOf (h .settings) (h .next) (blockAgo (h .past)) x)
 

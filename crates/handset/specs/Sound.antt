@@ -1,5 +1,5 @@
 -- Refusal 8: lent state fails 1 to 6, expects a subframe over 9, or remembers a grant failing 9 to 12 in the subframe it was fed in;
--- "so does one that breaks a rule on settings or grants added later": 17, and 18 after what it remembers from before.
+-- "so does one that breaks a rule on settings or grants added later": 17 and 19, 20, and 18 after what it remembers from before.
 -- Assumes nothing.
 use Prim.Native.Nat.{ℕ}
 use mathlib.Core.Bool.{Bool, true, cond, _&&_}

@@ -1,4 +1,5 @@
-// Feeding a handset what the next subframe heard (document 01, "The running handset"; refusals 8 to 12; document 02, U1, 18).
+// Feeding a handset what the next subframe heard (document 01, "The running handset"; refusals 8 to 12; document 02, U1, 18, and U2,
+// 20).
 use crate::Fed;
 use crate::Handset;
 use crate::state::state_refusal;
@@ -115,7 +116,7 @@ fn next_answer(h: Handset) -> Answer
     reply::answer_in(s, h.next, past)
 }
 
-// 8, then 9 to 12 and 18 for what is brought in the subframe that is expected; 0 if the feed is not refused.
+// 8, then 9, 20, 10 to 12 and 18 for what is brought in the subframe that is expected; 0 if the feed is not refused.
 fn feed_refusal(h: Handset, x: Heard) -> u16
     ensures { λ r. ⌜ r ≡ feedRefusal h x ⌝ }
 {

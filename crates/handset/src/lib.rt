@@ -9,7 +9,7 @@ use heard::Slot;
 pub use making::make;
 use reply::Answer;
 
-// The handset's state, 66 bytes: its settings, the subframe it expects, and what the last 13 subframes heard, newest first.
+// The handset's state, 70 bytes: its settings, the subframe it expects, and what the last 13 subframes heard, newest first.
 #[repr(C)]
 pub struct Handset {
     pub settings: Settings,

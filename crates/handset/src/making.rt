@@ -1,4 +1,4 @@
-// Making a handset from settings (document 01, "The running handset"; refusals 1 to 6 and 17).
+// Making a handset from settings (document 01, "The running handset"; refusals 1 to 6, 17 and 19).
 use crate::Handset;
 use crate::Made;
 use frame::Settings;
@@ -24,7 +24,7 @@ fn fresh_of(settings: Settings) -> Handset
     }
 }
 
-// A fresh handset, or the first of refusals 1 to 6 and 17 that the settings meet, with a handset that every feed refuses.
+// A fresh handset, or the first of refusals 1 to 6, 17 and 19 that the settings meet, with a handset that every feed refuses.
 pub fn make(s: Settings) -> Made
     ensures { λ r. ⌜ r ≡ makeOf s ⌝ }
 {
@@ -37,6 +37,8 @@ pub fn make(s: Settings) -> Made
             mode: 0,
             blocks: 0,
             scheduled: 0,
+            prefix: 0,
+            special: 0,
         };
         let handset = fresh_of(refused);
         return Made { refusal, handset };

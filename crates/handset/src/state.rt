@@ -1,4 +1,4 @@
-// Refusal 8: what a lent state must be (document 01, "Causes and their numbers"; document 02, U1).
+// Refusal 8: what a lent state must be (document 01, "Causes and their numbers"; document 02, U1 and U2).
 use crate::Handset;
 use frame::Settings;
 use heard::Slot;
@@ -20,8 +20,9 @@ fn is_valid(s: Settings, n: u16, t: Slot) -> bool
     let carried = two < s.blocks;
     let cce = Cce::new(t.cce as u16);
     let pdcch = resource::is_cce(s.nrb, cce) & (0 < t.dai) & (t.dai < 5);
-    let grant = (t.kind == 1) & carried & pdcch;
-    let block = (t.kind == 2) & carried & frame::has_scheduled(s);
+    let data = carried & !frame::is_too_short(s, n);
+    let grant = (t.kind == 1) & data & pdcch;
+    let block = (t.kind == 2) & data & frame::has_scheduled(s);
     let release = (t.kind == 3) & pdcch;
     frame::is_downlink(s.config, n) & (grant | block | release)
 }
@@ -60,7 +61,7 @@ fn all_sound(s: Settings, next: u16, past: [Slot; 13]) -> bool
     valid
 }
 
-// 8 where the state fails 1 to 6 or 17, expects a subframe over 9, or remembers what fails 9 to 12 or 18; else 0.
+// 8 where the state fails 1 to 6, 17 or 19, expects a subframe over 9, or remembers what fails 9 to 12, 18 or 20; else 0.
 pub fn state_refusal(h: Handset) -> u16
     ensures { λ r. ⌜ r ≡ stateRefusal h ⌝ }
 {

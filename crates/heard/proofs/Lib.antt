@@ -1,4 +1,5 @@
 pub mod Before
 pub mod LookBack
 pub mod Remembered
+pub mod Short
 pub mod Valid

@@ -1,4 +1,4 @@
-// Refusals 9 to 12 and 18 of what a subframe brings (document 01, "Causes and their numbers"; document 02, U1).
+// Refusals 9 to 12, 18 and 20 of what a subframe brings (document 01, "Causes and their numbers"; document 02, U1 and U2).
 use crate::Heard;
 use crate::Slot;
 use frame::Settings;
@@ -6,7 +6,7 @@ use resource::Cce;
 ghost use mathlib.Core.Path.{_≡_};
 ghost use lib.ListN.{drop};
 ghost use Rattle.frame.specs.Settings.{orElse};
-ghost use Rattle.heard.specs.Heard.{uplinkRefusal, carriedRefusal, pdcchRefusal, unsetRefusal, heardRefusal, blockBefore, causeOf};
+ghost use Rattle.heard.specs.Heard.{uplinkRefusal, dataRefusal, carriedRefusal, pdcchRefusal, unsetRefusal, heardRefusal, blockBefore, causeOf};
 ghost use Rattle.heard.specs.Memory.{blockAgo};
 
 fn uplink_refusal(s: Settings, n: u16) -> u16
@@ -16,6 +16,20 @@ fn uplink_refusal(s: Settings, n: u16) -> u16
         return 0;
     }
     9
+}
+
+// Data, that is a grant or a scheduled block: 9, then 20.
+fn data_refusal(s: Settings, n: u16) -> u16
+    ensures { λ r. ⌜ r ≡ dataRefusal s n ⌝ }
+{
+    let uplink = uplink_refusal(s, n);
+    if uplink != 0 {
+        return uplink;
+    }
+    if frame::is_too_short(s, n) {
+        return 20;
+    }
+    0
 }
 
 // The blocks carried: 10.
@@ -67,8 +81,8 @@ fn or_else(k: u16, next: u16) -> u16
     next
 }
 
-// The first of refusals 9 to 12, and 18 for a scheduled block with no resource set, that is met by what subframe n brings; 0 if it
-// is valid there by itself.
+// The first of refusals 9, 20, 10 to 12, and 18 for a scheduled block with no resource set, that is met by what subframe n brings; 0
+// if it is valid there by itself.
 pub fn heard_refusal(s: Settings, n: u16, x: Heard) -> u16
     ensures { λ r. ⌜ r ≡ heardRefusal s n x ⌝ }
 {
@@ -78,11 +92,11 @@ pub fn heard_refusal(s: Settings, n: u16, x: Heard) -> u16
             let carried = carried_refusal(s, g.blocks);
             let cce = g.cce;
             let pdcch = pdcch_refusal(s, cce, g.dai);
-            or_else(uplink_refusal(s, n), or_else(carried, pdcch))
+            or_else(data_refusal(s, n), or_else(carried, pdcch))
         }
         Heard::Scheduled(b) => {
             let carried = carried_refusal(s, b.blocks);
-            or_else(uplink_refusal(s, n), or_else(carried, unset_refusal(s)))
+            or_else(data_refusal(s, n), or_else(carried, unset_refusal(s)))
         }
         Heard::Released(p) => {
             let cce = p.cce;
@@ -110,7 +124,7 @@ pub fn block_before(config: u16, n: u16, past: [Slot; 13], from: usize) -> bool
     false
 }
 
-// The first of refusals 9 to 12 and 18 that is met by what subframe n brings after what the slots from `from` on heard; 0 if it is
+// The first of refusals 9, 20, 10 to 12 and 18 that is met by what subframe n brings after what the slots from `from` on heard; 0 if it is
 // valid there. Only a scheduled block looks back.
 pub fn cause_of(s: Settings, n: u16, past: [Slot; 13], from: usize, x: Heard) -> u16
     ensures { λ r. ⌜ r ≡ causeOf s n (blockAgo (drop from past)) x ⌝ }

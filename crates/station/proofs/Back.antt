@@ -6,14 +6,16 @@
 use Prim.Native.Nat.{ℕ, zero, suc, _<_}
 use mathlib.Core.Bool.{Bool, true, false, cond}
 use mathlib.Core.List.{List}
-use mathlib.Core.Logic.{inl, inr}
+use mathlib.Core.Logic.{inl, inr, _↔_}
 use mathlib.Core.Path.{_≡_, refl, _∙_}
 use native.Mathlib.Omega.{arith}
 use lib.Dec.{ltb}
 use lib.ListN.{length}
-use borrow.Author.Tests.{lt-ltb, eq-eqb, ne-eqb}
+use borrow.Author.Tests.{ltb-true, lt-ltb, eq-eqb, ne-eqb}
 use Rattle.frame.specs.declared.Settings.{Settings}
+use Rattle.frame.specs.Distance.{subframeOf}
 use Rattle.frame.specs.Settings.{hasScheduled, windowRefusal, bundles}
+use Rattle.frame.specs.Special.{tooShort}
 use Rattle.frame.proofs.Accepted.{answered}
 use Rattle.resource.specs.declared.Mapped.the-variants as mapped
 use Rattle.resource.specs.Calls.{sizeOf, resourceOf, inverseSized}
@@ -53,29 +55,49 @@ at-gives s size m c b0 b1 = go (bundles s size) refl
     go true e = rw e (bundled-gives s m c b0 b1 (badBits s b0 b1) refl)
     go false e = rw e (multiplexed-gives m c (deliveryOf size m b0 b1))
 
--- A position of the window is told without refusal where a scheduled resource is set.
-pub told-fine : (s : Settings) (n m : ℕ) → m < sizeOf s n → hasScheduled s ≡ true → toldRefusal s (sizeOf s n) (told.At m) ≡ 0
+-- A position of the window is told without refusal where a scheduled resource is set and the position's subframe is long enough for
+-- data.
+pub told-fine : (s : Settings) (n m : ℕ) → m < sizeOf s n → hasScheduled s ≡ true → tooShort s (subframeOf (s .config) n m) ≡ false
+    → toldRefusal s n (told.At m) ≡ 0
 unfolding toldRefusal
-told-fine s n m inside set = rw (lt-ltb m (sizeOf s n) inside, set)
+told-fine s n m inside set long = rw (lt-ltb m (sizeOf s n) inside, long, set)
 
 -- And only there.
-told-set : (s : Settings) (size m : ℕ) → toldRefusal s size (told.At m) ≡ 0 → hasScheduled s ≡ true
+told-set : (s : Settings) (n m : ℕ) → toldRefusal s n (told.At m) ≡ 0 → hasScheduled s ≡ true
 unfolding toldRefusal
-told-set s size m e = go (ltb m size) (hasScheduled s) e
+told-set s n m e = go (ltb m (sizeOf s n)) (tooShort s (subframeOf (s .config) n m)) (hasScheduled s) e
   where
-    go : (a b : Bool) → _≡_ {A = ℕ} (cond a (cond b 0 18) 11) 0 → b ≡ true
-    go true true e = refl
-    go true false e = absurd (omega arith)
-    go false b e = absurd (omega arith)
+    go : (a b c : Bool) → _≡_ {A = ℕ} (cond a (cond b 20 (cond c 0 18)) 11) 0 → c ≡ true
+    go true true c e = absurd (omega arith)
+    go true false true e = refl
+    go true false false e = absurd (omega arith)
+    go false b c e = absurd (omega arith)
+
+-- A told position is refused 20 exactly where it is one of the window and its subframe is too short for data, whether a scheduled
+-- resource is set or not.
+pub told-twenty : (s : Settings) (n m : ℕ) → (toldRefusal s n (told.At m) ≡ 20) ↔ ((m < sizeOf s n) × (tooShort s (subframeOf (s .config) n m) ≡ true))
+unfolding toldRefusal
+told-twenty s n m = (
+  λ e.
+      let p = go (ltb m (sizeOf s n)) (tooShort s (subframeOf (s .config) n m)) (hasScheduled s) e in
+      (ltb-true m (sizeOf s n) (p .0), p .1),
+  λ p. rw (lt-ltb m (sizeOf s n) (p .0), p .1),
+)
+  where
+    go : (a b c : Bool) → _≡_ {A = ℕ} (cond a (cond b 20 (cond c 0 18)) 11) 20 → (a ≡ true) × (b ≡ true)
+    go true true c e = (refl, refl)
+    go true false true e = absurd (omega arith)
+    go true false false e = absurd (omega arith)
+    go false b c e = absurd (omega arith)
 
 -- Where neither settings, subframe nor the told position is refused, the resource is read.
-not-refused : (s : Settings) (n : ℕ) (t : Told) (r b0 b1 : ℕ) → windowRefusal s n ≡ 0 → toldRefusal s (sizeOf s n) t ≡ 0
+not-refused : (s : Settings) (n : ℕ) (t : Told) (r b0 b1 : ℕ) → windowRefusal s n ≡ 0 → toldRefusal s n t ≡ 0
     → readOf s n t r b0 b1 ≡ readOn s n t r b0 b1
 unfolding readOf
 not-refused s n t r b0 b1 e f = rw (e, f)
 
--- A resource that is not taken as a scheduled block is dynamic, 1 to 7 and 17 included.
-pub read-dynamic : (s : Settings) (n : ℕ) (t : Told) (r b0 b1 : ℕ) → toldRefusal s (sizeOf s n) t ≡ 0
+-- A resource that is not taken as a scheduled block is dynamic, 1 to 7, 17 and 19 included.
+pub read-dynamic : (s : Settings) (n : ℕ) (t : Told) (r b0 b1 : ℕ) → toldRefusal s n t ≡ 0
     → readOn s n t r b0 b1 ≡ dynamicReading s n r b0 b1 → readOf s n t r b0 b1 ≡ dynamicReading s n r b0 b1
 unfolding readOf dynamicReading
 read-dynamic s n t r b0 b1 fine on = go (windowRefusal s n) refl
@@ -94,7 +116,7 @@ dynamic-sized s n size looked r b0 b1 = rw (inverse-told s n size looked r, look
 below-n1 : (s : Settings) (n : ℕ) → windowRefusal s n ≡ 0 → hasScheduled s ≡ true → s .scheduled < s .n1
 below-n1 s n e set = answered s n e .0 .scheduledLow set
 
-module _ (s : Settings) (n m c r : ℕ) (there : resourceOf s n m c ≡ mapped.At (record { 0 = r })) (t : Told) (fine : toldRefusal s (sizeOf s n) t ≡ 0) (b0 b1 : ℕ) where
+module _ (s : Settings) (n m c r : ℕ) (there : resourceOf s n m c ≡ mapped.At (record { 0 = r })) (t : Told) (fine : toldRefusal s n t ≡ 0) (b0 b1 : ℕ) where
   accepted-there : windowRefusal s n ≡ 0
   accepted-there = call-accepted s n m c (record { 0 = r }) there
 
@@ -103,11 +125,11 @@ module _ (s : Settings) (n m c r : ℕ) (there : resourceOf s n m c ≡ mapped.A
   dynamic-there = rw (call-back s n m c r there)
 
   -- Whatever it is told, a dynamic resource is none that it takes as a scheduled block.
-  on-there : (t : Told) → toldRefusal s (sizeOf s n) t ≡ 0 → readOn s n t r b0 b1 ≡ dynamicReading s n r b0 b1
+  on-there : (t : Told) → toldRefusal s n t ≡ 0 → readOn s n t r b0 b1 ≡ dynamicReading s n r b0 b1
   unfolding readOn
   on-there told.NotTold fine = refl
   on-there (told.At p) fine =
-      let low = below-n1 s n accepted-there (told-set s (sizeOf s n) p fine) in
+      let low = below-n1 s n accepted-there (told-set s n p fine) in
       let range = resource-range s n accepted-there m c r there in
       rw (ne-eqb r (s .scheduled) (λ e. omega arith))
 
@@ -120,11 +142,11 @@ module _ (s : Settings) (n m c r : ℕ) (there : resourceOf s n m c ≡ mapped.A
   read-back = rw read-there (at-gives s (sizeOf s n) m c b0 b1)
 
 -- The scheduled resource is read as the block of the told position.
-pub read-block : (s : Settings) (n m : ℕ) → windowRefusal s n ≡ 0 → m < sizeOf s n → hasScheduled s ≡ true → (b0 b1 : ℕ)
+pub read-block : (s : Settings) (n m : ℕ) → windowRefusal s n ≡ 0 → toldRefusal s n (told.At m) ≡ 0 → (b0 b1 : ℕ)
     → readOf s n (told.At m) (s .scheduled) b0 b1 ≡ readAt s (sizeOf s n) (Block m) b0 b1
 unfolding readOn
-read-block s n m e inside set b0 b1 =
-    not-refused s n (told.At m) (s .scheduled) b0 b1 e (told-fine s n m inside set) ∙ rw (eq-eqb (s .scheduled) (s .scheduled) refl)
+read-block s n m e fine b0 b1 =
+    not-refused s n (told.At m) (s .scheduled) b0 b1 e fine ∙ rw (eq-eqb (s .scheduled) (s .scheduled) refl)
 
 -- The symbol of a state, read at a place of its index, is that place with the positions that are A in every state sending it.
 pub read-symbol : (s : Settings) (size : ℕ) (p : Place) (ss : List State) (i b0 b1 : ℕ) → placePosition p ≡ i → bundles s size ≡ false

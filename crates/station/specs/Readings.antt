@@ -1,4 +1,4 @@
--- The station's reading: document 01, "The station's reading" and refusal 14; document 02, U1, 11 and 18.
+-- The station's reading: document 01, "The station's reading" and refusal 14; document 02, U1, 11 and 18, and U2, 20.
 -- Assumes nothing.
 use Prim.Native.Nat.{ℕ, zero, suc}
 use mathlib.Core.Bool.{Bool, cond, _&&_, _||_}
@@ -6,7 +6,9 @@ use mathlib.Core.Logic.{_⊎_}
 use mathlib.Core.Path.{_≡_}
 use lib.Dec.{ltb, eqb}
 use Rattle.frame.specs.declared.Settings.{Settings}
+use Rattle.frame.specs.Distance.{subframeOf}
 use Rattle.frame.specs.Settings.{orElse, hasScheduled, windowRefusal, bundles}
+use Rattle.frame.specs.Special.{tooShort}
 use Rattle.resource.specs.declared.Inverted.{Inverted}
 use Rattle.resource.specs.declared.Inverted.the-variants as inverted
 use Rattle.resource.specs.Calls.{sizeOf, inverseOf}
@@ -48,14 +50,15 @@ abbrev pub readInverted : Settings → ℕ → Inverted → ℕ → ℕ → Read
 readInverted s size (inverted.At m c) b0 b1 = readAt s size (Pdcch m c) b0 b1
 readInverted s size (inverted.Refused k) b0 b1 = Refused k
 
--- A dynamic resource is inverted to position and first CCE: 1 to 6, 17 and 7, then 13, then 14.
+-- A dynamic resource is inverted to position and first CCE: 1 to 6, 17, 19 and 7, then 13, then 14.
 unfoldable pub dynamicReading : Settings → ℕ → ℕ → ℕ → ℕ → Reading
 dynamicReading s n r b0 b1 = readInverted s (sizeOf s n) (inverseOf s n r) b0 b1
 
--- The reading "is told the scheduled position, if any (11 if not below M, 18 if no resource is set)".
+-- The reading "is told the scheduled position, if any (11 if not below M, 18 if no resource is set)". U2's 20, "one told to the
+-- reading too", comes before both: it needs the position's subframe, which only a position below M has.
 unfoldable pub toldRefusal : Settings → ℕ → Told → ℕ
-toldRefusal s size told.NotTold = 0
-toldRefusal s size (told.At m) = cond (ltb m size) (cond (hasScheduled s) 0 18) 11
+toldRefusal s n told.NotTold = 0
+toldRefusal s n (told.At m) = cond (ltb m (sizeOf s n)) (cond (tooShort s (subframeOf (s .config) n m)) 20 (cond (hasScheduled s) 0 18)) 11
 
 -- It "takes that resource as that block"; any other is dynamic.
 unfoldable pub readOn : Settings → ℕ → Told → ℕ → ℕ → ℕ → Reading
@@ -67,9 +70,9 @@ abbrev pub readAs : ℕ → Reading → Reading
 readAs zero reading = reading
 readAs (suc k) reading = Refused (suc k)
 
--- The reading: 1 to 6, 17 and 7, then 11 and 18 for what it is told, whatever the resource; then 13 and 14.
+-- The reading: 1 to 6, 17, 19 and 7, then 20, 11 and 18 for what it is told, whatever the resource; then 13 and 14.
 unfoldable pub readOf : Settings → ℕ → Told → ℕ → ℕ → ℕ → Reading
-readOf s n told r b0 b1 = readAs (orElse (windowRefusal s n) (toldRefusal s (sizeOf s n) told)) (readOn s n told r b0 b1)
+readOf s n told r b0 b1 = readAs (orElse (windowRefusal s n) (toldRefusal s n told)) (readOn s n told r b0 b1)
 
 -- The reading names this place.
 abbrev pub Names : Reading → Place → Type 0

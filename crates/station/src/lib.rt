@@ -1,4 +1,4 @@
-// The station's reading of a reply (document 01, "The station's reading"; document 02, U1).
+// The station's reading of a reply (document 01, "The station's reading"; document 02, U1 and U2).
 use frame::Settings;
 use resource::Cce;
 use resource::Inverted;
@@ -109,12 +109,16 @@ fn place_dynamic(s: Settings, size: u16, r: Resource) -> Placed
     }
 }
 
-// What a told position m is refused by, in a window of `size` positions: 11 and 18; 0 if it is not refused.
-fn told_refusal(s: Settings, size: u16, m: u16) -> u16
-    ensures { λ k. ⌜ k ≡ toldRefusal s size (Told.At m) ⌝ }
+// What a told position m is refused by, in a window of `size` positions: 20, 11 and 18; 0 if it is not refused.
+fn told_refusal(s: Settings, n: u16, size: u16, m: u16) -> u16
+    requires { ⌜ size ≡ sizeOf s n ⌝ }
+    ensures { λ k. ⌜ k ≡ toldRefusal s n (Told.At m) ⌝ }
 {
     if size <= m {
         return 11;
+    }
+    if frame::position_too_short(s, n, m) {
+        return 20;
     }
     if frame::has_scheduled(s) {
         return 0;
@@ -151,7 +155,7 @@ fn place_of(s: Settings, n: u16, size: u16, told: Told, r: Resource) -> Placed
     ensures { λ p. ⌜ Reads s size p (readOf s n told (r .0)) ⌝ }
 {
     if let Told::At(m) = told {
-        let refusal = told_refusal(s, size, m);
+        let refusal = told_refusal(s, n, size, m);
         if refusal != 0 {
             return not_placed(first_refusal(s, n, refusal));
         }

@@ -12,7 +12,8 @@ use feedback_tests::c::{
     feedback_reading, feedback_resource, feedback_window,
 };
 use feedback_tests::compare::plain_feed;
-use feedback_tests::model::{bundles, edge, is_uplink, Model, Window};
+use feedback_tests::every;
+use feedback_tests::model::{bundles, edge, is_short, is_uplink, Model, Window};
 use feedback_tests::plain::{
     plain_answered, plain_claims, plain_inverse, plain_make, plain_reading, plain_resource,
     plain_window,
@@ -87,7 +88,8 @@ The feeds are those of {RUNS} runs of 20 frames: a grant in seven of ten downlin
 subframes, one in twenty of them lost, nine of ten blocks decoded. A feed checks
 the whole state that it is lent, and a list of claims clears its scratch. With a
 schedule one subframe of each window has a scheduled block, every other time, and
-one PDCCH in eight is a release.
+one PDCCH in eight is a release. Special subframes carry data, but for the cells
+called short: there they bring nothing or a release.
 
 | call | ours, ns | plain Rust, ns | ratio |
 |---|---:|---:|---:|"
@@ -98,6 +100,7 @@ one PDCCH in eight is a release.
     feeds(&model, &mut random);
     claims(&model, &mut random);
     schedule(&model, &mut Random::new(1));
+    short_specials(&model, &mut Random::new(2));
 }
 
 fn numbers(model: &Model, random: &mut Random) {
@@ -121,7 +124,7 @@ fn size(model: &Model, input: &Input) -> u16 {
 /// An allowed input over all configurations, bandwidths, modes and block numbers.
 fn input(model: &Model, random: &mut Random, fits: impl Fn(&Input) -> bool) -> Input {
     loop {
-        let settings = random.settings();
+        let settings = random.plain_settings();
         let input = unread(model, settings, random);
         if is_read(model, &input) && fits(&input) {
             return input;
@@ -131,9 +134,14 @@ fn input(model: &Model, random: &mut Random, fits: impl Fn(&Input) -> bool) -> I
 
 /// One that is told of a scheduled block, and reads on the block's resource or on
 /// that of a PDCCH.
-fn told_input(model: &Model, random: &mut Random, of_block: bool) -> Input {
+fn told_input(
+    model: &Model,
+    random: &mut Random,
+    settings: fn(&mut Random) -> Settings,
+    of_block: bool,
+) -> Input {
     loop {
-        let settings = random.scheduled_settings();
+        let settings = settings(random);
         let input = unread(model, settings, random);
         let size = size(model, &input);
         let told = Input { told: random.below16(size), ..input };
@@ -200,7 +208,9 @@ fn schedule(model: &Model, random: &mut Random) {
     for (name, of_block) in
         [("reading, told, on the block's resource", true), ("reading, told, on another", false)]
     {
-        let inputs: Vec<Input> = (0..INPUTS).map(|_| told_input(model, random, of_block)).collect();
+        let settings = Random::plain_scheduled_settings;
+        let input = |_| told_input(model, random, settings, of_block);
+        let inputs: Vec<Input> = (0..INPUTS).map(input).collect();
         row(name, &inputs, inputs.len(), engine_reading, plain_rust_reading);
     }
     let runs: Vec<Run> = (0..RUNS).map(|_| scheduled_run(model, random)).collect();
@@ -213,6 +223,44 @@ fn schedule(model: &Model, random: &mut Random) {
         ("feed, uplink, multiplexed window, with a schedule", &|feed| answers(model, feed, false)),
     ];
     feed_rows(&feeds, &rows);
+}
+
+/// Cells whose special subframes are too short for data.
+fn short_specials(model: &Model, random: &mut Random) {
+    let settings = |random: &mut Random| {
+        let (prefix, special) = random.one_of(&every::SHORT);
+        random.plain_scheduled_settings().with_special(prefix, special)
+    };
+    let input = |_| told_input(model, random, settings, false);
+    let inputs: Vec<Input> = (0..INPUTS).map(input).collect();
+    let name = "reading, told, on another, short special cell";
+    row(name, &inputs, inputs.len(), engine_reading, plain_rust_reading);
+    let runs: Vec<Run> = (0..RUNS).map(|_| short_run(model, random)).collect();
+    let feeds: Vec<Feed> = runs.iter().flat_map(|run| feeds_of(model, run)).collect();
+    let rows: [(&str, Fits); 2] = [
+        ("feed, downlink, grant, short special cell", &|feed| {
+            matches!(feed.heard, Heard::Grant(_))
+        }),
+        ("feed, downlink, release, short special cell", &|feed| {
+            matches!(feed.heard, Heard::Release(_))
+        }),
+    ];
+    feed_rows(&feeds, &rows);
+}
+
+/// A run of grants, with a release in place of one in a special subframe.
+fn short_run(model: &Model, random: &mut Random) -> Run {
+    let (prefix, special) = random.one_of(&every::SHORT);
+    let Run { settings, mut heard } = run(model, random);
+    let settings = settings.with_special(prefix, special);
+    for (brought, subframe) in heard.iter_mut().zip((0..10).cycle()) {
+        if let (Heard::Grant(Grant { cce, dai, .. }), true) =
+            (*brought, is_short(settings, subframe))
+        {
+            *brought = Heard::Release(Release { cce, dai });
+        }
+    }
+    Run { settings, heard }
 }
 
 /// A run of grants, in which some become releases and some a scheduled block.
@@ -242,7 +290,7 @@ fn scheduled_run(model: &Model, random: &mut Random) -> Run {
 /// A realistic run of 20 frames: most subframes have a grant, by the DAI rule,
 /// few are lost, and most blocks are decoded.
 fn run(model: &Model, random: &mut Random) -> Run {
-    let settings = random.settings();
+    let settings = random.plain_settings();
     let mut heard = vec![Heard::Nothing; 200];
     for window in model.windows().iter().filter(|window| window.config == settings.config) {
         for frame in 0..20 {
@@ -293,7 +341,7 @@ fn claims(model: &Model, random: &mut Random) {
 
 /// A clean list of ten claims for a window of a cell of 3 MHz or more.
 fn list_of_ten(model: &Model, random: &mut Random) -> List {
-    let mut settings = random.settings();
+    let mut settings = random.plain_settings();
     settings.nrb = settings.nrb.max(15);
     let window = random.window(model, settings.config);
     List { settings, n: window.n, claims: distinct(settings, window, 10, random) }

@@ -5,7 +5,7 @@
 //! frame. Windows then have times too, those of their uplink subframes, and two
 //! things are in one window if they are answered at the same time.
 
-use super::{bundles, edge, first_met, is_uplink, settings_refusal, Model, Window};
+use super::{bundles, edge, first_met, is_short, is_uplink, settings_refusal, Model, Window};
 use crate::{Block, Fed, Grant, Handset, Heard, Made, Release, Settings, Slot, NONE};
 use std::cmp::Reverse;
 
@@ -118,6 +118,7 @@ impl Model {
         let Settings { config, nrb, blocks, scheduled, .. } = settings;
         first_met([
             (9, heard != Heard::Nothing && is_uplink(config, time % 10)),
+            (20, carried(heard).is_some() && is_short(settings, time % 10)),
             (10, carried(heard).is_some_and(|carried| !(1..=blocks).contains(&carried))),
             (11, pdcch(heard).is_some_and(|(cce, _)| cce >= edge(nrb, 4))),
             (12, pdcch(heard).is_some_and(|(_, dai)| ![1, 2, 3, 4].contains(&dai))),

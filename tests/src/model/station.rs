@@ -1,6 +1,6 @@
 //! The station's side: the reading of a reply and the claims of a cell.
 
-use super::{bundles, first_met, Layout, Model, Symbol};
+use super::{bundles, first_met, is_short, Layout, Model, Symbol};
 use crate::{ClaimsAnswer, ReadingAnswer, Settings, NONE, NOT_TOLD};
 use std::collections::HashSet;
 
@@ -18,11 +18,17 @@ impl Model {
             Err(refusal) => return ReadingAnswer::refused(refusal),
             Ok(layout) => layout,
         };
-        let size = self.window(settings.config, n).expect("a window").size();
+        let window = self.window(settings.config, n).expect("a window");
+        let size = window.size();
         let is_told = told != NOT_TOLD;
-        // What is told is looked at whatever the resource is that came in.
-        let wrongly_told =
-            first_met([(11, is_told && told >= size), (18, is_told && settings.scheduled == NONE)]);
+        // What is told is looked at whatever the resource is that came in. A position
+        // past the last has no subframe.
+        let told_k = window.k.get(usize::from(told));
+        let wrongly_told = first_met([
+            (20, told_k.is_some_and(|k| is_short(settings, (n + 20 - k) % 10))),
+            (11, is_told && told_k.is_none()),
+            (18, is_told && settings.scheduled == NONE),
+        ]);
         if let Some(refusal) = wrongly_told {
             return ReadingAnswer::refused(refusal);
         }

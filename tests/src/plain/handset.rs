@@ -1,30 +1,7 @@
 //! The handset's side: making one and feeding it.
 
-use super::{bundles, cces, check, region, window_size, K};
+use super::{bundles, cces, check, is_short, region, window_size, DOWNLINK, K, SPECIAL};
 use crate::{Fed, Handset, Made, Settings, Slot, NONE};
-
-/// The downlink subframes of each configuration, D or S, bit n for subframe n.
-const DOWNLINK: [u16; 7] = [
-    downlink(b"DSUUUDSUUU"),
-    downlink(b"DSUUDDSUUD"),
-    downlink(b"DSUDDDSUDD"),
-    downlink(b"DSUUUDDDDD"),
-    downlink(b"DSUUDDDDDD"),
-    downlink(b"DSUDDDDDDD"),
-    downlink(b"DSUUUDSUUD"),
-];
-
-const fn downlink(frame: &[u8; 10]) -> u16 {
-    let mut mask = 0;
-    let mut n = 0;
-    while n < 10 {
-        if frame[n] != b'U' {
-            mask |= 1 << n;
-        }
-        n += 1;
-    }
-    mask
-}
 
 /// How many subframes later each downlink subframe is answered; 0 for an uplink one.
 const DISTANCE: [[u8; 10]; 7] = distances();
@@ -58,7 +35,9 @@ enum State {
 
 /// What a state that has been checked allows the next subframe to bring.
 struct Limits {
+    /// The downlink subframes, special ones too, and those that carry data.
     downlink: u16,
+    data: u16,
     blocks: u16,
     cces: u16,
     /// How much later each subframe of the frame is answered.
@@ -188,6 +167,8 @@ impl Limits {
     fn check_carried(&self, subframe: u16, blocks: u16) -> Result<(), u16> {
         if !self.is_downlink(subframe) {
             Err(9)
+        } else if self.data >> subframe & 1 == 0 {
+            Err(20)
         } else if blocks == 0 || blocks > self.blocks {
             Err(10)
         } else {
@@ -209,9 +190,11 @@ impl Limits {
     /// a jump, since what a handset heard cannot be foretold.
     fn is_bad(&self, subframe: u16, slot: &Slot) -> bool {
         let is_pdcch = slot.kind & 1 == 1;
-        let carries_two = (slot.results & 4 != 0) & (slot.kind != Slot::RELEASE);
+        let is_release = slot.kind == Slot::RELEASE;
+        let carries_two = (slot.results & 4 != 0) & !is_release;
+        let subframes = if is_release { self.downlink } else { self.data };
         (slot.kind > Slot::RELEASE)
-            | !self.is_downlink(subframe)
+            | (subframes >> subframe & 1 == 0)
             | (is_pdcch & ((u16::from(slot.cce) >= self.cces) | (slot.dai.wrapping_sub(1) > 3)))
             | (carries_two & (self.blocks == 1))
     }
@@ -232,6 +215,7 @@ fn limits_of_good(handset: &Handset) -> Option<Limits> {
     let config = usize::from(settings.config);
     let mut limits = Limits {
         downlink: DOWNLINK[config],
+        data: DOWNLINK[config] & !if is_short(settings) { SPECIAL[config] } else { 0 },
         blocks: settings.blocks,
         cces: cces(settings.nrb),
         distances: &DISTANCE[config],

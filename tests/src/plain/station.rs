@@ -1,8 +1,31 @@
 //! The station's side: the reading of a reply and the claims of a cell.
 
-use super::{bundles, check, pair, window_size};
+use super::{bundles, check, is_short, pair, window_size, K, SPECIAL};
 use crate::{ClaimsAnswer, ReadingAnswer, Settings, NONE, NOT_TOLD};
 use std::slice;
+
+/// The positions with a special subframe, bit m for position m, by configuration and
+/// uplink subframe.
+const SPECIAL_POSITIONS: [[u16; 10]; 7] = special_positions();
+
+const fn special_positions() -> [[u16; 10]; 7] {
+    let mut positions = [[0; 10]; 7];
+    let mut config = 0;
+    while config < 7 {
+        let mut n = 0;
+        while n < 10 {
+            let mut m = 0;
+            while m < K[config][n].len() {
+                let subframe = (n + 20 - K[config][n][m] as usize) % 10;
+                positions[config][n] |= (SPECIAL[config] >> subframe & 1) << m;
+                m += 1;
+            }
+            n += 1;
+        }
+        config += 1;
+    }
+    positions
+}
 
 /// Stands where no state sends a symbol.
 const NO_ROW: u8 = 255;
@@ -76,19 +99,27 @@ fn reading(
 ) -> Result<ReadingAnswer, u16> {
     check(settings)?;
     let size = window_size(settings.config, n)?;
-    if told != NOT_TOLD {
-        if told >= size {
-            return Err(11);
-        }
-        if settings.scheduled == NONE {
-            return Err(18);
-        }
-        if resource == settings.scheduled {
-            return Ok(meaning(settings, size, (told, 0), b0, b1)?.as_block());
-        }
+    let is_told = told != NOT_TOLD;
+    if is_told {
+        check_told(settings, n, size, told)?;
     }
-    let pair = pair(settings, size, resource)?;
-    meaning(settings, size, pair, b0, b1)
+    let is_block = is_told && resource == settings.scheduled;
+    let place = if is_block { (told, 0) } else { pair(settings, size, resource)? };
+    let read = meaning(settings, size, place, b0, b1)?;
+    Ok(if is_block { read.as_block() } else { read })
+}
+
+fn check_told(settings: &Settings, n: u16, size: u16, told: u16) -> Result<(), u16> {
+    let special = SPECIAL_POSITIONS[usize::from(settings.config)][usize::from(n)];
+    if told >= size {
+        Err(11)
+    } else if is_short(settings) && special >> told & 1 == 1 {
+        Err(20)
+    } else if settings.scheduled == NONE {
+        Err(18)
+    } else {
+        Ok(())
+    }
 }
 
 /// What two bits say at a position of a window of `size` subframes.

@@ -31,16 +31,16 @@ second-met k zero t e some none = some (omega arith)
 second-met k (suc w) t e some none = omega arith
 
 module _ (s : Settings) (n size : ℕ) (looked : size ≡ sizeOf s n) (r : ℕ) (t : Told) (p : Placed) where
-  module _ (m told : ℕ) (is : t ≡ At m) (asked : told ≡ toldRefusal s size (At m)) where
+  module _ (m told : ℕ) (is : t ≡ At m) (asked : told ≡ toldRefusal s n (At m)) where
     told-met : (told ≡ 0 → ⊥) → (k : ℕ) → k ≡ orElse (windowRefusal s n) told → p ≡ notPlaced k → Reads s size p (readOf s n t r)
     unfolding readOf
     told-met some k e given b0 b1 =
         rw (given, is)
-        (met k (readOn s n (At m) r b0 b1) (second-met k (windowRefusal s n) told e some) ∙ rw (e, asked, looked))
+        (met k (readOn s n (At m) r b0 b1) (second-met k (windowRefusal s n) told e some) ∙ rw (e, asked))
 
     module _ (none : told ≡ 0) (q : ℕ) (same : q ≡ r) where
-      fine : toldRefusal s (sizeOf s n) (At m) ≡ 0
-      fine = rw (← looked) (sym asked ∙ none)
+      fine : toldRefusal s n (At m) ≡ 0
+      fine = sym asked ∙ none
 
       block : q ≡ s .scheduled → p ≡ blockPlaced (windowRefusal s n) m → Reads s size p (readOf s n t r)
       unfolding readOf readOn

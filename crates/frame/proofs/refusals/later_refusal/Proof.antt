@@ -1,6 +1,7 @@
--- `frame::refusals::later_refusal` meets its contract. Assumes nothing.
+-- `frame::refusals::later_refusal` meets its contract: the first refusal met is answered. Assumes nothing.
 use borrow.Author.Needs.{needs}
 use Rattle.frame.specs.Settings.{laterRefusal}
+use Rattle.frame.proofs.Causes.{refused-first, refused-next}
 use Rattle.frame.proofs.refusals.later_refusal.Statement.{statement}
 use Rattle.frame.proofs.refusals.later_refusal.Tie as tie
 
@@ -9,7 +10,14 @@ scheduled-refusal-requires c κs = search needs
 
 returns : tie.Need-returns
 unfolding laterRefusal
-returns c = search needs
+returns c = refused-first _ _ _ (c .before .scheduled-refusal .ensures) (c .if1 .taken)
+
+special-refusal-requires : tie.Need-special-refusal-requires
+special-refusal-requires c κs = search needs
+
+returns-2 : tie.Need-returns-2
+unfolding laterRefusal
+returns-2 c = refused-next _ _ _ _ (c .before .before .scheduled-refusal .ensures) (c .before .if1 .left) (c .special-refusal .ensures)
 
 pub later-refusal-spec : {M : Type 1} → statement M
-later-refusal-spec = tie.close (tie.spec scheduled-refusal-requires returns)
+later-refusal-spec = tie.close (tie.spec scheduled-refusal-requires returns special-refusal-requires returns-2)

@@ -8,7 +8,7 @@ use borrow.Author.Needs.{needs}
 use Rattle.frame.specs.Coded.{digitAt, letterDigit, layoutDigits}
 use Rattle.frame.specs.Layout.{Letter, D, S, U, carries, letterOf, downlink}
 use Rattle.frame.proofs.Hex.{digit-at}
-use Rattle.frame.proofs.Layouts.{outside-frame}
+use Rattle.frame.proofs.Layouts.{letter-small, outside-frame}
 use Rattle.frame.proofs.table.is_downlink.Statement.{statement}
 use Rattle.frame.proofs.table.is_downlink.Tie as tie
 
@@ -18,15 +18,10 @@ told D = refl
 told S = refl
 told U = refl
 
-small : (l : Letter) → letterDigit l < 16
-small D = omega arith
-small S = omega arith
-small U = omega arith
-
 told-at : (c n d w : ℕ) → n < 10 → w ≡ layoutDigits c → d ≡ digitAt w n → not (eqb d 5) ≡ downlink c n
 unfolding layoutDigits downlink
 told-at c n d w h row read =
-    rw (read, row, digit-at 10 (λ (n : ℕ). letterDigit (letterOf c n)) (λ n. small (letterOf c n)) n h) (told (letterOf c n))
+    rw (read, row, digit-at 10 (λ (n : ℕ). letterDigit (letterOf c n)) (λ n. letter-small (letterOf c n)) n h) (told (letterOf c n))
 
 returns : tie.Need-returns
 returns c = outside-frame _ _ (c .if1 .taken)

@@ -1,4 +1,4 @@
--- `handset::feeding::feed_refusal` meets its contract: 8 first, then 9 to 12 and 18. Assumes nothing.
+-- `handset::feeding::feed_refusal` meets its contract: 8 first, then 9, 20, 10 to 12 and 18. Assumes nothing.
 use borrow.Author.Needs.{needs}
 use Rattle.frame.proofs.Causes.{refused-first, refused-next}
 use Rattle.handset.specs.Feed.{feedRefusal}
