@@ -273,7 +273,8 @@ enum feedback_slot_results {
  * FEEDBACK_SETTINGS, below, fills the first five, sets scheduled to FEEDBACK_NONE,
  * prefix to 0 and special to 7, with which special subframes carry data. Where a
  * scheduled resource is configured, and where the cell has another prefix or special
- * subframe configuration, write it into the field afterwards. Settings that a later
+ * subframe configuration, write it into the field afterwards; with the extended prefix
+ * write both, for it has no special subframe configuration 7. Settings that a later
  * version adds it fills too.
  */
 struct feedback_settings {

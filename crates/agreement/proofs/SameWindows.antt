@@ -8,7 +8,7 @@ use mathlib.Core.Logic.{_↔_}
 use mathlib.Core.Path.{_≡_, refl, sym, _∙_}
 use lib.ListN.{getD}
 use Rattle.frame.specs.declared.Settings.{Settings}
-use Rattle.frame.specs.Distance.{subframeOf}
+use Rattle.frame.specs.Distance.{subframeOf, answeredRefusal, answeredOf}
 use Rattle.frame.specs.Layout.{isSpecial}
 use Rattle.frame.specs.Settings.{bundles, hasScheduled, settingsRefusal, windowRefusal}
 use Rattle.frame.specs.Special.{noPdsch, tooShort}
@@ -48,12 +48,18 @@ pub record SameButSpecial (s t : Settings) : Type 0 where
   pub blocks : s .blocks ≡ t .blocks
   pub scheduled : s .scheduled ≡ t .scheduled
 
--- They have the same windows, resources, inverses, readings with nothing told, and answers of a window, whatever was heard in it.
+-- They have the same windows, with the same refusals, and the same uplink subframe answers for a downlink one; the same resources,
+-- inverses, readings with nothing told or with a position that is no special subframe, and answers of a window, whatever was heard in
+-- it.
 pub record SameWindows (s t : Settings) : Type 0 where
   pub windows : (n : ℕ) → windowOf (s .config) n ≡ windowOf (t .config) n
+  pub refused : (n : ℕ) → windowRefusal s n ≡ windowRefusal t n
+  pub answered : (d : ℕ) → answeredOf s d ≡ answeredOf t d
   pub resource : (n m c : ℕ) → resourceOf s n m c ≡ resourceOf t n m c
   pub inverse : (n r : ℕ) → inverseOf s n r ≡ inverseOf t n r
   pub read : (n r b0 b1 : ℕ) → readOf s n NotTold r b0 b1 ≡ readOf t n NotTold r b0 b1
+  pub readTold : (n m : ℕ) → isSpecial (s .config) (subframeOf (s .config) n m) ≡ false
+      → (r b0 b1 : ℕ) → readOf s n (At m) r b0 b1 ≡ readOf t n (At m) r b0 b1
   pub answer : (n : ℕ) (view : ℕ → View) → windowAnswer s n view ≡ windowAnswer t n view
 
 -- And where both allow data in special subframes, nothing moves at all: the same readings, whatever is told, and the same answers to
@@ -122,6 +128,19 @@ module _ (s : Settings) (prefix special : ℕ) (good : settingsRefusal s ≡ 0) 
   unfolding toldRefusal
   untold-alike n = refl
 
+  told-alike : (n m : ℕ) → tooShort s (subframeOf (s .config) n m) ≡ tooShort t (subframeOf (s .config) n m)
+      → toldRefusal s n (At m) ≡ toldRefusal t n (At m)
+  unfolding toldRefusal hasScheduled
+  told-alike n m e = rw e
+
+  not-special : (n m : ℕ) → isSpecial (s .config) (subframeOf (s .config) n m) ≡ false → toldRefusal s n (At m) ≡ toldRefusal t n (At m)
+  unfolding tooShort
+  not-special n m e = told-alike n m (rw e)
+
+  answered-alike : (d : ℕ) → answeredOf s d ≡ answeredOf t d
+  unfolding answeredOf answeredRefusal
+  answered-alike d = rw (good, also)
+
   carrier-alike : (n m : ℕ) (v : View) → carrierOf s n m v ≡ carrierOf t n m v
   unfolding carrierOf
   carrier-alike n m Unheard = resource-alike n m 0
@@ -143,18 +162,20 @@ module _ (s : Settings) (prefix special : ℕ) (good : settingsRefusal s ≡ 0) 
   alike =
       record {
         windows = λ n. refl;
+        refused = refused-alike;
+        answered = answered-alike;
         resource = resource-alike;
         inverse = inverse-alike;
         read = λ n. read-alike n NotTold (untold-alike n);
+        readTold = λ n m e. read-alike n (At m) (not-special n m e);
         answer = answer-alike;
       }
 
   -- Where no subframe is too short in one and not in the other.
   module _ (same : (n : ℕ) → tooShort s n ≡ tooShort t n) where
-    told-alike : (n : ℕ) (told : Told) → toldRefusal s n told ≡ toldRefusal t n told
-    unfolding toldRefusal hasScheduled
-    told-alike n NotTold = refl
-    told-alike n (At m) = rw (same (subframeOf (s .config) n m))
+    any-alike : (n : ℕ) (told : Told) → toldRefusal s n told ≡ toldRefusal t n told
+    any-alike n NotTold = untold-alike n
+    any-alike n (At m) = told-alike n m (same (subframeOf (s .config) n m))
 
     cause-alike : (n : ℕ) (block : ℕ → Bool) (x : Heard) → causeOf s n block x ≡ causeOf t n block x
     unfolding causeOf secondRefusal
@@ -203,7 +224,7 @@ pub same-answers : (s t : Settings) → SameButSpecial s t → settingsRefusal s
 same-answers s t e good also long long′ =
     rw (is-with s t e)
     (record {
-      read = λ n told. read-alike s (t .prefix) (t .special) good ok n told (told-alike s (t .prefix) (t .special) good ok same n told);
+      read = λ n told. read-alike s (t .prefix) (t .special) good ok n told (any-alike s (t .prefix) (t .special) good ok same n told);
       feed = feed-alike s (t .prefix) (t .special) good ok same;
     })
   where

@@ -10,6 +10,7 @@
 --                   a position beyond the window is taken for its last one (once)          not-last-for-beyond
 --   givesBack       bits that 14 refuses are read as the first pair                        not-refused-as-first
 --                   told a scheduled position, it refuses every dynamic resource with 13   not-scheduled-only
+--                   with special subframes too short it refuses 20 whatever it is told     not-twenty-anywhere
 --   made            every cell is refused                                                  not-refuses-to-make
 --   run             by its fields, below; over a whole list: the first window only         not-first-only
 -- HoldsAfter

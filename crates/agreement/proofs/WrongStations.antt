@@ -9,6 +9,7 @@ use mathlib.Core.Path.{_≡_, refl, sym, ap, _∙_}
 use native.Mathlib.Omega.{arith}
 use lib.Dec.{eqb, ltb}
 use Rattle.frame.specs.declared.Settings.{Settings}
+use Rattle.frame.specs.Special.{noPdsch}
 use Rattle.resource.specs.declared.Inverted.{Inverted}
 use Rattle.resource.specs.declared.Inverted.the-variants as inverted
 use Rattle.resource.specs.declared.Mapped.{Mapped}
@@ -32,7 +33,7 @@ use Rattle.station.specs.declared.Told.the-variants as told
 use Rattle.station.specs.Readings.{placePosition, readOf}
 use Rattle.agreement.specs.Demand3.{Engine, Demand3}
 use Rattle.agreement.proofs.Computing.{schedules, handsets, stations}
-use Rattle.agreement.proofs.Worked.{answer-at, reading-at, cell, scheduledCell, allHeard, all-heard, shared, symbol-shared, loneBlock, lone-block, blockAtIndex, block-at-index}
+use Rattle.agreement.proofs.Worked.{answer-at, reading-at, cell, scheduledCell, shortCell, allHeard, all-heard, shared, symbol-shared, loneBlock, lone-block, blockAtIndex, block-at-index}
 use Rattle.agreement.proofs.WrongEngines.{engine, mappedBy, invertedBy, readBy, changed, replying, sentOn, same-resource, symbol-parts, named-at, in-all-heard, in-shared, in-lone-block, in-block-at-index}
 
 -- The resource call and its inverse.
@@ -133,6 +134,17 @@ pub not-scheduled-only : Demand3 (readBy scheduledOnly) → ⊥
 unfolding handsets
 not-scheduled-only d =
     ⊎-elim (λ e. omega (arith, ap readingNumber e)) (λ e. e) (d .givesBack (scheduledCell 2 0) 2 3 20 111 1 0 (told.At 1) (omega arith, refl, refl) refl)
+
+-- In a cell whose special subframes are too short for data it refuses 20 whatever position it is told.
+abbrev pub twentyAnywhere : Settings → ℕ → Told → ℕ → ℕ → ℕ → Reading
+twentyAnywhere s n told.NotTold r b0 b1 = readOf s n told.NotTold r b0 b1
+twentyAnywhere s n (told.At m) r b0 b1 = cond (noPdsch (s .prefix) (s .special)) (reading.Refused 20) (readOf s n (told.At m) r b0 b1)
+
+-- told position 1 of the window of subframe 2, which is subframe 5
+pub not-twenty-anywhere : Demand3 (readBy twentyAnywhere) → ⊥
+unfolding handsets
+not-twenty-anywhere d =
+    ⊎-elim (λ e. omega (arith, ap readingNumber e)) (λ e. e) (d .givesBack (shortCell 2 0) 2 3 20 111 1 0 (told.At 1) (omega arith, refl, refl) refl)
 
 -- It does not listen to what it is told: the scheduled resource is refused 13.
 abbrev pub untold : Settings → ℕ → Told → ℕ → ℕ → ℕ → Reading

@@ -50,7 +50,7 @@ letter-small D = omega arith
 letter-small S = omega arith
 letter-small U = omega arith
 
--- A special subframe is downlink: grants are sent there as in a D.
+-- A special subframe is downlink: PDCCHs are sent there as in a D.
 pub special-downlink : (c n : ℕ) → isSpecial c n ≡ true → downlink c n ≡ true
 unfolding isSpecial downlink
 special-downlink c n e = go (letterOf c n) e

@@ -2,7 +2,7 @@
 -- the positions, the subframes that have windows and those that are in them; and that each downlink subframe is in exactly one.
 -- What the table's rows decide is tested at every row and position by antt, in the declarations named `..-tested`.
 -- Assumes nothing.
-use Prim.Native.Nat.{ℕ, zero, suc, _+_, _-_, _<_, _≤_, _%_, suc-le-suc}
+use Prim.Native.Nat.{ℕ, zero, suc, _+_, _-_, _*_, _<_, _≤_, _%_, suc-le-suc}
 use mathlib.Core.Bool.{Bool, true, false, cond, not, _&&_, _||_, false≢true}
 use mathlib.Core.List.{List, [], _∷_}
 use mathlib.Core.Path.{_≡_, refl, sym, ap, _∙_, subst₂}
@@ -15,7 +15,7 @@ use lib.Ieee.Fits.{and-l, and-r}
 use lib.ListN.{length, getD, List·getD-eq-default}
 use borrow.Author.Tests.{eqb-true, eqb-false, leb-true}
 use Rattle.frame.specs.declared.Settings.{Settings}
-use Rattle.frame.specs.Distance.{distanceUpTo, distanceOf}
+use Rattle.frame.specs.Distance.{distanceUpTo, distanceOf, subframeOf}
 use Rattle.frame.specs.Layout.{layouts, letterOf, downlink}
 use Rattle.frame.specs.Once.{InWindow, InExactlyOne}
 use Rattle.frame.specs.Order.{member, positionOf}
@@ -137,6 +137,14 @@ window-downlink c n m h = is-true _ (position-passes _ downlink-tested c n m h)
 -- Where subframe d of the run is in the window of s, d is k before s, counted round the frame's ten.
 k-before : (c s m d : ℕ) → InWindow c s m d → (s % 10 + 20 - getD (windowOf c (s % 10)) m 0) % 10 ≡ d % 10
 k-before c s m d w = omega (arith, window-k c (s % 10) m (w .position))
+
+-- It is the subframe at its position.
+pub position-subframe : (c s m d : ℕ) → InWindow c s m d → subframeOf c (s % 10) m ≡ d % 10
+unfolding subframeOf
+position-subframe c s m d w = go (getD (windowOf c (s % 10)) m 0) (w .distance)
+  where
+    go : (k : ℕ) → d + k ≡ s → (s % 10 + 9 * k) % 10 ≡ d % 10
+    go k e = omega arith
 
 -- A subframe of the run that is in a window is downlink.
 pub inside-downlink : (c s m d : ℕ) → InWindow c s m d → downlink c (d % 10) ≡ true

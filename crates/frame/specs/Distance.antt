@@ -32,7 +32,8 @@ uplinkOf c d = (d + distanceOf c d) % 10
 abbrev pub before : ℕ → ℕ → ℕ
 before n a = (n + 9 * a) % 10
 
--- The subframe at position m of the window of n, by its number in the frame: 01's n − k_m.
+-- The subframe at position m of the window of n, by its number in the frame: 01's n − k_m. Of an endless run it is the subframe that
+-- stands there (`position-subframe` in proofs/Windows.antt).
 unfoldable pub subframeOf : ℕ → ℕ → ℕ → ℕ
 subframeOf c n m = before n (getD (windowOf c n) m 0)
 

@@ -25,7 +25,7 @@ layouts =
 unfoldable pub letterOf : ℕ → ℕ → Letter
 letterOf c n = getD (getD layouts c []) n U
 
--- 01's "downlink": D or S, since a special subframe carries grants as a D does.
+-- 01's "downlink": D or S, since a special subframe carries PDCCHs as a D does.
 abbrev pub carries : Letter → Bool
 carries D = true
 carries S = true

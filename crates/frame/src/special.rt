@@ -4,26 +4,15 @@ use crate::table::is_special;
 use crate::table::window_of;
 ghost use mathlib.Core.Path.{_≡_};
 ghost use Rattle.frame.specs.Distance.{subframeOf};
-ghost use Rattle.frame.specs.Special.{lastSpecial, specialRefusal, noPdsch, tooShort};
+ghost use Rattle.frame.specs.Special.{specialRefusal, noPdsch, tooShort};
 
-// The last special configuration with a prefix: 8 with the normal one, 6 with the extended one.
-fn last_special(prefix: u16) -> u16
-    ensures { λ r. ⌜ r ≡ lastSpecial prefix ⌝ }
-{
-    if prefix == 0 {
-        return 8;
-    }
-    6
-}
-
-// The prefix and the special configuration: 19.
+// The prefix and the special configuration: 19. The last special configuration is 8 with the normal prefix and 6 with the extended
+// one, that is 8 with twice the prefix added.
 pub fn special_refusal(s: Settings) -> u16
     ensures { λ r. ⌜ r ≡ specialRefusal s ⌝ }
 {
-    if 1 < s.prefix {
-        return 19;
-    }
-    if last_special(s.prefix) < s.special {
+    let raised = s.special as u32 + 2 * (s.prefix as u32);
+    if (1 < s.prefix) | (8 < raised) {
         return 19;
     }
     0

@@ -156,7 +156,7 @@ fn order_of(size: u16, config: u16, n: u16) -> Order
     }
 }
 
-// Subframe n is downlink, D or S: a grant, a scheduled block or a release can be sent there.
+// Subframe n is downlink, D or S: a PDCCH can be sent there.
 pub fn is_downlink(config: u16, n: u16) -> bool
     ensures { λ r. ⌜ r ≡ downlink config n ⌝ }
 {

@@ -62,7 +62,7 @@ pub told-fine : (s : Settings) (n m : ℕ) → m < sizeOf s n → hasScheduled s
 unfolding toldRefusal
 told-fine s n m inside set long = rw (lt-ltb m (sizeOf s n) inside, long, set)
 
--- And only there.
+-- Only where a scheduled resource is set.
 told-set : (s : Settings) (n m : ℕ) → toldRefusal s n (told.At m) ≡ 0 → hasScheduled s ≡ true
 unfolding toldRefusal
 told-set s n m e = go (ltb m (sizeOf s n)) (tooShort s (subframeOf (s .config) n m)) (hasScheduled s) e

@@ -1,4 +1,4 @@
--- `claims::claims_of` meets its contract: 1 to 6, 17, 7, 15, 16, then the first clash; the scratch is left where it refuses. Assumes nothing.
+-- `claims::claims_of` meets its contract: 1 to 6, 17, 19, 7, 15, 16, then the first clash; the scratch is left where it refuses. Assumes nothing.
 use mathlib.Core.Path.{sym}
 use native.Mathlib.Omega.{arith}
 use lib.Seq.{length-take-le}
