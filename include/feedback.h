@@ -122,7 +122,7 @@
  *             feedback_resource       64
  *             feedback_inverse        64
  *             feedback_reading        512
- *             feedback_claims         256
+ *             feedback_claims         128
  *             feedback_make           128
  *             feedback_feed_nothing   4096
  *             feedback_feed_grant     2048

@@ -8,10 +8,10 @@ use borrow.Author.Tests.{eq-eqb}
 use Rattle.resource.specs.declared.Mapped.{Mapped}
 use Rattle.resource.specs.declared.Mapped.the-variants as mapped
 use Rattle.resource.specs.declared.Resource.{Resource}
-use Rattle.resource.specs.Calls.{resourceSized}
+use Rattle.resource.specs.Calls.{resourceWithin}
 use Rattle.resource.proofs.Counts.{resources-least}
 use Rattle.resource.proofs.OneToOne.{resource-range}
-use Rattle.resource.proofs.Sized.{resource-told}
+use Rattle.resource.proofs.Sized.{resource-tested}
 use Rattle.claims.specs.declared.ClaimedWindow.{ClaimedWindow}
 use Rattle.claims.specs.Claims.{claimPosition, claimCce, claimed, resourcesOf, roomOf, isResource}
 use Rattle.claims.specs.Marking.{Has, AcceptedWindow, Byte}
@@ -19,10 +19,10 @@ use Rattle.claims.proofs.Share.{has-resource}
 
 -- what was asked for the claim, and answered
 module _ (w : ClaimedWindow) (known : AcceptedWindow w) (claim c : ℕ) (a : Mapped) (cce : c ≡ claim % 256)
-    (asked : a ≡ resourceSized (w .s) (w .size) (claim / 256) c) where
+    (asked : a ≡ resourceWithin (w .s) (w .size) (claim / 256) c) where
   answer : claimed (w .s) (w .n) claim ≡ a
   answer =
-      sym (resource-told (w .s) (w .n) _ refl (claimPosition claim) (claimCce claim))
+      sym (resource-tested (w .s) (w .n) _ (known .accepted) refl (claimPosition claim) (claimCce claim))
       ∙ rw (← known .positions, ← cce) (sym asked)
 
   module _ (x : Resource) (r : ℕ) (at : a ≡ mapped.At x) (number : r ≡ x .0) where

@@ -97,7 +97,7 @@ fn byte_of(w: ClaimedWindow, claim: u16) -> usize
     ensures { λ t. ⌜ Byte (w .s) (w .n) claim t ⌝ }
 {
     let s = w.s;
-    let answer = resource::resource_sized(s, w.size, claim / 256, Cce::new(claim % 256));
+    let answer = resource::resource_within(s, w.size, claim / 256, Cce::new(claim % 256));
     match answer {
         Mapped::At(r) => (r.number() - s.n1) as usize,
         Mapped::Refused(_) => 0,

@@ -64,8 +64,10 @@ pub fn has_scheduled(s: Settings) -> bool
 fn scheduled_refusal(s: Settings) -> u16
     ensures { λ r. ⌜ r ≡ scheduledRefusal s ⌝ }
 {
-    if has_scheduled(s) & (s.n1 <= s.scheduled) {
-        return 17;
+    if has_scheduled(s) {
+        if s.n1 <= s.scheduled {
+            return 17;
+        }
     }
     0
 }

@@ -6,13 +6,14 @@ ghost use mathlib.Core.Path.{_≡_};
 ghost use Rattle.frame.specs.Distance.{subframeOf};
 ghost use Rattle.frame.specs.Special.{specialRefusal, noPdsch, tooShort};
 
-// The prefix and the special configuration: 19. The last special configuration is 8 with the normal prefix and 6 with the extended
-// one, that is 8 with twice the prefix added.
+// The prefix and the special configuration: 19. The last special configuration is 8 with the normal prefix, 6 with the extended one.
 pub fn special_refusal(s: Settings) -> u16
     ensures { λ r. ⌜ r ≡ specialRefusal s ⌝ }
 {
-    let raised = s.special as u32 + 2 * (s.prefix as u32);
-    if (1 < s.prefix) | (8 < raised) {
+    if 1 < s.prefix {
+        return 19;
+    }
+    if 8 - 2 * s.prefix < s.special {
         return 19;
     }
     0

@@ -7,11 +7,11 @@ use native.Mathlib.Omega.{arith}
 use borrow.Author.Tests.{le-ltb, ne-eqb}
 use Rattle.frame.specs.declared.Settings.{Settings}
 use Rattle.frame.specs.Settings.{orElse, outside, settingsRefusal, noWindowRefusal, windowRefusal}
-use Rattle.frame.proofs.Accepted.{accepted, not-outside}
+use Rattle.frame.proofs.Accepted.{accepted, answered, not-outside}
 use Rattle.frame.proofs.Windows.{window-size}
 use Rattle.resource.specs.declared.Mapped.the-variants as mapped
 use Rattle.resource.specs.declared.Inverted.the-variants as inverted
-use Rattle.resource.specs.Calls.{mappedAs, invertedAs, pairRefusal, rangeRefusal, resourceIn, inverseIn, sizeOf, resourceOf, resourceSized, inverseOf, inverseSized}
+use Rattle.resource.specs.Calls.{mappedAs, invertedAs, pairRefusal, rangeRefusal, resourceIn, inverseIn, sizeOf, resourceOf, resourceSized, resourceWithin, inverseOf, inverseSized}
 use Rattle.resource.specs.Bounds.{Bounds}
 
 -- A refusal that is met comes before the next one.
@@ -113,3 +113,16 @@ module _ (s : Settings) (n size : ℕ) (read : size ≡ sizeOf s n) where
 
       pub window-answered-back : (r : ℕ) → inverseIn (s .nrb) (s .n1) size r ≡ inverseOf s n r
       window-answered-back r = sized-answered-back s size k asked none least most r ∙ inverse-told r
+
+-- So is the call for a window that was tested before.
+pub resource-tested : (s : Settings) (n size : ℕ) → windowRefusal s n ≡ 0 → size ≡ sizeOf s n → (m c : ℕ) → resourceWithin s size m c ≡ resourceOf s n m c
+unfolding resourceWithin resourceOf resourceIn
+resource-tested s n size good read m c =
+    let a = answered s n good in
+    rw (
+      read,
+      good,
+      le-ltb 110 (s .nrb) (a .0 .nrbMost),
+      le-ltb 2047 (s .n1) (a .0 .n1),
+      not-outside 1 9 (sizeOf s n) (a .1) (window-size (s .config) n),
+    )

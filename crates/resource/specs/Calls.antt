@@ -59,6 +59,15 @@ resourceSized s size m c =
     mappedAs (orElse (settingsRefusal s) (orElse (cond (outside 1 9 size) 7 0) (pairRefusal (s .nrb) size m c)))
     (resourceNumber (s .nrb) (s .n1) size m c)
 
+-- The resource call for a caller that has tested settings and subframe: of them only what the formula needs is asked again, and 7 is
+-- answered where N_RB, N1 or M is none that they allow; then 11, else the formula's resource.
+unfoldable pub resourceWithin : Settings → ℕ → ℕ → ℕ → Mapped
+resourceWithin s size m c =
+    cond (ltb 110 (s .nrb)) (mapped.Refused 7)
+    (cond (ltb 2047 (s .n1)) (mapped.Refused 7)
+    (cond (outside 1 9 size) (mapped.Refused 7)
+    (resourceIn (s .nrb) (s .n1) size m c)))
+
 -- The inverse call: 1 to 6, 17, 19 and 7, then 13, else the pair.
 unfoldable pub inverseOf : Settings → ℕ → ℕ → Inverted
 inverseOf s n r =

@@ -4,7 +4,7 @@ ghost use mathlib.Core.Path.{_≡_};
 ghost use Prim.Native.Nat.{_≤_};
 ghost use lib.Dec.{ltb};
 ghost use Rattle.resource.specs.Formula.{edge};
-ghost use Rattle.resource.specs.Calls.{ccesOf, resourceIn, inverseIn, resourceOf, resourceSized, inverseOf, inverseSized};
+ghost use Rattle.resource.specs.Calls.{ccesOf, resourceIn, inverseIn, resourceOf, resourceSized, resourceWithin, inverseOf, inverseSized};
 ghost use Rattle.resource.specs.Bounds.{Bounds};
 ghost use Rattle.resource.specs.Search.{Searched};
 
@@ -79,6 +79,26 @@ pub fn resource_sized(s: Settings, size: u16, m: u16, c: Cce) -> Mapped
     let refusal = frame::settings_refusal(s);
     if refusal != 0 {
         return Mapped::Refused(refusal);
+    }
+    if size < 1 {
+        return Mapped::Refused(7);
+    }
+    if 9 < size {
+        return Mapped::Refused(7);
+    }
+    resource_in(s, size, m, c)
+}
+
+// The same for a caller that has tested settings and subframe, for many PDCCHs of one window; 7 where N_RB, N1 or M is none that
+// they allow.
+pub fn resource_within(s: Settings, size: u16, m: u16, c: Cce) -> Mapped
+    ensures { λ r. ⌜ r ≡ resourceWithin s size m (c .0) ⌝ }
+{
+    if 110 < s.nrb {
+        return Mapped::Refused(7);
+    }
+    if 2047 < s.n1 {
+        return Mapped::Refused(7);
     }
     if size < 1 {
         return Mapped::Refused(7);

@@ -7,8 +7,8 @@ use Rattle.claims.proofs.byte_of.Tie as tie
 new-requires : tie.Need-new-requires
 new-requires c κs = search needs
 
-resource-sized-requires : tie.Need-resource-sized-requires
-resource-sized-requires c κs = search needs
+resource-within-requires : tie.Need-resource-within-requires
+resource-within-requires c κs = search needs
 
 enum-known-answer : tie.Need-enum-known-answer
 enum-known-answer c = search needs
@@ -20,7 +20,7 @@ sub-result : tie.Need-sub-result
 sub-result c =
     let a = c .before .before .before in
     let q = a .before .before in
-    from-n1 _ (q .before .before .before .pre) _ _ _ (q .before .new .ensures) (q .resource-sized .ensures) _ _ (a .answer .given .1)
+    from-n1 _ (q .before .before .before .pre) _ _ _ (q .before .new .ensures) (q .resource-within .ensures) _ _ (a .answer .given .1)
     (c .before .number .ensures)
 
 cast-result : tie.Need-cast-result
@@ -33,20 +33,20 @@ returns : tie.Need-returns
 returns c =
     let a = c .before .before .before in
     let q = a .before .before in
-    byte-given _ (q .before .before .before .pre) _ _ _ (q .before .new .ensures) (q .resource-sized .ensures) _ _ (a .answer .given .1)
+    byte-given _ (q .before .before .before .pre) _ _ _ (q .before .new .ensures) (q .resource-within .ensures) _ _ (a .answer .given .1)
     (c .before .number .ensures)
 
 returns-2 : tie.Need-returns-2
 returns-2 c =
     let q = c .before .before in
-    byte-refused _ (q .before .before .before .pre) _ _ _ (q .before .new .ensures) (q .resource-sized .ensures) _ (c .enum-told .given .1)
+    byte-refused _ (q .before .before .before .pre) _ _ _ (q .before .new .ensures) (q .resource-within .ensures) _ (c .enum-told .given .1)
 
 pub byte-of-spec : {M : Type 1} → statement M
 byte-of-spec =
     tie.close
     (tie.spec
     new-requires
-    resource-sized-requires
+    resource-within-requires
     enum-known-answer
     number-requires
     sub-result

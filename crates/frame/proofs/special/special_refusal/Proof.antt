@@ -1,10 +1,7 @@
--- `frame::special::special_refusal` meets its contract: its test is the definition's. Assumes nothing.
-use Prim.Native.Nat.{ℕ, zero, suc, _+_, _*_, _<_, _≤_}
-use mathlib.Core.Bool.{true, false, _||_}
-use mathlib.Core.Path.{_≡_, sym, _∙_}
-use native.Mathlib.Decide.{decLt}
+-- `frame::special::special_refusal` meets its contract: each return follows from the tests before it. Assumes nothing.
+use Prim.Native.Nat.{ℕ, zero, suc, _-_, _*_, _<_, _≤_}
+use mathlib.Core.Path.{_≡_, refl}
 use native.Mathlib.Omega.{arith}
-use lib.Dec.{ltb}
 use borrow.Author.Needs.{needs}
 use borrow.Author.Tests.{lt-ltb, le-ltb}
 use Rattle.frame.specs.declared.Settings.{Settings}
@@ -12,49 +9,39 @@ use Rattle.frame.specs.Special.{lastSpecial, specialRefusal}
 use Rattle.frame.proofs.special.special_refusal.Statement.{statement}
 use Rattle.frame.proofs.special.special_refusal.Tie as tie
 
--- Two numbers on the same side of their bounds.
-same-side : (bound x bound′ y : ℕ) → Dec (bound < x) → (bound < x → bound′ < y) → ((bound < x → ⊥) → bound′ < y → ⊥) → ltb bound x ≡ ltb bound′ y
-same-side bound x bound′ y (yes h) over under = rw (lt-ltb bound x h, lt-ltb bound′ y (over h))
-same-side bound x bound′ y (no h) over under =
-    let e = under h in
-    rw (le-ltb bound x (omega arith)) (sym (le-ltb bound′ y (go (decLt bound′ y) e)))
-  where
-    go : Dec (bound′ < y) → (bound′ < y → ⊥) → y ≤ bound′
-    go (yes h) e = absurd (e h)
-    go (no h) e = omega arith
+-- The last special configuration, as the code computes it.
+last : (prefix : ℕ) → prefix ≤ 1 → 8 - 2 * prefix ≡ lastSpecial prefix
+last zero h = refl
+last (suc zero) h = refl
+last (suc (suc prefix)) h = absurd (omega arith)
 
--- The code's test.
-tested : (prefix special : ℕ) → (ltb 1 prefix || ltb 8 (special + 2 * prefix)) ≡ (ltb 1 prefix || ltb (lastSpecial prefix) special)
-tested zero special = same-side 8 (special + 2 * 0) 8 special (decLt 8 (special + 2 * 0)) (λ h. omega arith) (λ h e. omega arith)
-tested (suc zero) special = same-side 8 (special + 2 * 1) 6 special (decLt 8 (special + 2 * 1)) (λ h. omega arith) (λ h e. omega arith)
-tested (suc (suc prefix)) special = rw (lt-ltb 1 (suc (suc prefix)) (omega arith))
+prefix-over : (s : Settings) → 1 < s .prefix → 19 ≡ specialRefusal s
+unfolding specialRefusal
+prefix-over s h = rw (lt-ltb 1 (s .prefix) h)
 
-module _ (s : Settings) where
-  refused : (ltb 1 (s .prefix) || ltb 8 (s .special + 2 * s .prefix)) ≡ true → 19 ≡ specialRefusal s
+module _ (s : Settings) (prefix : s .prefix ≤ 1) where
+  special-over : 8 - 2 * s .prefix < s .special → 19 ≡ specialRefusal s
   unfolding specialRefusal
-  refused e = rw (sym (tested (s .prefix) (s .special)) ∙ e)
+  special-over h = rw (le-ltb 1 (s .prefix) prefix, ← last (s .prefix) prefix, lt-ltb (8 - 2 * s .prefix) (s .special) h)
 
-  accepted : (ltb 1 (s .prefix) || ltb 8 (s .special + 2 * s .prefix)) ≡ false → 0 ≡ specialRefusal s
+  within : s .special ≤ 8 - 2 * s .prefix → 0 ≡ specialRefusal s
   unfolding specialRefusal
-  accepted e = rw (sym (tested (s .prefix) (s .special)) ∙ e)
-
-cast-raised : tie.Need-cast-raised
-cast-raised c = search needs
-
-cast-raised-2 : tie.Need-cast-raised-2
-cast-raised-2 c = search needs
-
-mul-raised : tie.Need-mul-raised
-mul-raised c = search needs
-
-add-raised : tie.Need-add-raised
-add-raised c = search needs
+  within h = rw (le-ltb 1 (s .prefix) prefix, ← last (s .prefix) prefix, le-ltb (8 - 2 * s .prefix) (s .special) h)
 
 returns : tie.Need-returns
-returns c = refused _ (c .if1 .taken)
+returns c = prefix-over _ (c .if1 .taken)
+
+mul-if2 : tie.Need-mul-if2
+mul-if2 c = search needs
+
+sub-if2 : tie.Need-sub-if2
+sub-if2 c = search needs
 
 returns-2 : tie.Need-returns-2
-returns-2 c = accepted _ (c .if1 .left)
+returns-2 c = special-over _ (c .before .before .before .if1 .left) (c .if2 .taken)
+
+returns-3 : tie.Need-returns-3
+returns-3 c = within _ (c .before .before .before .if1 .left) (c .if2 .left)
 
 pub special-refusal-spec : {M : Type 1} → statement M
-special-refusal-spec = tie.close (tie.spec cast-raised cast-raised-2 mul-raised add-raised returns returns-2)
+special-refusal-spec = tie.close (tie.spec returns mul-if2 sub-if2 returns-2 returns-3)
