@@ -2,7 +2,7 @@
 -- allowed."
 -- Assumes nothing.
 use Prim.Native.Nat.{ℕ, zero, suc, _%_}
-use mathlib.Core.Bool.{Bool, true, false, and-true, and-false}
+use mathlib.Core.Bool.{Bool, true, false, and-false}
 use mathlib.Core.List.{List, [], _∷_}
 use mathlib.Core.Logic.{_↔_}
 use mathlib.Core.Path.{_≡_, refl, sym, _∙_}
@@ -135,7 +135,7 @@ module _ (s : Settings) (prefix special : ℕ) (good : settingsRefusal s ≡ 0) 
 
   not-special : (n m : ℕ) → isSpecial (s .config) (subframeOf (s .config) n m) ≡ false → toldRefusal s n (At m) ≡ toldRefusal t n (At m)
   unfolding tooShort
-  not-special n m e = told-alike n m (rw e)
+  not-special n m e = told-alike n m (rw (e, and-false (noPdsch (s .prefix) (s .special)), and-false (noPdsch prefix special)))
 
   answered-alike : (d : ℕ) → answeredOf s d ≡ answeredOf t d
   unfolding answeredOf answeredRefusal
@@ -216,7 +216,7 @@ same-windows s t e good also =
 
 no-short : (s : Settings) → noPdsch (s .prefix) (s .special) ≡ false → (n : ℕ) → tooShort s n ≡ false
 unfolding tooShort
-no-short s long n = rw long (and-false (isSpecial (s .config) n))
+no-short s long n = rw long
 
 -- Without a special configuration that forbids data nothing moved.
 pub same-answers : (s t : Settings) → SameButSpecial s t → settingsRefusal s ≡ 0 → settingsRefusal t ≡ 0
@@ -238,7 +238,7 @@ same-answers s t e good also long long′ =
 module _ (s : Settings) (prefix special : ℕ) (short : noPdsch (s .prefix) (s .special) ≡ true) (long : noPdsch prefix special ≡ false) where
   short-special : (n : ℕ) → tooShort s n ≡ isSpecial (s .config) n
   unfolding tooShort
-  short-special n = rw short (and-true (isSpecial (s .config) n))
+  short-special n = rw short
 
   fewer-heard : (n : ℕ) (x : Heard)
       → (heardRefusal s n x ≡ 0) ↔ ((heardRefusal (with s prefix special) n x ≡ 0) × (isData x ≡ true → isSpecial (s .config) n ≡ false))

@@ -32,7 +32,7 @@ fn no_pdsch(prefix: u16, special: u16) -> bool
 pub fn is_too_short(s: Settings, n: u16) -> bool
     ensures { λ r. ⌜ r ≡ tooShort s n ⌝ }
 {
-    is_special(s.config, n) & no_pdsch(s.prefix, s.special)
+    no_pdsch(s.prefix, s.special) & is_special(s.config, n)
 }
 
 // The subframe at position m of the window of n; n itself, by its number in the frame, where the window has no such position.

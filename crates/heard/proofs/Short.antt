@@ -60,10 +60,10 @@ module _ (s : Settings) where
     -- A subframe too short for data is special, and so downlink: 9 does not refuse what is sent there.
     pub short-downlink : tooShort s n ≡ true → downlink (s .config) n ≡ true
     unfolding tooShort
-    short-downlink e = special-downlink (s .config) n (go (isSpecial (s .config) n) e)
+    short-downlink e = special-downlink (s .config) n (go (noPdsch (s .prefix) (s .special)) e)
       where
-        go : (b : Bool) → (b && noPdsch (s .prefix) (s .special)) ≡ true → b ≡ true
-        go true e = refl
+        go : (b : Bool) → (b && isSpecial (s .config) n) ≡ true → isSpecial (s .config) n ≡ true
+        go true e = e
         go false e = absurd (false≢true e)
 
     short-met : shortRefusal s n ≡ 20 → tooShort s n ≡ true

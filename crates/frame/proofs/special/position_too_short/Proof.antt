@@ -1,7 +1,7 @@
 -- `frame::special::position_too_short` meets its contract. Assumes nothing.
 use Prim.Native.Nat.{ℕ}
-use mathlib.Core.Bool.{Bool, true, false, and-true, and-false}
-use mathlib.Core.Path.{_≡_, sym, _∙_}
+use mathlib.Core.Bool.{Bool, true, false}
+use mathlib.Core.Path.{_≡_}
 use borrow.Author.Needs.{needs}
 use Rattle.frame.specs.declared.Settings.{Settings}
 use Rattle.frame.specs.Distance.{subframeOf}
@@ -14,11 +14,11 @@ module _ (s : Settings) (n m : ℕ) (none : Bool) (asked : none ≡ noPdsch (s .
   some-short : none ≡ true → (d : ℕ) → d ≡ subframeOf (s .config) n m → (special : Bool) → special ≡ isSpecial (s .config) d
       → special ≡ tooShort s (subframeOf (s .config) n m)
   unfolding tooShort
-  some-short e d at special told = rw (← asked, e, told, at) (sym (and-true (isSpecial (s .config) (subframeOf (s .config) n m))))
+  some-short e d at special told = rw (← asked, e, told, at)
 
   none-short : none ≡ false → false ≡ tooShort s (subframeOf (s .config) n m)
   unfolding tooShort
-  none-short e = rw (← asked, e) (sym (and-false (isSpecial (s .config) (subframeOf (s .config) n m))))
+  none-short e = rw (← asked, e)
 
 no-pdsch-requires : tie.Need-no-pdsch-requires
 no-pdsch-requires c κs = search needs
