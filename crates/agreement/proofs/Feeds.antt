@@ -22,7 +22,7 @@ use Rattle.frame.proofs.Windows.{window-uplink, multiplexed-size}
 use Rattle.confirmation.specs.declared.Send.{Send}
 use Rattle.confirmation.specs.declared.Send.the-variants as send
 use Rattle.confirmation.specs.Sent.{isBlock as isSentBlock, toldOf}
-use Rattle.resource.specs.Calls.{sizeOf, resourceOf}
+use Rattle.resource.specs.Calls.{resourceOf}
 use Rattle.reply.specs.declared.Answer.{Answer}
 use Rattle.reply.specs.declared.Answer.the-variants as answer
 use Rattle.heard.specs.declared.Heard.{Heard}

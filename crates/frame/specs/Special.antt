@@ -20,7 +20,7 @@ unfoldable pub noPdsch : ℕ → ℕ → Bool
 noPdsch prefix special =
     (eqb prefix 0 && (eqb special 0 || eqb special 5)) || (eqb prefix 1 && (eqb special 0 || eqb special 4))
 
--- U2's subframe that is "too short for data": a special one, where that allows no PDSCH. It stays in its window, and a release is
--- still heard there.
+-- U2's subframe that is "too short for data": a special one, in a cell whose special configuration allows no PDSCH there. It stays in
+-- its window, and a release is still heard there.
 unfoldable pub tooShort : Settings → ℕ → Bool
 tooShort s n = noPdsch (s .prefix) (s .special) && isSpecial (s .config) n
