@@ -541,53 +541,6 @@ fn told_reading_with_all_arguments_special() {
     assert_eq!(comparison.refused(18), 2 * (1 + 1) * (2 * (2 + 1) + 4) * replies);
 }
 
-/// The order with 17 directly behind 6 and 18 directly behind 12, written out by
-/// hand: of a reading all causes are met, and one after another is put right.
-#[test]
-fn later_numbers_in_their_place() {
-    let all = Settings::plain(7, 5, 2048, 2, 0).with_scheduled(65534);
-    let nrb = Settings { config: 5, ..all };
-    let n1 = Settings { nrb: 6, ..nrb };
-    let mode = Settings { n1: 2047, ..n1 };
-    let multiplexing = Settings { mode: 1, ..mode };
-    let blocks = Settings { mode: 0, ..multiplexing };
-    let scheduled = Settings { blocks: 1, ..blocks };
-    let none = Settings { scheduled: NONE, ..scheduled };
-    let set = Settings { scheduled: 2046, ..none };
-    let steps: [(u16, Settings, u16, u16, u16); 12] = [
-        (1, all, 10, 9, 2045),
-        (2, nrb, 10, 9, 2045),
-        (3, n1, 10, 9, 2045),
-        (4, mode, 10, 9, 2045),
-        (5, multiplexing, 10, 9, 2045),
-        (6, blocks, 10, 9, 2045),
-        (17, scheduled, 10, 9, 2045),
-        (7, none, 10, 9, 2045),
-        (11, none, 2, 9, 2045),
-        (18, none, 2, 8, 2045),
-        (13, set, 2, 8, 2045),
-        (14, set, 2, 8, 2046),
-    ];
-    for (number, settings, n, told, resource) in steps {
-        let read = reading(settings, n, told, resource, 2, 2);
-        assert_eq!(read, ReadingAnswer::refused(number), "{settings:?}, n {n}, told {told}");
-    }
-    let read = ReadingAnswer::bundled(8, 0, 1, 0).as_block();
-    assert_eq!(reading(set, 2, 8, 2046, 1, 0), read);
-
-    // 17 comes before 7 in every call with a subframe, and ends the list of make.
-    assert_eq!(window(scheduled, 10), WindowAnswer::refused(17));
-    assert_eq!(answered(scheduled, 10), AnsweredAnswer::refused(17));
-    assert_eq!(resource(scheduled, 10, 9, 7), ResourceAnswer::refused(17));
-    assert_eq!(inverse(scheduled, 10, 2045), InverseAnswer::refused(17));
-    let mut scratch = [3; 5];
-    assert_eq!(claims(scheduled, 10, &[65535], &mut scratch), ClaimsAnswer::refused(17, 0));
-    assert_eq!(scratch, [3; 5]);
-    let made = make(scheduled);
-    assert_eq!((made.refusal, made.handset), (17, Handset::NONE));
-    assert_eq!(make(set).handset, Handset::fresh(set));
-}
-
 /// The values tried of the prefix and of the special configuration.
 const PREFIX: &[u16] = &[0, 1, 2, 256, 65535];
 const SPECIAL: &[u16] = &[0, 4, 5, 6, 7, 8, 9, 263, 65535];
@@ -736,11 +689,12 @@ fn told_short_special_with_all_arguments_together() {
     assert_eq!(comparison.refused(18), (2 * (9 * (2 + 1) - 4) + 9 * 5 - 4) * replies);
 }
 
-/// The order with 19 directly behind 17 and 20 directly behind 9, written out by hand:
-/// of a reading all causes are met, and one after another is put right. A position
-/// that is not below M has no subframe, so 20 and 11 are never met together.
+/// The order with 17 and 19 directly behind 6, 20 directly behind 9 and 18 directly
+/// behind 12, written out by hand: of a reading all causes are met, and one after another
+/// is put right. A position that is not below M has no subframe, so 20 and 11 are never
+/// met together.
 #[test]
-fn nineteen_and_twenty_in_their_place() {
+fn later_numbers_in_their_place() {
     let all = Settings::plain(7, 5, 2048, 2, 0).with_scheduled(65534).with_special(2, 9);
     let nrb = Settings { config: 5, ..all };
     let n1 = Settings { nrb: 6, ..nrb };
@@ -777,25 +731,29 @@ fn nineteen_and_twenty_in_their_place() {
         let read = reading(settings, n, told, resource, 2, 2);
         assert_eq!(read, ReadingAnswer::refused(number), "{settings:?}, n {n}, told {told}");
     }
-    let read = ReadingAnswer::bundled(7, 0, 1, 0).as_block();
-    assert_eq!(reading(set, 2, 7, 2046, 1, 0), read);
+    for told in [7, 8] {
+        let read = ReadingAnswer::bundled(told, 0, 1, 0).as_block();
+        assert_eq!(reading(set, 2, told, 2046, 1, 0), read);
+    }
     let short_and_set = Settings { scheduled: 2046, ..short };
     for resource in [2045, 2046, 2047] {
         let read = reading(short_and_set, 2, 7, resource, 1, 0);
         assert_eq!(read, ReadingAnswer::refused(20), "on {resource}");
     }
 
-    // 19 comes before 7 in every call with a subframe, and ends the list of make.
-    for settings in [prefix, special, later_release] {
-        assert_eq!(window(settings, 10), WindowAnswer::refused(19));
-        assert_eq!(answered(settings, 10), AnsweredAnswer::refused(19));
-        assert_eq!(resource(settings, 10, 9, 7), ResourceAnswer::refused(19));
-        assert_eq!(inverse(settings, 10, 2045), InverseAnswer::refused(19));
+    // 17 and 19 come before 7 in every call with a subframe, and end the list of make.
+    let before_seven = [(17, scheduled), (19, prefix), (19, special), (19, later_release)];
+    for (number, settings) in before_seven {
+        assert_eq!(window(settings, 10), WindowAnswer::refused(number));
+        assert_eq!(answered(settings, 10), AnsweredAnswer::refused(number));
+        assert_eq!(resource(settings, 10, 9, 7), ResourceAnswer::refused(number));
+        assert_eq!(inverse(settings, 10, 2045), InverseAnswer::refused(number));
         let mut scratch = [3; 5];
-        assert_eq!(claims(settings, 10, &[65535], &mut scratch), ClaimsAnswer::refused(19, 0));
+        let refused = ClaimsAnswer::refused(number, 0);
+        assert_eq!(claims(settings, 10, &[65535], &mut scratch), refused);
         assert_eq!(scratch, [3; 5]);
         let made = make(settings);
-        assert_eq!((made.refusal, made.handset), (19, Handset::NONE));
+        assert_eq!((made.refusal, made.handset), (number, Handset::NONE));
     }
     assert_eq!(make(short_and_set).handset, Handset::fresh(short_and_set));
 }

@@ -8,9 +8,10 @@ use native.Mathlib.Decide.{decLt}
 use native.Mathlib.Omega.{arith}
 use lib.Dec.{T, eqb, eqb→eq}
 use lib.ListN.{getD, length, List·getD-eq-default}
-use Rattle.frame.specs.Coded.{letterDigit}
+use Rattle.frame.specs.Coded.{digitAt, letterDigit, layoutDigits}
 use Rattle.frame.specs.Layout.{Letter, D, S, U, layouts, letterOf, carries, downlink, isS, isSpecial}
 use Rattle.frame.proofs.Below.{below, below-at}
+use Rattle.frame.proofs.Hex.{digit-at}
 
 seven : length layouts ≡ 7
 unfolding layouts
@@ -44,11 +45,16 @@ pub no-special : (c n : ℕ) → 9 < n → false ≡ isSpecial c n
 unfolding isSpecial
 no-special c n h = rw (outside-letters c n h)
 
--- A letter is a digit.
-pub letter-small : (l : Letter) → letterDigit l < 16
+-- A letter is a digit, and the digit that is read is the letter's.
+letter-small : (l : Letter) → letterDigit l < 16
 letter-small D = omega arith
 letter-small S = omega arith
 letter-small U = omega arith
+
+pub letter-at : (c n d w : ℕ) → n < 10 → w ≡ layoutDigits c → d ≡ digitAt w n → d ≡ letterDigit (letterOf c n)
+unfolding layoutDigits
+letter-at c n d w h row read =
+    rw (read, row) (digit-at 10 (λ (n : ℕ). letterDigit (letterOf c n)) (λ n. letter-small (letterOf c n)) n h)
 
 -- A special subframe is downlink: PDCCHs are sent there as in a D.
 pub special-downlink : (c n : ℕ) → isSpecial c n ≡ true → downlink c n ≡ true

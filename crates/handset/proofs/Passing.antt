@@ -1,24 +1,28 @@
--- What a state is where 8 is not met, and a feed where none of 8 to 12, 18 and 20 is.
+-- What a state is where 8 is not met, and what it remembers; and a feed where none of 8 to 12, 18 and 20 is met.
 -- Assumes nothing.
-use Prim.Native.Nat.{ℕ, _≤_}
+use Prim.Native.Nat.{ℕ, zero, suc, _+_, _*_, _≤_, _%_}
 use mathlib.Core.Bool.{Bool, true, false, _&&_}
+use mathlib.Core.List.{List, [], _∷_}
 use mathlib.Core.Path.{_≡_, refl}
 use native.Mathlib.Omega.{arith}
 use lib.Dec.{eqb, leb}
+use lib.ListN.{getD}
 use borrow.Author.Tests.{leb-true, eqb-true}
 use Rattle.frame.specs.declared.Settings.{Settings}
+use Rattle.frame.specs.Distance.{before}
 use Rattle.frame.specs.Settings.{settingsRefusal}
 use Rattle.frame.proofs.Accepted.{Accepted, accepted, neither}
 use Rattle.resource.proofs.Edges.{edge-most}
 use Rattle.heard.specs.declared.Heard.{Heard}
 use Rattle.heard.specs.declared.Heard.the-variants.{Nothing, Granted, Scheduled, Released}
+use Rattle.heard.specs.declared.Slot.{Slot}
 use Rattle.heard.specs.Heard.{heardRefusal, causeOf}
-use Rattle.heard.specs.Memory.{blockAgo}
+use Rattle.heard.specs.Memory.{none, heardIn, blockAgo}
 use Rattle.heard.proofs.Before.{cause-none}
 use Rattle.heard.proofs.Valid.{ValidPdcch, valid, held}
 use Rattle.handset.specs.declared.Handset.{Handset}
 use Rattle.handset.specs.Feed.{feedRefusal}
-use Rattle.handset.specs.Sound.{allSound, stateSound, stateRefusal}
+use Rattle.handset.specs.Sound.{slotSound, previous, allSound, stateSound, stateRefusal}
 use Rattle.handset.specs.Stored.{Storable}
 
 pub both : (a b : Bool) → (a && b) ≡ true → (a ≡ true) × (b ≡ true)
@@ -67,3 +71,24 @@ passed h x e =
     let state : Sound h = sound h (a .0) in
     let heard = cause-none (h .settings) (h .next) (blockAgo (h .past)) x (a .1) .0 in
     record { state = state; heard = heard; stored = storable (h .settings) (h .next) x (state .settings) heard }
+
+-- What a sound slot heard is valid by itself in the subframe it was fed in.
+slot-valid : (s : Settings) (n : ℕ) (older : List Slot) (t : Slot) → slotSound s n older t ≡ true → heardRefusal s n (heardIn t) ≡ 0
+unfolding slotSound
+slot-valid s n older t e =
+    let fine = both (leb (t .kind) 3) (eqb (causeOf s n (blockAgo older) (heardIn t)) 0) e in
+    cause-none s n (blockAgo older) (heardIn t) (eqb-true (causeOf s n (blockAgo older) (heardIn t)) 0 (fine .1)) .0
+
+-- Slot i of the memory was fed i + 1 before the subframe that is expected; before the oldest slot nothing was heard.
+past-valid : (s : Settings) (past : List Slot) (n : ℕ) → allSound s n past ≡ true → (i : ℕ) → heardRefusal s (before n (suc i)) (heardIn (getD past i none)) ≡ 0
+unfolding allSound heardIn heardRefusal
+past-valid s [] n e i = refl
+past-valid s (t ∷ ts) n e zero = slot-valid s (previous n) ts t (both (slotSound s (previous n) ts t) (allSound s (previous n) ts) e .0)
+past-valid s (t ∷ ts) n e (suc i) =
+    let same : (n + 9 * suc (suc i)) % 10 ≡ ((n + 9 * 1) % 10 + 9 * suc i) % 10 = omega arith in
+    rw same (past-valid s ts (previous n) (both (slotSound s (previous n) ts t) (allSound s (previous n) ts) e .1) i)
+
+-- So a state that 8 does not refuse remembers only what is valid.
+pub remembered-valid : (h : Handset) → stateRefusal h ≡ 0 → (i : ℕ)
+    → heardRefusal (h .settings) (before (h .next) (suc i)) (heardIn (getD (h .past) i none)) ≡ 0
+remembered-valid h accepted i = past-valid (h .settings) (h .past) (h .next) (sound h accepted .past) i

@@ -2,16 +2,13 @@
 -- it remembers in the window has a resource, by the one-to-one law of the resource crate, whose map is not unfolded here. So the
 -- resource call never causes silence, and silence means what 01 says ("The bundled reply", "The multiplexed reply").
 -- Assumes nothing.
-use Prim.Native.Nat.{ℕ, zero, suc, _-_, _<_}
-use mathlib.Core.Bool.{true}
-use mathlib.Core.List.{List, [], _∷_}
+use Prim.Native.Nat.{ℕ, suc, _-_, _<_}
 use mathlib.Core.Logic.{_↔_}
 use mathlib.Core.Path.{_≡_}
 use native.Mathlib.Omega.{arith}
-use lib.Dec.{eqb, leb}
 use lib.ListN.{getD}
-use borrow.Author.Tests.{eqb-true}
 use Rattle.frame.specs.declared.Settings.{Settings}
+use Rattle.frame.specs.Distance.{before}
 use Rattle.frame.specs.Settings.{windowRefusal}
 use Rattle.frame.specs.Table.{windowOf}
 use Rattle.frame.proofs.Accepted.{accepting}
@@ -24,18 +21,16 @@ use Rattle.reply.specs.declared.Answer.the-variants.{Silent}
 use Rattle.heard.specs.declared.Control.{Control}
 use Rattle.heard.specs.declared.Heard.{Heard}
 use Rattle.heard.specs.declared.Heard.the-variants.{Nothing, Granted, Scheduled, Released}
-use Rattle.heard.specs.declared.Slot.{Slot}
 use Rattle.heard.specs.declared.View.the-variants.{Pdcch}
-use Rattle.heard.specs.Heard.{heardRefusal, causeOf, viewOf}
-use Rattle.heard.specs.Memory.{none, heardIn, viewIn, viewAgo, blockAgo}
-use Rattle.heard.proofs.Before.{cause-none}
+use Rattle.heard.specs.Heard.{heardRefusal, viewOf}
+use Rattle.heard.specs.Memory.{none, heardIn, viewIn, viewAgo}
 use Rattle.reply.specs.Silence.{HeardMapped, SilentCause}
 use Rattle.reply.proofs.Silences.{silent-cause}
 use Rattle.heard.proofs.Valid.{valid}
 use Rattle.handset.specs.declared.Handset.{Handset}
 use Rattle.handset.specs.Feed.{answerOf, nextAnswer}
-use Rattle.handset.specs.Sound.{slotSound, previous, allSound, stateRefusal}
-use Rattle.handset.proofs.Passing.{both, sound}
+use Rattle.handset.specs.Sound.{stateRefusal}
+use Rattle.handset.proofs.Passing.{sound, remembered-valid}
 
 -- The first CCE that a reply sees of what is valid lies below N_4.
 seen-low : (s : Settings) (n : ℕ) (x : Heard) → heardRefusal s n x ≡ 0 → (g : Control) → viewOf x ≡ Pdcch g → g .cce .0 < edge (s .nrb) 4
@@ -49,31 +44,16 @@ seen-low s n (Released p) e g v =
     let same : p .cce ≡ g .cce = cc in
     rw same at (valid s n (Released p) e .1 .cceLow)
 
-slot-low : (s : Settings) (n : ℕ) (older : List Slot) (t : Slot) → slotSound s n older t ≡ true → (g : Control) → viewIn t ≡ Pdcch g
-    → g .cce .0 < edge (s .nrb) 4
-unfolding slotSound viewIn
-slot-low s n older t e g v =
-    let sound = both (leb (t .kind) 3) (eqb (causeOf s n (blockAgo older) (heardIn t)) 0) e in
-    let none = cause-none s n (blockAgo older) (heardIn t) (eqb-true (causeOf s n (blockAgo older) (heardIn t)) 0 (sound .1)) in
-    seen-low s n (heardIn t) (none .0) g v
-
--- So does each that a state remembers; before the oldest slot nothing was heard.
-past-low : (s : Settings) (past : List Slot) (n : ℕ) → allSound s n past ≡ true → (i : ℕ) (g : Control)
-    → viewIn (getD past i none) ≡ Pdcch g → g .cce .0 < edge (s .nrb) 4
-unfolding allSound viewIn heardIn viewOf
-past-low s [] n e i g v = let z : _≡_ {A = ℕ} 0 1 = cc in absurd (omega arith)
-past-low s (t ∷ ts) n e zero g v = slot-low s (previous n) ts t (both (slotSound s (previous n) ts t) (allSound s (previous n) ts) e .0) g v
-past-low s (t ∷ ts) n e (suc i) g v = past-low s ts (previous n) (both (slotSound s (previous n) ts t) (allSound s (previous n) ts) e .1) i g v
-
 module _ (h : Handset) (accepted : stateRefusal h ≡ 0) (window : 0 < sizeOf (h .settings) (h .next)) where
   call-accepted : windowRefusal (h .settings) (h .next) ≡ 0
   call-accepted = window-accepted (h .settings) (h .next) (accepting (h .settings) (sound h accepted .settings)) window
 
   -- The resource call for a PDCCH heard in the window is never refused.
   pub heard-mapped : HeardMapped (h .settings) (h .next) (viewAgo (h .past))
-  unfolding viewAgo
+  unfolding viewAgo viewIn
   heard-mapped m g inside heard =
-      let low = past-low (h .settings) (h .past) (h .next) (sound h accepted .past) (getD (windowOf (h .settings .config) (h .next)) m 0 - 1) g heard in
+      let i : ℕ = getD (windowOf (h .settings .config) (h .next)) m 0 - 1 in
+      let low = seen-low (h .settings) (before (h .next) (suc i)) (heardIn (getD (h .past) i none)) (remembered-valid h accepted i) g heard in
       let p = calls-one-to-one (h .settings) (h .next) call-accepted .into m (g .cce .0) inside low in
       (record { 0 = p .0 }, p .3 .there)
 

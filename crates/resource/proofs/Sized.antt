@@ -1,18 +1,19 @@
 -- The calls where M is told: their refusals, and that they are the map and the inverse of a window of that size.
 -- Assumes nothing.
 use Prim.Native.Nat.{ℕ, zero, suc, _≤_}
-use mathlib.Core.Bool.{true, cond}
+use mathlib.Core.Bool.{Bool, true, false, cond}
 use mathlib.Core.Path.{_≡_, refl, sym, _∙_}
 use native.Mathlib.Omega.{arith}
 use borrow.Author.Tests.{le-ltb, ne-eqb}
 use Rattle.frame.specs.declared.Settings.{Settings}
 use Rattle.frame.specs.Settings.{orElse, outside, settingsRefusal, noWindowRefusal, windowRefusal}
-use Rattle.frame.proofs.Accepted.{accepted, answered, not-outside}
+use Rattle.frame.proofs.Accepted.{accepted, neither, not-outside}
 use Rattle.frame.proofs.Windows.{window-size}
 use Rattle.resource.specs.declared.Mapped.the-variants as mapped
 use Rattle.resource.specs.declared.Inverted.the-variants as inverted
 use Rattle.resource.specs.Calls.{mappedAs, invertedAs, pairRefusal, rangeRefusal, resourceIn, inverseIn, sizeOf, resourceOf, resourceSized, resourceWithin, inverseOf, inverseSized}
 use Rattle.resource.specs.Bounds.{Bounds}
+use Rattle.resource.specs.Formula.{resourceNumber}
 
 -- A refusal that is met comes before the next one.
 mapped-first : (k w next r : ℕ) → k ≡ w → (k ≡ 0 → ⊥) → mapped.Refused k ≡ mappedAs (orElse w next) r
@@ -35,7 +36,7 @@ module _ (s : Settings) (size : ℕ) where
 
   module _ (k : ℕ) (asked : k ≡ settingsRefusal s) (none : k ≡ 0) where
     -- 7
-    pub size-refused : (m c : ℕ) → outside 1 9 size ≡ true → mapped.Refused 7 ≡ resourceSized s size m c
+    size-refused : (m c : ℕ) → outside 1 9 size ≡ true → mapped.Refused 7 ≡ resourceSized s size m c
     unfolding resourceSized
     size-refused m c out = rw (sym asked ∙ none, out)
 
@@ -49,13 +50,26 @@ module _ (s : Settings) (size : ℕ) where
           let a = accepted s (sym asked ∙ none) in
           record { nrbMost = a .nrbMost; n1Most = a .n1; sizeLeast = least; sizeMost = most }
 
-      pub sized-answered : (m c : ℕ) → resourceIn (s .nrb) (s .n1) size m c ≡ resourceSized s size m c
+      sized-answered : (m c : ℕ) → resourceIn (s .nrb) (s .n1) size m c ≡ resourceSized s size m c
       unfolding resourceSized resourceIn
       sized-answered m c = rw (sym asked ∙ none, not-outside 1 9 size least most)
 
       pub sized-answered-back : (r : ℕ) → inverseIn (s .nrb) (s .n1) size r ≡ inverseSized s size r
       unfolding inverseSized inverseIn
       sized-answered-back r = rw (sym asked ∙ none, not-outside 1 9 size least most)
+
+-- Where the settings are accepted, what is left to ask is whether M is one of a window.
+pub within-sized : (s : Settings) (size : ℕ) → settingsRefusal s ≡ 0 → (m c : ℕ) → resourceWithin s size m c ≡ resourceSized s size m c
+unfolding resourceWithin resourceSized resourceIn
+within-sized s size good m c =
+    let a = accepted s good in
+    rw (good, le-ltb 110 (s .nrb) (a .nrbMost), le-ltb 2047 (s .n1) (a .n1)) (go (outside 1 9 size))
+  where
+    go : (b : Bool)
+        → cond b (mapped.Refused 7) (mappedAs (pairRefusal (s .nrb) size m c) (resourceNumber (s .nrb) (s .n1) size m c))
+        ≡ mappedAs (orElse (cond b 7 0) (pairRefusal (s .nrb) size m c)) (resourceNumber (s .nrb) (s .n1) size m c)
+    go true = refl
+    go false = refl
 
 in-turn : (a b c : ℕ) → orElse a (orElse b c) ≡ orElse (orElse a b) c
 in-turn zero b c = refl
@@ -116,13 +130,7 @@ module _ (s : Settings) (n size : ℕ) (read : size ≡ sizeOf s n) where
 
 -- So is the call for a window that was tested before.
 pub resource-tested : (s : Settings) (n size : ℕ) → windowRefusal s n ≡ 0 → size ≡ sizeOf s n → (m c : ℕ) → resourceWithin s size m c ≡ resourceOf s n m c
-unfolding resourceWithin resourceOf resourceIn
+unfolding windowRefusal
 resource-tested s n size good read m c =
-    let a = answered s n good in
-    rw (
-      read,
-      good,
-      le-ltb 110 (s .nrb) (a .0 .nrbMost),
-      le-ltb 2047 (s .n1) (a .0 .n1),
-      not-outside 1 9 (sizeOf s n) (a .1) (window-size (s .config) n),
-    )
+    let settings = neither (settingsRefusal s) (noWindowRefusal (sizeOf s n)) good .0 in
+    within-sized s size settings m c ∙ resource-told s n size read m c

@@ -80,13 +80,7 @@ pub fn resource_sized(s: Settings, size: u16, m: u16, c: Cce) -> Mapped
     if refusal != 0 {
         return Mapped::Refused(refusal);
     }
-    if size < 1 {
-        return Mapped::Refused(7);
-    }
-    if 9 < size {
-        return Mapped::Refused(7);
-    }
-    resource_in(s, size, m, c)
+    resource_within(s, size, m, c)
 }
 
 // The same for a caller that has tested settings and subframe, for many PDCCHs of one window; 7 where N_RB, N1 or M is none that

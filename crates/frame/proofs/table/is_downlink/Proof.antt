@@ -1,14 +1,13 @@
 -- `frame::table::is_downlink` meets its contract. Assumes nothing.
-use Prim.Native.Nat.{ℕ, _<_}
+use Prim.Native.Nat.{ℕ}
 use mathlib.Core.Bool.{not}
 use mathlib.Core.Path.{_≡_, refl}
 use native.Mathlib.Omega.{arith}
 use lib.Dec.{eqb}
 use borrow.Author.Needs.{needs}
-use Rattle.frame.specs.Coded.{digitAt, letterDigit, layoutDigits}
+use Rattle.frame.specs.Coded.{letterDigit}
 use Rattle.frame.specs.Layout.{Letter, D, S, U, carries, letterOf, downlink}
-use Rattle.frame.proofs.Hex.{digit-at}
-use Rattle.frame.proofs.Layouts.{letter-small, outside-frame}
+use Rattle.frame.proofs.Layouts.{letter-at, outside-frame}
 use Rattle.frame.proofs.table.is_downlink.Statement.{statement}
 use Rattle.frame.proofs.table.is_downlink.Tie as tie
 
@@ -18,10 +17,9 @@ told D = refl
 told S = refl
 told U = refl
 
-told-at : (c n d w : ℕ) → n < 10 → w ≡ layoutDigits c → d ≡ digitAt w n → not (eqb d 5) ≡ downlink c n
-unfolding layoutDigits downlink
-told-at c n d w h row read =
-    rw (read, row, digit-at 10 (λ (n : ℕ). letterDigit (letterOf c n)) (λ n. letter-small (letterOf c n)) n h) (told (letterOf c n))
+told-at : (c n d : ℕ) → d ≡ letterDigit (letterOf c n) → not (eqb d 5) ≡ downlink c n
+unfolding downlink
+told-at c n d read = rw read (told (letterOf c n))
 
 returns : tie.Need-returns
 returns c = outside-frame _ _ (c .if1 .taken)
@@ -33,7 +31,7 @@ digit-at-requires : tie.Need-digit-at-requires
 digit-at-requires c κs = search needs
 
 returns-2 : tie.Need-returns-2
-returns-2 c = told-at _ _ _ _ (omega arith) (c .before .layout-of .ensures) (c .digit-at .ensures)
+returns-2 c = told-at _ _ _ (letter-at _ _ _ _ (omega arith) (c .before .layout-of .ensures) (c .digit-at .ensures))
 
 pub is-downlink-spec : {M : Type 1} → statement M
 is-downlink-spec = tie.close (tie.spec returns layout-of-requires digit-at-requires returns-2)
