@@ -26,16 +26,21 @@ use Rattle.reply.specs.declared.Answer.{Answer}
 use Rattle.reply.specs.declared.Answer.the-variants as answer
 use Rattle.heard.specs.declared.Heard.{Heard}
 use Rattle.heard.specs.declared.Heard.the-variants.{Granted, Scheduled, Released}
+use Rattle.heard.specs.declared.Slot.{Slot}
+use Rattle.heard.specs.Memory.{none}
 use Rattle.handset.specs.declared.Fed.{Fed}
 use Rattle.handset.specs.declared.Handset.{Handset}
 use Rattle.feedback.specs.declared.ClaimsAnswer.{ClaimsAnswer}
 use Rattle.feedback.specs.declared.FedAnswer.{FedAnswer}
+use Rattle.trace.specs.declared.Record.{Record}
+use Rattle.trace.specs.declared.Record.the-variants as traced
 use Rattle.feedback.specs.declared.ReadingAnswer.{ReadingAnswer}
+use Rattle.feedback.specs.declared.RecordAnswer.{RecordAnswer}
 use Rattle.feedback.specs.declared.ResourceAnswer.{ResourceAnswer}
 use Rattle.feedback.specs.declared.InverseAnswer.{InverseAnswer}
 use Rattle.feedback.specs.declared.WindowAnswer.{WindowAnswer}
 use Rattle.reply.specs.Kinds.{kindBundled, kindMultiplexed}
-use Rattle.feedback.specs.Kinds.{kindRefused, kindSilent, kindTaken, kindNoWindow, claimsClean, claimsClash, claimsRefused}
+use Rattle.feedback.specs.Kinds.{kindRefused, kindSilent, kindTaken, kindNoWindow, claimsClean, claimsClash, claimsRefused, recordRefused, recordRead, recordEnd}
 
 -- A refusal, with zeros beside it, or where it is 0 a window: M, K in the print's order and its positions in time order.
 abbrev pub windowAs : ℕ → List ℕ → WindowAnswer
@@ -101,3 +106,12 @@ blockOf blocks first second = Scheduled (record { blocks = blocks; first = not (
 
 abbrev pub releaseOf : ℕ → ℕ → Heard
 releaseOf cce dai = Released (record { cce = record { 0 = cce }; dai = dai })
+
+-- A reader's answer without a record: refused, or at the end.
+abbrev pub noRecord : ℕ → ℕ → RecordAnswer
+noRecord refusal kind = record { refusal = refusal; kind = kind; slot = none }
+
+abbrev pub recordAnswer : Record → RecordAnswer
+recordAnswer (traced.Refused k) = noRecord k recordRefused
+recordAnswer (traced.At slot) = record { refusal = 0; kind = recordRead; slot = slot }
+recordAnswer traced.End = noRecord 0 recordEnd

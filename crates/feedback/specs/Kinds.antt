@@ -1,5 +1,5 @@
--- The kinds of an answer as numbers, beside those of a reply (reply/specs/Kinds.antt): what a reading and a feed tell, and what
--- claims tell.
+-- The kinds of an answer as numbers, beside those of a reply (reply/specs/Kinds.antt): what a reading and a feed tell, what
+-- claims tell, and what a reader of a trace tells.
 -- Assumes nothing.
 use Prim.Native.Nat.{ℕ}
 
@@ -23,3 +23,12 @@ claimsClean = 1
 
 abbrev pub claimsClash : ℕ
 claimsClash = 2
+
+abbrev pub recordRefused : ℕ
+recordRefused = 0
+
+abbrev pub recordRead : ℕ
+recordRead = 1
+
+abbrev pub recordEnd : ℕ
+recordEnd = 2

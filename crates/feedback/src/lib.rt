@@ -10,6 +10,8 @@ use heard::Grant;
 use heard::Heard;
 use heard::Release;
 use heard::ScheduledBlock;
+use heard::Slot;
+use replaying::Replayed;
 use reply::Answer;
 use resource::Cce;
 use resource::Inverted;
@@ -18,18 +20,21 @@ use resource::Resource;
 use station::Place;
 use station::Reading;
 use station::Told;
+use trace::Record;
 ghost use mathlib.Core.Path.{_≡_};
 ghost use Rattle.frame.specs.Distance.{answeredOf};
 ghost use Rattle.resource.specs.Calls.{resourceOf, inverseOf};
 ghost use Rattle.station.specs.Readings.{readOf};
 ghost use Rattle.claims.specs.Claims.{checkedOf, scratchOf};
 ghost use lib.ListN.{length};
-ghost use Rattle.feedback.specs.Answers.{windowAnswer, resourceAnswer, inverseAnswer, toldPosition, placeAnswer, readingAnswer, claimsAnswer, noReply, answerNumbers, fedAnswer, grantOf, blockOf, releaseOf};
+ghost use Rattle.feedback.specs.Answers.{windowAnswer, resourceAnswer, inverseAnswer, toldPosition, placeAnswer, readingAnswer, claimsAnswer, noReply, answerNumbers, fedAnswer, grantOf, blockOf, releaseOf, noRecord, recordAnswer};
 ghost use Rattle.handset.specs.Feed.{feedOf};
 ghost use Rattle.handset.specs.Make.{makeOf};
 ghost use Rattle.heard.specs.declared.Heard.the-variants.{Nothing};
+ghost use Rattle.replaying.specs.Replay.{replayOf, outputOf};
+ghost use Rattle.trace.specs.Record.{recordOf};
 
-// The kinds of a reading and of a feed, then those of claims, as reply/specs/Kinds.antt and specs/Kinds.antt have them.
+// The kinds of a reading and of a feed, then those of claims and of a record, as reply/specs/Kinds.antt and specs/Kinds.antt have them.
 const KIND_REFUSED: u16 = 0;
 
 const KIND_BUNDLED: u16 = 1;
@@ -47,6 +52,12 @@ const CLAIMS_REFUSED: u16 = 0;
 const CLAIMS_CLEAN: u16 = 1;
 
 const CLAIMS_CLASH: u16 = 2;
+
+const RECORD_REFUSED: u16 = 0;
+
+const RECORD_READ: u16 = 1;
+
+const RECORD_END: u16 = 2;
 
 // `size` is M, `k` has K in the print's order and `order` its positions in time order, zeros after the M entries of both; all 0 where
 // refused.
@@ -103,6 +114,14 @@ pub struct FedAnswer {
     pub b0: u16,
     pub b1: u16,
     pub handset: Handset,
+}
+
+// Kind 1 is a record, with what its kind uses of it, 2 the end of the trace; 0 where refused.
+#[repr(C)]
+pub struct RecordAnswer {
+    pub refusal: u16,
+    pub kind: u16,
+    pub slot: Slot,
 }
 
 fn resource_numbers(x: Mapped) -> ResourceAnswer
@@ -260,6 +279,36 @@ fn fed_numbers(f: Fed) -> FedAnswer
     answer_numbers(answer, handset)
 }
 
+fn no_record(refusal: u16, kind: u16) -> RecordAnswer
+    ensures { λ r. ⌜ r ≡ noRecord refusal kind ⌝ }
+{
+    let slot = Slot {
+        kind: 0,
+        cce: 0,
+        dai: 0,
+        results: 0,
+    };
+    RecordAnswer {
+        refusal,
+        kind,
+        slot,
+    }
+}
+
+fn record_numbers(x: Record) -> RecordAnswer
+    ensures { λ r. ⌜ r ≡ recordAnswer x ⌝ }
+{
+    match x {
+        Record::Refused(k) => no_record(k, RECORD_REFUSED),
+        Record::At(slot) => RecordAnswer {
+            refusal: 0,
+            kind: RECORD_READ,
+            slot,
+        },
+        Record::End => no_record(0, RECORD_END),
+    }
+}
+
 // The number of the structs' layout, which the name carries too: a program that was compiled for another layout does not link.
 #[no_mangle]
 pub extern "C" fn feedback_layout_3() -> u16
@@ -409,4 +458,20 @@ pub extern "C" fn feedback_feed_release(handset: Handset, cce: u16, dai: u16) ->
         dai,
     };
     fed_numbers(handset::feed(handset, Heard::Released(release)))
+}
+
+#[no_mangle]
+pub extern "C" fn feedback_replay(trace: &[u8], out: &mut [u8]) -> Replayed
+    ensures { λ r. ⌜ r ≡ replayOf (now (trace .entry)) (length (now (out .entry))) ⌝ }
+    ensures { λ _. ⌜ now (out .exit) ≡ outputOf (now (trace .entry)) (now (out .entry)) ⌝ }
+{
+    replaying::replay(trace, out)
+}
+
+// What a reader of the trace gives whose next record is the one of number `next`.
+#[no_mangle]
+pub extern "C" fn feedback_record(trace: &[u8], next: usize) -> RecordAnswer
+    ensures { λ r. ⌜ r ≡ recordAnswer (recordOf (now (trace .entry)) next) ⌝ }
+{
+    record_numbers(trace::read_at(trace, next))
 }

@@ -1,0 +1,84 @@
+-- A feed that is not refused, as a replay uses it: the handset keeps its settings and goes on by a subframe, and eight bytes are
+-- written exactly where the subframe has a window. Assumes nothing.
+use Prim.Native.Nat.{ℕ, zero, suc, _+_, _*_, _%_, _≤_}
+use mathlib.Core.Bool.{Bool, true, false, cond, not}
+use mathlib.Core.List.{List}
+use mathlib.Core.Path.{_≡_, refl, sym, _∙_}
+use native.Mathlib.Omega.{arith}
+use lib.Dec.{eqb}
+use lib.ListN.{length}
+use borrow.Author.Tests.{eqb-false, ne-eqb, eq-eqb}
+use Rattle.frame.specs.declared.Settings.{Settings}
+use Rattle.frame.specs.Layout.{downlink}
+use Rattle.frame.specs.Table.{windowOf}
+use Rattle.frame.proofs.Windows.{window-uplink}
+use Rattle.counting.specs.Windows.{hasWindow}
+use Rattle.heard.specs.declared.Heard.{Heard}
+use Rattle.heard.specs.declared.View.{View}
+use Rattle.heard.specs.Memory.{viewAgo}
+use Rattle.reply.specs.declared.Answer.{Answer}
+use Rattle.reply.specs.declared.Answer.the-variants.{Taken, NoWindow, Silent, Sent, Refused}
+use Rattle.reply.specs.Replies.{windowAnswer}
+use Rattle.handset.specs.declared.Handset.{Handset}
+use Rattle.handset.specs.Feed.{answerOf, nextAnswer, pushed, feedRefusal, fedAs, feedOf}
+use Rattle.replaying.specs.Replay.{refusalIn}
+use Rattle.replaying.specs.Written.{windowBytes, bytesOf, FitsBytes}
+use Rattle.replaying.proofs.Answered.{Answered, window-answered}
+
+-- How many bytes the answer to a subframe gives, and that it goes into bytes.
+pub record Gives (c n : ℕ) (x : Answer) : Type 0 where
+  pub size : length (bytesOf n x) ≡ 8 * cond (hasWindow c n) 1 0
+  pub fits : FitsBytes x
+
+answered-size : (n : ℕ) (x : Answer) → Answered x → (length (bytesOf n x) ≡ 8) × FitsBytes x
+unfolding windowBytes
+answered-size n Silent a = (refl, tt)
+answered-size n (Sent r) a = (refl, (omega (arith, a .1), omega (arith, a .2), omega (arith, a .3)))
+answered-size n Taken a = absurd a
+answered-size n NoWindow a = absurd a
+answered-size n (Refused k) a = absurd a
+
+module _ (s : Settings) (n : ℕ) (view : ℕ → View) where
+  with-window : eqb (length (windowOf (s .config) n)) 0 ≡ false → Gives (s .config) n (answerOf s n view)
+  unfolding answerOf hasWindow
+  with-window some =
+      let up : downlink (s .config) n ≡ false = window-uplink (s .config) n (positive (length (windowOf (s .config) n)) some) in
+      let p = answered-size n (windowAnswer s n view) (window-answered s n view some) in
+      record { size = rw (up, some) (p .0); fits = rw up (p .1) }
+    where
+      positive : (size : ℕ) → eqb size 0 ≡ false → 1 ≤ size
+      positive zero e = absurd (eqb-false 0 0 e refl)
+      positive (suc size) e = omega arith
+
+  without-window : eqb (length (windowOf (s .config) n)) 0 ≡ true → Gives (s .config) n (answerOf s n view)
+  unfolding answerOf windowAnswer hasWindow
+  without-window none = record { size = rw none (go (downlink (s .config) n)); fits = rw none (fit (downlink (s .config) n)) }
+    where
+      go : (b : Bool) → length (bytesOf n (cond b Taken NoWindow)) ≡ 0
+      go true = refl
+      go false = refl
+
+      fit : (b : Bool) → FitsBytes (cond b Taken NoWindow)
+      fit true = tt
+      fit false = tt
+
+  gives : (b : Bool) → eqb (length (windowOf (s .config) n)) 0 ≡ b → Gives (s .config) n (answerOf s n view)
+  gives true e = without-window e
+  gives false e = with-window e
+
+-- A feed that was taken up.
+pub record TakenUp (h : Handset) (x : Heard) : Type 0 where
+  pub settings : feedOf h x .handset .settings ≡ h .settings
+  pub next : feedOf h x .handset .next ≡ (h .next + 1) % 10
+  pub gives : Gives (h .settings .config) (h .next) (feedOf h x .answer)
+
+taken-as : (k : ℕ) (h : Handset) (x : Heard) → k ≡ feedRefusal h x → refusalIn (fedAs k h x .answer) ≡ 0 → TakenUp h x
+unfolding feedOf nextAnswer pushed
+taken-as zero h x e none =
+    let g = gives (h .settings) (h .next) (viewAgo (h .past)) (eqb (length (windowOf (h .settings .config) (h .next))) 0) refl in
+    record { settings = rw (← e); next = rw (← e); gives = rw (← e) g }
+taken-as (suc k) h x e none = absurd (omega arith)
+
+pub taken-up : (h : Handset) (x : Heard) → refusalIn (feedOf h x .answer) ≡ 0 → TakenUp h x
+unfolding feedOf
+taken-up h x none = taken-as (feedRefusal h x) h x refl none

@@ -1,0 +1,53 @@
+-- The records of a trace that is not refused: each has a kind that there is, and the reader gives it. Assumes nothing.
+use Prim.Native.Nat.{ℕ, zero, suc, _-_, _<_}
+use mathlib.Core.Bool.{Bool, true, false, cond, _&&_, false≢true}
+use mathlib.Core.List.{List}
+use mathlib.Core.Logic.{⊎-elim}
+use mathlib.Core.Path.{_≡_, refl, sym, ap}
+use native.Mathlib.Nat.{eq-or-lt-of-le, le-of-suc-le-suc}
+use native.Mathlib.Omega.{arith}
+use lib.Dec.{leb}
+use borrow.Author.Tests.{lt-ltb}
+use Rattle.frame.proofs.Accepted.{neither}
+use Rattle.trace.specs.declared.Record.the-variants.{At}
+use Rattle.trace.specs.Reading.{heardOf}
+use Rattle.trace.specs.Record.{slotAt, usedIn, broughtBy, recordSlot, broughtAt, readAs, recordOf}
+use Rattle.trace.specs.Trace.{byteAt, headerOf, partsRefusal, placeOf, kindsKnown, traceRefusal}
+
+module _ (l : List ℕ) (first : ℕ) where
+  -- The last record, and those before it.
+  pub one-fewer : (i : ℕ) → 0 < i → kindsKnown l first i ≡ leb (byteAt l (placeOf first (i - 1))) 3 && kindsKnown l first (i - 1)
+  unfolding kindsKnown
+  one-fewer zero h = absurd (omega arith)
+  one-fewer (suc i) h =
+      let same : suc i - 1 ≡ i = omega arith in
+      rw same
+
+  both : (a b : Bool) → (a && b) ≡ true → (a ≡ true) × (b ≡ true)
+  both true b e = (refl, e)
+  both false b e = absurd (false≢true e)
+
+  -- Where all kinds are known, each is.
+  pub kind-known : (count i : ℕ) → kindsKnown l first count ≡ true → i < count → leb (byteAt l (placeOf first i)) 3 ≡ true
+  unfolding kindsKnown
+  kind-known zero i e h = absurd (omega arith)
+  kind-known (suc count) i e h =
+      let p = both (leb (byteAt l (placeOf first count)) 3) (kindsKnown l first count) e in
+      ⊎-elim (λ same. rw same (p .0)) (λ less. kind-known count i (p .1) less) (eq-or-lt-of-le (le-of-suc-le-suc h))
+
+known-unless : (b : Bool) → _≡_ {A = ℕ} (cond b 0 22) 0 → b ≡ true
+known-unless true e = refl
+known-unless false e = absurd (omega arith)
+
+-- The reader of a trace that is not refused gives each of its records, and what it brings is what its bytes say.
+module _ (l : List ℕ) (accepted : traceRefusal l ≡ 0) (i : ℕ) (inside : i < headerOf l .records) where
+  pub record-read : recordOf l i ≡ At (usedIn (recordSlot l i))
+  unfolding traceRefusal recordOf readAs recordSlot slotAt
+  record-read =
+      let p = neither (partsRefusal l) _ accepted in
+      let known = kind-known l (headerOf l .first) (headerOf l .records) i (known-unless _ (p .1)) inside in
+      rw (p .0, lt-ltb i _ inside, known)
+
+  pub record-heard : heardOf (recordOf l i) ≡ broughtAt l i
+  unfolding broughtAt broughtBy
+  record-heard = ap heardOf record-read

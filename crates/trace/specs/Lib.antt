@@ -1,0 +1,3 @@
+pub mod Reading
+pub mod Record
+pub mod Trace
