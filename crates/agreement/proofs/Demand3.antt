@@ -30,9 +30,9 @@ use Rattle.station.specs.declared.Told.the-variants as told
 use Rattle.station.specs.Readings.{toldRefusal}
 use Rattle.agreement.specs.Demand3.{feedbackEngine, MayTell, handsetAt, fedAt, IsFeed, SecondIn, IsSubframe, Demand3}
 use Rattle.agreement.specs.Run.{Item, feed, itemAt, handsetAfter, causeAfter, heardFrom, heardInRun, Schedule, Brings, subframeAt, BringsSent}
-use Rattle.agreement.proofs.Memory.{ValidPast, after, fresh-after}
+use Rattle.agreement.proofs.Memory.{ValidPast, after, accepted-after, refused-after, made-fresh}
 use Rattle.agreement.proofs.Second.{second-exactly}
-use Rattle.agreement.proofs.Feeds.{Past, accepted-after, refused-after, feed-holds, Answered, FeedHolds}
+use Rattle.agreement.proofs.Feeds.{Past, feed-holds, Answered, FeedHolds}
 
 module _ (set : Settings) (good : settingsRefusal set ≡ 0) (sent : ℕ → Send) (schedule : Schedule set sent) (heard : List Heard)
     (brings : (s : ℕ) → s < length heard → Brings (sent s) (getD heard s Nothing)) where
@@ -66,16 +66,11 @@ module _ (set : Settings) (good : settingsRefusal set ≡ 0) (sent : ℕ → Sen
           let more : Rest (y ∷ l) items = λ j.
           ap (λ (s : ℕ). getD heard s Nothing) (suc-add (length l) j ∙ sym (add-suc (length l) j)) ∙ rest (suc j) in
           let count : length l + suc (length (heardFrom set (y ∷ l) (take i items))) ≡ suc (length l) + length (heardFrom set (y ∷ l) (take i items)) = omega arith in
-          rw (count, ap (λ (f : Fed). f .handset) (accepted-after set good sent schedule heard brings l valid past y ok))
+          rw (count, ap (λ (f : Fed). f .handset) (accepted-after set good l valid y ok))
           (next (y ∷ l) (ok, valid) (here, past) more)
       go false b rest next =
-          rw (ap (λ (f : Fed). f .handset) (refused-after set good sent schedule heard brings l valid past y (eqb-false (causeAfter set l y) 0 b)))
+          rw (ap (λ (f : Fed). f .handset) (refused-after set good l valid y (eqb-false (causeAfter set l y) 0 b)))
           (next l valid past rest)
-
--- Making from accepted settings gives a fresh handset.
-made-fresh : (set : Settings) → settingsRefusal set ≡ 0 → makeOf set .handset ≡ after set []
-unfolding makeOf
-made-fresh set good = rw good (fresh-after set)
 
 made-accepted : (set : Settings) → settingsRefusal set ≡ 0 → makeOf set .refusal ≡ 0
 unfolding makeOf

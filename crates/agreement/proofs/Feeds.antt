@@ -36,7 +36,7 @@ use Rattle.heard.proofs.Valid as kinds
 use Rattle.reply.specs.Replies.{bundledAnswer, multiplexedAnswer, windowAnswer}
 use Rattle.handset.specs.declared.Fed.{Fed}
 use Rattle.handset.specs.declared.Handset.{Handset}
-use Rattle.handset.specs.Feed.{answerOf, nextAnswer, feedRefusal, fedAs, feedOf}
+use Rattle.handset.specs.Feed.{answerOf, nextAnswer, feedOf}
 use Rattle.handset.specs.Make.{memory}
 use Rattle.station.specs.declared.Reading.{Reading}
 use Rattle.station.specs.declared.Told.{Told}
@@ -47,7 +47,7 @@ use Rattle.agreement.specs.Run.{asHeard, sentAgo, heardAgo, causeAfter, 
 use Rattle.agreement.specs.Window.{inTime, Bundled, Multiplexed}
 use Rattle.agreement.proofs.BundledWindow.{LowCce, ReadsPdcch, ReadsBlock, bundled-window}
 use Rattle.agreement.proofs.Entries.{member-at}
-use Rattle.agreement.proofs.Memory.{ValidPast, after, pushed-after, view-after, low-after, cause-after, sound-after}
+use Rattle.agreement.proofs.Memory.{ValidPast, after, view-after, low-after, accepted-after, refused-after}
 use Rattle.agreement.proofs.MultiplexedWindow.{multiplexed-window}
 use Rattle.agreement.proofs.NeverRefused.{never-refused}
 use Rattle.confirmation.proofs.Told.{told-position, told-of-block}
@@ -114,6 +114,12 @@ ago-brings sent heard brings s k = go (decLe k s)
     go : Dec (k ≤ s) → Brings (sentAgo sent s k) (heardAgo heard s k)
     go (yes h) = rw (le-leb k s h) (inside (decLt (s - k) (length heard)))
     go (no h) = rw (lt-leb k s (omega arith)) (inl refl)
+
+-- The run's cause is the history's.
+pub cause-past : (set : Settings) (heard l : List Heard) → Past heard l → (x : Heard) → causeIn set heard (length l) x ≡ causeAfter set l x
+cause-past set heard l past x =
+    cause-same set (length l % 10) (λ (a : ℕ). isBlock (heardAgo heard (length l) a)) (λ (a : ℕ). isBlock (getD l (a - 1) Nothing)) x
+    (λ a least most. ap isBlock (ago-past heard l past a least))
 
 module _ (set : Settings) (good : settingsRefusal set ≡ 0) (sent : ℕ → Send) (schedule : Schedule set sent) (heard : List Heard)
     (brings : (s : ℕ) → s < length heard → Brings (sent s) (getD heard s Nothing))
@@ -244,37 +250,15 @@ module _ (set : Settings) (good : settingsRefusal set ≡ 0) (sent : ℕ → Sen
   unfolding nextAnswer
   not-refused k e = never-refused set n F k e
 
-  -- what a feed of the handset comes to
-  fed-after : (x : Heard) → feedOf (after set l) x ≡ fedAs (causeAfter set l x) (after set l) x
-  unfolding feedOf feedRefusal
-  fed-after x = rw (sound-after set good ok l valid, cause-after set l x)
-
-  -- the run's cause is the history's
-  pub cause-past : (x : Heard) → causeIn set heard (length l) x ≡ causeAfter set l x
-  cause-past x =
-      cause-same set n (λ (a : ℕ). isBlock (heardAgo heard (length l) a)) (λ (a : ℕ). isBlock (getD l (a - 1) Nothing)) x
-      (λ a least most. ap isBlock (ago-past heard l past a least))
-
-  pub accepted-after : (x : Heard) → causeAfter set l x ≡ 0 → feedOf (after set l) x ≡ record { answer = nextAnswer (after set l); handset = after set (x ∷ l) }
-  accepted-after x e = fed-after x ∙ rw (e, pushed-after set l x)
-
-  pub refused-after : (x : Heard) → (causeAfter set l x ≡ 0 → ⊥)
-      → feedOf (after set l) x ≡ record { answer = answer.Refused (causeAfter set l x); handset = after set l }
-  refused-after x h = fed-after x ∙ go (causeAfter set l x) refl
-    where
-      go : (k : ℕ) → causeAfter set l x ≡ k → fedAs k (after set l) x ≡ record { answer = answer.Refused k; handset = after set l }
-      go zero e = absurd (h e)
-      go (suc k) e = refl
-
   pub feed-holds : (x : Heard) → FeedHolds set sent heard (length l) (after set l) x
   feed-holds x =
       record {
         refusedExactly = (
-          λ p e. not-refused (p .0) (sym (ap (λ (f : Fed). f .answer) (accepted-after x (sym (cause-past x) ∙ e))) ∙ p .1),
-          λ h. (causeAfter set l x, ap (λ (f : Fed). f .answer) (refused-after x (λ e. h (cause-past x ∙ e)))),
+          λ p e. not-refused (p .0) (sym (ap (λ (f : Fed). f .answer) (accepted-after set good l valid x (sym (cause-past set heard l past x) ∙ e))) ∙ p .1),
+          λ h. (causeAfter set l x, ap (λ (f : Fed). f .answer) (refused-after set good l valid x (λ e. h (cause-past set heard l past x ∙ e)))),
         );
         refused = λ h.
-            refused-after x (λ e. h (cause-past x ∙ e))
-            ∙ ap (λ (k : ℕ). record { answer = answer.Refused k; handset = after set l }) (sym (cause-past x));
-        accepted = λ e. rw (← ap (λ (f : Fed). f .answer) (accepted-after x (sym (cause-past x) ∙ e))) at answered;
+            refused-after set good l valid x (λ e. h (cause-past set heard l past x ∙ e))
+            ∙ ap (λ (k : ℕ). record { answer = answer.Refused k; handset = after set l }) (sym (cause-past set heard l past x));
+        accepted = λ e. rw (← ap (λ (f : Fed). f .answer) (accepted-after set good l valid x (sym (cause-past set heard l past x) ∙ e))) at answered;
       }

@@ -12,7 +12,7 @@ use lib.ListN.{length, getD}
 use borrow.Author.Tests.{le-leb, eqb-true, eqb-false}
 use Rattle.frame.specs.declared.Settings.{Settings}
 use Rattle.frame.specs.Settings.{settingsRefusal}
-use Rattle.frame.proofs.Accepted.{Accepted}
+use Rattle.frame.proofs.Accepted.{Accepted, accepted}
 use Rattle.heard.specs.declared.Heard.{Heard}
 use Rattle.heard.specs.declared.Heard.the-variants.{Nothing, Granted, Scheduled, Released}
 use Rattle.heard.specs.declared.Slot.{Slot}
@@ -20,9 +20,10 @@ use Rattle.heard.specs.Heard.{isBlock, heardRefusal, secondRefusal, causeOf, vi
 use Rattle.heard.specs.Memory.{none, bit, slotOf, heardIn, viewIn, viewAgo, blockAgo}
 use Rattle.heard.proofs.Before.{cause-same, cause-none, cause-fewer}
 use Rattle.heard.proofs.Valid.{ValidBlocks, Valid, valid}
+use Rattle.reply.specs.declared.Answer.the-variants as answer
 use Rattle.handset.specs.declared.Handset.{Handset}
-use Rattle.handset.specs.Feed.{pushed}
-use Rattle.handset.specs.Make.{slotsFrom, memory, fresh}
+use Rattle.handset.specs.Feed.{nextAnswer, pushed, feedRefusal, fedAs, feedOf}
+use Rattle.handset.specs.Make.{slotsFrom, memory, fresh, makeOf}
 use Rattle.handset.specs.Sound.{slotSound, previous, allSound, stateSound, stateRefusal}
 use Rattle.agreement.specs.Run.{causeAfter}
 use Rattle.agreement.specs.Window.{heardAt}
@@ -97,11 +98,11 @@ alone set l x e = cause-none set (length l % 10) (λ (a : ℕ). isBlock (getD l 
 abbrev pub after : Settings → List Heard → Handset
 after set l = record { settings = set; next = length l % 10; past = memory (map slotOf l) }
 
-pub fresh-after : (set : Settings) → fresh set ≡ after set []
+fresh-after : (set : Settings) → fresh set ≡ after set []
 unfolding fresh
 fresh-after set = refl
 
-pub pushed-after : (set : Settings) (l : List Heard) (x : Heard) → pushed (after set l) x ≡ after set (x ∷ l)
+pushed-after : (set : Settings) (l : List Heard) (x : Heard) → pushed (after set l) x ≡ after set (x ∷ l)
 unfolding pushed
 pushed-after set l x =
     let e : (length l % 10 + 1) % 10 ≡ suc (length l) % 10 = omega arith in
@@ -171,7 +172,7 @@ block-after l a least most =
     slots-at 13 0 (map slotOf l) (a - 1) (omega arith) ∙ ap (λ (x : ℕ). getD (map slotOf l) x none) (zero-add (a - 1)) ∙ slot-of l (a - 1) in
     ap (λ (t : Slot). eqb (t .kind) 2) e ∙ kind-block (getD l (a - 1) Nothing)
 
-pub cause-after : (set : Settings) (l : List Heard) (x : Heard) → causeOf set (length l % 10) (blockAgo (memory (map slotOf l))) x ≡ causeAfter set l x
+cause-after : (set : Settings) (l : List Heard) (x : Heard) → causeOf set (length l % 10) (blockAgo (memory (map slotOf l))) x ≡ causeAfter set l x
 cause-after set l x =
     cause-same set (length l % 10) (blockAgo (memory (map slotOf l))) (λ (a : ℕ). isBlock (getD l (a - 1) Nothing)) x (block-after l)
 
@@ -227,7 +228,28 @@ sound-from set ok (x ∷ l) v (suc count) n e =
     rw (slots-tail count 0 (slotOf x) (map slotOf l), p, slot-sound set ok l x (v .0) count)
     (sound-from set ok l (v .1) count (length l % 10) refl)
 
-pub sound-after : (set : Settings) → settingsRefusal set ≡ 0 → Accepted set → (l : List Heard) → ValidPast set l → stateRefusal (after set l) ≡ 0
+sound-after : (set : Settings) → settingsRefusal set ≡ 0 → Accepted set → (l : List Heard) → ValidPast set l → stateRefusal (after set l) ≡ 0
 unfolding stateRefusal stateSound
 sound-after set good ok l v =
     rw (good, le-leb (length l % 10) 9 (omega arith), sound-from set ok l v 13 (length l % 10) refl)
+
+-- What a feed of the handset after a history comes to.
+module _ (set : Settings) (good : settingsRefusal set ≡ 0) (l : List Heard) (valid : ValidPast set l) (x : Heard) where
+  fed-after : feedOf (after set l) x ≡ fedAs (causeAfter set l x) (after set l) x
+  unfolding feedOf feedRefusal
+  fed-after = rw (sound-after set good (accepted set good) l valid, cause-after set l x)
+
+  pub accepted-after : causeAfter set l x ≡ 0 → feedOf (after set l) x ≡ record { answer = nextAnswer (after set l); handset = after set (x ∷ l) }
+  accepted-after e = fed-after ∙ rw (e, pushed-after set l x)
+
+  pub refused-after : (causeAfter set l x ≡ 0 → ⊥) → feedOf (after set l) x ≡ record { answer = answer.Refused (causeAfter set l x); handset = after set l }
+  refused-after h = fed-after ∙ go (causeAfter set l x) refl
+    where
+      go : (k : ℕ) → causeAfter set l x ≡ k → fedAs k (after set l) x ≡ record { answer = answer.Refused k; handset = after set l }
+      go zero e = absurd (h e)
+      go (suc k) e = refl
+
+-- Making from accepted settings gives a fresh handset.
+pub made-fresh : (set : Settings) → settingsRefusal set ≡ 0 → makeOf set .handset ≡ after set []
+unfolding makeOf
+made-fresh set good = rw good (fresh-after set)

@@ -3,7 +3,7 @@
 use Prim.Native.Nat.{ℕ, zero, suc, _+_, _*_, _%_, _≤_}
 use mathlib.Core.Bool.{Bool, true, false, cond, not}
 use mathlib.Core.List.{List}
-use mathlib.Core.Path.{_≡_, refl, sym, _∙_}
+use mathlib.Core.Path.{_≡_, refl, ap}
 use native.Mathlib.Omega.{arith}
 use lib.Dec.{eqb}
 use lib.ListN.{length}
@@ -12,7 +12,7 @@ use Rattle.frame.specs.declared.Settings.{Settings}
 use Rattle.frame.specs.Layout.{downlink}
 use Rattle.frame.specs.Table.{windowOf}
 use Rattle.frame.proofs.Windows.{window-uplink}
-use Rattle.counting.specs.Windows.{hasWindow}
+use Rattle.counting.specs.Windows.{hasWindow, windowsBefore}
 use Rattle.heard.specs.declared.Heard.{Heard}
 use Rattle.heard.specs.declared.View.{View}
 use Rattle.heard.specs.Memory.{viewAgo}
@@ -82,3 +82,11 @@ taken-as (suc k) h x e none = absurd (omega arith)
 pub taken-up : (h : Handset) (x : Heard) → refusalIn (feedOf h x .answer) ≡ 0 → TakenUp h x
 unfolding feedOf
 taken-up h x none = taken-as (feedRefusal h x) h x refl none
+
+-- The bytes of one subframe more.
+pub grows : (h : Handset) (x : Heard) → TakenUp h x → (i : ℕ) → h .next ≡ i % 10
+    → 8 * windowsBefore (h .settings .config) i + length (bytesOf (h .next) (feedOf h x .answer)) ≡ 8 * windowsBefore (h .settings .config) (suc i)
+unfolding windowsBefore
+grows h x t i e =
+    let one : ℕ → ℕ = λ (n : ℕ). cond (hasWindow (h .settings .config) n) 1 0 in
+    omega (arith, t .gives .size, ap one e)

@@ -1,4 +1,6 @@
 pub mod Answered
+pub mod Brought
+pub mod Counted
 pub mod Feeds
 pub mod Plays
 pub mod Putting

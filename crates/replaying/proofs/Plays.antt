@@ -9,7 +9,8 @@ use lib.Dec.{eqb}
 use lib.ListN.{length, take, drop, take-append-drop}
 use lib.Seq.{length-take-le, drop-drop}
 use borrow.Author.Tests.{ne-eqb}
-use Rattle.counting.specs.Windows.{hasWindow, windowsBefore}
+use Rattle.frame.specs.declared.Settings.{Settings}
+use Rattle.counting.specs.Windows.{windowsBefore}
 use Rattle.counting.proofs.Frames.{windows-most, windows-rise}
 use Rattle.heard.specs.declared.Heard.{Heard}
 use Rattle.handset.specs.declared.Handset.{Handset}
@@ -21,7 +22,7 @@ use Rattle.replaying.specs.declared.Replayed.{Replayed}
 use Rattle.replaying.specs.Ready.{Ready}
 use Rattle.replaying.specs.Replay.{refusalIn, broughtFrom, broughtIn, Played, after, stopOr, played, endedAs, written}
 use Rattle.replaying.specs.Written.{bytesOf, putAt, FitsBytes}
-use Rattle.replaying.proofs.Feeds.{TakenUp, taken-up}
+use Rattle.replaying.proofs.Feeds.{TakenUp, taken-up, grows}
 use Rattle.replaying.proofs.Putting.{take-put, drop-put, length-put}
 
 -- Bytes before, in two parts.
@@ -112,11 +113,10 @@ module _ (l : List ℕ) (records : ℕ) (h₀ : Handset) (old : List ℕ) where
           taken = taken-up h x none
 
           grown : at + length new ≡ 8 * windowsBefore (h₀ .settings .config) (suc i)
-          unfolding windowsBefore
           grown =
-              let one : ℕ → ℕ → ℕ = λ (c n : ℕ). cond (hasWindow c n) 1 0 in
-              let same : one (h .settings .config) (h .next) ≡ one (h₀ .settings .config) (i % 10) = rw (p .settings, p .next) in
-              omega (arith, taken .gives .size, same, p .place)
+              let windows : (j : ℕ) → windowsBefore (h .settings .config) j ≡ windowsBefore (h₀ .settings .config) j = λ j.
+              ap (λ (s : Settings). windowsBefore (s .config) j) (p .settings) in
+              omega (arith, grows h x taken i (p .next), windows i, windows (suc i), p .place)
 
           pub fits : (h .next ≤ 255) × FitsBytes (feedOf h x .answer)
           fits = (omega (arith, p .next), taken .gives .fits)

@@ -14,6 +14,10 @@ use Rattle.trace.specs.Reading.{heardOf}
 use Rattle.trace.specs.Record.{slotAt, usedIn, broughtBy, recordSlot, broughtAt, readAs, recordOf}
 use Rattle.trace.specs.Trace.{byteAt, headerOf, partsRefusal, placeOf, kindsKnown, traceRefusal}
 
+pub both : (a b : Bool) → (a && b) ≡ true → (a ≡ true) × (b ≡ true)
+both true b e = (refl, e)
+both false b e = absurd (false≢true e)
+
 module _ (l : List ℕ) (first : ℕ) where
   -- The last record, and those before it.
   pub one-fewer : (i : ℕ) → 0 < i → kindsKnown l first i ≡ leb (byteAt l (placeOf first (i - 1))) 3 && kindsKnown l first (i - 1)
@@ -22,10 +26,6 @@ module _ (l : List ℕ) (first : ℕ) where
   one-fewer (suc i) h =
       let same : suc i - 1 ≡ i = omega arith in
       rw same
-
-  both : (a b : Bool) → (a && b) ≡ true → (a ≡ true) × (b ≡ true)
-  both true b e = (refl, e)
-  both false b e = absurd (false≢true e)
 
   -- Where all kinds are known, each is.
   pub kind-known : (count i : ℕ) → kindsKnown l first count ≡ true → i < count → leb (byteAt l (placeOf first i)) 3 ≡ true

@@ -1,3 +1,4 @@
+pub mod Exactly
 pub mod Reading
 pub mod Record
 pub mod Trace

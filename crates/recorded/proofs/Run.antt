@@ -1,0 +1,267 @@
+-- The feeds of a replay are a run of demand 3: specs/Run.antt, proved.
+-- Assumes nothing.
+use Prim.Native.Nat.{ℕ, zero, suc, _+_, _-_, _%_, _<_, _≤_, suc-le-suc}
+use mathlib.Core.Bool.{Bool, true, false, cond}
+use mathlib.Core.List.{List, [], _∷_, _++_, map}
+use mathlib.Core.Logic.{_⊎_, inl, inr}
+use mathlib.Core.Path.{_≡_, refl, sym, ap, _∙_}
+use native.Mathlib.Nat.{add-zero, zero-add, add-suc, suc-add, le-of-suc-le-suc, not-suc-le-zero}
+use native.Mathlib.Omega.{arith}
+use lib.Dec.{eqb}
+use lib.ListN.{length, getD, take}
+use borrow.Author.Tests.{eq-eqb, ne-eqb}
+use Rattle.frame.specs.declared.Settings.{Settings}
+use Rattle.frame.specs.Settings.{settingsRefusal}
+use Rattle.heard.specs.declared.Heard.{Heard}
+use Rattle.heard.specs.declared.Heard.the-variants.{Nothing}
+use Rattle.heard.specs.Memory.{viewAgo}
+use Rattle.reply.specs.declared.Answer.{Answer}
+use Rattle.reply.specs.declared.Answer.the-variants as answer
+use Rattle.handset.specs.declared.Fed.{Fed}
+use Rattle.handset.specs.declared.Handset.{Handset}
+use Rattle.handset.specs.Feed.{nextAnswer, feedOf}
+use Rattle.handset.specs.Make.{makeOf}
+use Rattle.trace.specs.Record.{broughtAt}
+use Rattle.trace.specs.Trace.{headerOf, settingsOf}
+use Rattle.replaying.specs.Replay.{refusalIn, broughtIn, Played, after as behind, stopOr, played, playedIn}
+use Rattle.replaying.specs.Written.{bytesOf}
+use Rattle.replaying.proofs.Brought.{brought-length, brought-at}
+use Rattle.agreement.specs.Demand3.{feedbackEngine, fedAt}
+use Rattle.agreement.specs.Run.{Item, feed, itemAt, handsetAfter, causeAfter, heardFrom, heardInRun}
+use Rattle.agreement.proofs.Demand3.{demand3}
+use Rattle.agreement.proofs.Feeds.{causeIn, Past, cause-past}
+use Rattle.agreement.proofs.Memory.{ValidPast, after, accepted-after, refused-after, made-fresh}
+use Rattle.agreement.proofs.NeverRefused.{never-refused}
+use Rattle.recorded.specs.Run.{unlessRefused, feedsFrom, runOf, answerTo, bytesFrom, IsRun}
+
+not-refused : (a : Answer) → ((k : ℕ) → a ≡ answer.Refused k → ⊥) → refusalIn a ≡ 0
+not-refused answer.Taken h = refl
+not-refused answer.NoWindow h = refl
+not-refused answer.Silent h = refl
+not-refused (answer.Sent r) h = refl
+not-refused (answer.Refused k) h = absurd (h k refl)
+
+-- A feed that is not refused has another answer.
+next-answered : (h : Handset) → refusalIn (nextAnswer h) ≡ 0
+unfolding nextAnswer
+next-answered h = not-refused _ (never-refused (h .settings) (h .next) (viewAgo (h .past)))
+
+module _ (set : Settings) (good : settingsRefusal set ≡ 0) where
+  -- The refusal of a feed after a history is the history's cause.
+  refusal-after : (l : List Heard) → ValidPast set l → (x : Heard) → refusalIn (feedOf (after set l) x .answer) ≡ causeAfter set l x
+  refusal-after l valid x = go (causeAfter set l x) refl
+    where
+      go : (k : ℕ) → causeAfter set l x ≡ k → refusalIn (feedOf (after set l) x .answer) ≡ k
+      go zero e = rw (accepted-after set good l valid x e) (next-answered (after set l))
+      go (suc k) e = rw (refused-after set good l valid x (λ z. omega arith)) e
+
+  -- A record after a history: taken up, it is remembered and the next one comes; refused, it is the last.
+  module _ (x : Heard) (xs l : List Heard) (valid : ValidPast set l) where
+    module _ (none : causeAfter set l x ≡ 0) where
+      feeds-on : feedsFrom (after set l) (x ∷ xs) ≡ feed x ∷ feedsFrom (after set (x ∷ l)) xs
+      unfolding feedsFrom
+      feeds-on = rw (refusal-after l valid x, none, accepted-after set good l valid x none)
+
+      plays-on : played (after set l) (length l) (x ∷ xs)
+          ≡ behind (bytesOf (length l % 10) (feedOf (after set l) x .answer)) (played (after set (x ∷ l)) (suc (length l)) xs)
+      unfolding played
+      plays-on = rw (refusal-after l valid x, none, ap (λ (f : Fed). f .handset) (accepted-after set good l valid x none))
+
+    module _ (k : ℕ) (some : causeAfter set l x ≡ suc k) where
+      feeds-last : feedsFrom (after set l) (x ∷ xs) ≡ feed x ∷ []
+      unfolding feedsFrom
+      feeds-last = rw (refusal-after l valid x, some)
+
+      plays-last : played (after set l) (length l) (x ∷ xs) ≡ record { refusal = suc k; number = length l; bytes = [] }
+      unfolding played
+      plays-last = rw (refusal-after l valid x, some)
+
+  feeds-none : (h : Handset) → feedsFrom h [] ≡ []
+  unfolding feedsFrom
+  feeds-none h = refl
+
+  plays-none : (h : Handset) (i : ℕ) → played h i [] ≡ record { refusal = 0; number = 0; bytes = [] }
+  unfolding played
+  plays-none h i = refl
+
+  -- How many feeds are made.
+  feeds-most : (xs l : List Heard) → ValidPast set l → length (feedsFrom (after set l) xs) ≤ length xs
+  feeds-most [] l valid = rw (feeds-none (after set l)) (omega arith)
+  feeds-most (x ∷ xs) l valid = go (causeAfter set l x) refl (feeds-most xs (x ∷ l))
+    where
+      go : (k : ℕ) → causeAfter set l x ≡ k → (ValidPast set (x ∷ l) → length (feedsFrom (after set (x ∷ l)) xs) ≤ length xs)
+          → length (feedsFrom (after set l) (x ∷ xs)) ≤ suc (length xs)
+      go zero e next = rw (feeds-on x xs l valid e) (omega (arith, next (e, valid)))
+      go (suc k) e next = rw (feeds-last x xs l valid k e) (omega arith)
+
+  -- Without a refusal all are made; with one, those up to it.
+  feeds-whole : (xs l : List Heard) → ValidPast set l → played (after set l) (length l) xs .refusal ≡ 0
+      → length (feedsFrom (after set l) xs) ≡ length xs
+  feeds-whole [] l valid none = rw (feeds-none (after set l))
+  feeds-whole (x ∷ xs) l valid none = go (causeAfter set l x) refl none (feeds-whole xs (x ∷ l))
+    where
+      go : (k : ℕ) → causeAfter set l x ≡ k → played (after set l) (length l) (x ∷ xs) .refusal ≡ 0
+          → (ValidPast set (x ∷ l) → played (after set (x ∷ l)) (suc (length l)) xs .refusal ≡ 0 → length (feedsFrom (after set (x ∷ l)) xs) ≡ length xs)
+          → length (feedsFrom (after set l) (x ∷ xs)) ≡ suc (length xs)
+      go zero e none next = rw (feeds-on x xs l valid e) (ap suc (next (e, valid) (rw (plays-on x xs l valid e) at none)))
+      go (suc k) e none next =
+          let is : suc k ≡ 0 = rw (plays-last x xs l valid k e) at none in
+          absurd (omega arith)
+
+  feeds-stopped : (xs l : List Heard) → ValidPast set l → (played (after set l) (length l) xs .refusal ≡ 0 → ⊥)
+      → length l + length (feedsFrom (after set l) xs) ≡ suc (played (after set l) (length l) xs .number)
+  feeds-stopped [] l valid some = absurd (some (rw (plays-none (after set l) (length l))))
+  feeds-stopped (x ∷ xs) l valid some = go (causeAfter set l x) refl some (feeds-stopped xs (x ∷ l))
+    where
+      go : (k : ℕ) → causeAfter set l x ≡ k → (played (after set l) (length l) (x ∷ xs) .refusal ≡ 0 → ⊥)
+          → (ValidPast set (x ∷ l) → (played (after set (x ∷ l)) (suc (length l)) xs .refusal ≡ 0 → ⊥)
+          → suc (length l) + length (feedsFrom (after set (x ∷ l)) xs) ≡ suc (played (after set (x ∷ l)) (suc (length l)) xs .number))
+          → length l + length (feedsFrom (after set l) (x ∷ xs)) ≡ suc (played (after set l) (length l) (x ∷ xs) .number)
+      go zero e some next =
+          rw (feeds-on x xs l valid e, plays-on x xs l valid e)
+          (omega (arith, next (e, valid) (λ z. some (rw (plays-on x xs l valid e) z))))
+      go (suc k) e some next = rw (feeds-last x xs l valid k e, plays-last x xs l valid k e) (omega arith)
+
+  -- A refusal has the number of its record, which is not before the first one.
+  number-later : (h : Handset) (i : ℕ) (xs : List Heard) → (played h i xs .refusal ≡ 0) ⊎ (i ≤ played h i xs .number)
+  unfolding played
+  number-later h i [] = inl refl
+  number-later h i (x ∷ xs) = go (refusalIn (feedOf h x .answer)) (number-later (feedOf h x .handset) (suc i) xs)
+    where
+      go : (k : ℕ) → (played (feedOf h x .handset) (suc i) xs .refusal ≡ 0) ⊎ (suc i ≤ played (feedOf h x .handset) (suc i) xs .number)
+          → (stopOr k i (behind (bytesOf (h .next) (feedOf h x .answer)) (played (feedOf h x .handset) (suc i) xs)) .refusal ≡ 0)
+          ⊎ (i ≤ stopOr k i (behind (bytesOf (h .next) (feedOf h x .answer)) (played (feedOf h x .handset) (suc i) xs)) .number)
+      go zero (inl none) = inl none
+      go zero (inr later) = inr (omega arith)
+      go (suc k) next = inr (omega arith)
+
+  -- What is printed is what the feeds answer, one after the other.
+  bytes-along : (xs l : List Heard) → ValidPast set l → (answers : ℕ → Answer)
+      → ((i : ℕ) → i < length (feedsFrom (after set l) xs)
+      → answers (length l + i) ≡ feedOf (handsetAfter feedOf (after set l) (take i (feedsFrom (after set l) xs))) (getD xs i Nothing) .answer)
+      → played (after set l) (length l) xs .bytes ≡ bytesFrom answers (length l) (length (feedsFrom (after set l) xs))
+  bytes-along [] l valid answers each = rw (plays-none (after set l) (length l), feeds-none (after set l))
+  bytes-along (x ∷ xs) l valid answers each = go (causeAfter set l x) refl (bytes-along xs (x ∷ l))
+    where
+      go : (k : ℕ) → causeAfter set l x ≡ k
+          → (ValidPast set (x ∷ l) → (answers : ℕ → Answer)
+          → ((i : ℕ) → i < length (feedsFrom (after set (x ∷ l)) xs)
+          → answers (suc (length l) + i) ≡ feedOf (handsetAfter feedOf (after set (x ∷ l)) (take i (feedsFrom (after set (x ∷ l)) xs))) (getD xs i Nothing) .answer)
+          → played (after set (x ∷ l)) (suc (length l)) xs .bytes ≡ bytesFrom answers (suc (length l)) (length (feedsFrom (after set (x ∷ l)) xs)))
+          → played (after set l) (length l) (x ∷ xs) .bytes ≡ bytesFrom answers (length l) (length (feedsFrom (after set l) (x ∷ xs)))
+      go zero e next =
+          let each′ = rw (feeds-on x xs l valid e) at each in
+          let here : answers (length l) ≡ feedOf (after set l) x .answer = ap answers (sym (add-zero (length l))) ∙ each′ 0 (omega arith) in
+          let later = next (e, valid) answers
+                (λ i h. ap answers (suc-add (length l) i ∙ sym (add-suc (length l) i))
+                ∙ each′ (suc i) (suc-le-suc h)
+                ∙ ap (λ (f : Fed). feedOf (handsetAfter feedOf (f .handset) (take i (feedsFrom (after set (x ∷ l)) xs))) (getD xs i Nothing) .answer) (accepted-after set good l valid x e)) in
+          rw (plays-on x xs l valid e, feeds-on x xs l valid e, here, later)
+      go (suc k) e next =
+          let each′ = rw (feeds-last x xs l valid k e) at each in
+          let here : answers (length l) ≡ feedOf (after set l) x .answer = ap answers (sym (add-zero (length l))) ∙ each′ 0 (omega arith) in
+          rw (plays-last x xs l valid k e, feeds-last x xs l valid k e, here, refused-after set good l valid x (λ z. omega arith))
+
+  -- Each feed: what it brings, the subframe that it comes to, and its cause.
+  module _ (heard : List Heard) where
+    -- The run's list of heard things goes on, after the history l, with what the feeds still to come bring.
+    abbrev Rest : List Heard → List Item → Type 0
+    Rest l items = (j : ℕ) → getD heard (length l + j) Nothing ≡ getD (heardFrom set l items) j Nothing
+
+    record At (l xs : List Heard) (items : List Item) (p : Played) (i : ℕ) : Type 0 where
+      item : itemAt items i ≡ feed (getD xs i Nothing)
+      count : length (heardFrom set l (take i items)) ≡ i
+      cause : causeIn set heard (length l + i) (getD xs i Nothing) ≡ cond (eqb (length l + i) (p .number)) (p .refusal) 0
+
+    each : (xs l : List Heard) → ValidPast set l → Past heard l → Rest l (feedsFrom (after set l) xs)
+        → (i : ℕ) → i < length (feedsFrom (after set l) xs)
+        → At l xs (feedsFrom (after set l) xs) (played (after set l) (length l) xs) i
+    each [] l valid past rest i h = absurd (not-suc-le-zero (rw (feeds-none (after set l)) at h))
+    each (x ∷ xs) l valid past rest i h = go (causeAfter set l x) refl i h (each xs (x ∷ l))
+      where
+        here : causeIn set heard (length l + 0) x ≡ causeAfter set l x
+        here = rw (add-zero (length l)) (cause-past set heard l past x)
+
+        -- no record after this one was refused at it
+        later : (p : Played) → (p .refusal ≡ 0) ⊎ (suc (length l) ≤ p .number) → _≡_ {A = ℕ} (cond (eqb (length l + 0) (p .number)) (p .refusal) 0) 0
+        later p (inl none) = rw none (same (eqb (length l + 0) (p .number)))
+          where
+            same : (b : Bool) → _≡_ {A = ℕ} (cond b 0 0) 0
+            same true = refl
+            same false = refl
+        later p (inr more) = rw (ne-eqb (length l + 0) (p .number) (λ z. omega arith))
+
+        go : (k : ℕ) → causeAfter set l x ≡ k → (i : ℕ) → i < length (feedsFrom (after set l) (x ∷ xs))
+            → (ValidPast set (x ∷ l) → Past heard (x ∷ l) → Rest (x ∷ l) (feedsFrom (after set (x ∷ l)) xs)
+            → (i : ℕ) → i < length (feedsFrom (after set (x ∷ l)) xs)
+            → At (x ∷ l) xs (feedsFrom (after set (x ∷ l)) xs) (played (after set (x ∷ l)) (suc (length l)) xs) i)
+            → At l (x ∷ xs) (feedsFrom (after set l) (x ∷ xs)) (played (after set l) (length l) (x ∷ xs)) i
+        go zero e zero h next =
+            let none = later (played (after set (x ∷ l)) (suc (length l)) xs) (number-later (after set (x ∷ l)) (suc (length l)) xs) in
+            rw (feeds-on x xs l valid e, plays-on x xs l valid e) (record { item = refl; count = refl; cause = here ∙ e ∙ sym none })
+        go zero e (suc i) h next =
+            let rest′ = rw (feeds-on x xs l valid e, eq-eqb (causeAfter set l x) 0 e) at rest in
+            let now : getD heard (length l) Nothing ≡ x = ap (λ (s : ℕ). getD heard s Nothing) (sym (add-zero (length l))) ∙ rest′ 0 in
+            let more : Rest (x ∷ l) (feedsFrom (after set (x ∷ l)) xs) = λ j.
+            ap (λ (s : ℕ). getD heard s Nothing) (suc-add (length l) j ∙ sym (add-suc (length l) j)) ∙ rest′ (suc j) in
+            let q = next (e, valid) (now, past) more i (le-of-suc-le-suc (rw (feeds-on x xs l valid e) at h)) in
+            let s : length l + suc i ≡ suc (length l) + i = omega arith in
+            rw (feeds-on x xs l valid e, plays-on x xs l valid e)
+            (record { item = q .item; count = rw (eq-eqb (causeAfter set l x) 0 e) (ap suc (q .count)); cause = rw s (q .cause) })
+        go (suc k) e zero h next =
+            rw (feeds-last x xs l valid k e, plays-last x xs l valid k e)
+            (record { item = refl; count = refl; cause = here ∙ e ∙ rw (eq-eqb (length l + 0) (length l) (add-zero (length l))) })
+        go (suc k) e (suc i) h next = absurd (omega (arith, rw (feeds-last x xs l valid k e) at h))
+
+answer-with : (h h′ : Handset) (items items′ : List Item) (x x′ : Heard) (i : ℕ) → h ≡ h′ → items ≡ items′ → x ≡ x′
+    → feedOf (handsetAfter feedOf h (take i items)) x .answer ≡ feedOf (handsetAfter feedOf h′ (take i items′)) x′ .answer
+answer-with h h′ items items′ x x′ i e f g = cc
+
+-- The feeds of a replay are a run of demand 3, for any bytes whose settings are accepted.
+module _ (l : List ℕ) (good : settingsRefusal (settingsOf l) ≡ 0) where
+  abbrev set : Settings
+  set = settingsOf l
+
+  fresh-start : makeOf set .handset ≡ after set []
+  fresh-start = made-fresh set good
+
+  run-is : runOf l ≡ feedsFrom (after set []) (broughtIn l)
+  unfolding runOf
+  run-is = rw fresh-start
+
+  play-is : playedIn l ≡ played (after set []) 0 (broughtIn l)
+  unfolding playedIn
+  play-is = rw fresh-start
+
+  records-fed : (i : ℕ) → i < length (runOf l) → getD (broughtIn l) i Nothing ≡ broughtAt l i
+  unfolding broughtIn
+  records-fed i h =
+      let most = feeds-most set good (broughtIn l) [] tt in
+      brought-at l 0 (headerOf l .records) i
+      (omega (arith, h, ap length run-is, most, brought-length l 0 (headerOf l .records))) ∙ ap (broughtAt l) (zero-add i)
+
+  at : (i : ℕ) → i < length (runOf l) → At set good (heardInRun set (runOf l)) [] (broughtIn l) (runOf l) (playedIn l) i
+  at i h =
+      rw (← play-is, ← run-is) at
+      (each set good (heardInRun set (runOf l)) (broughtIn l) [] tt tt
+      (λ j. ap (λ (s : ℕ). getD (heardInRun set (runOf l)) s Nothing) (zero-add j) ∙ ap (λ (items : List Item). getD (heardFrom set [] items) j Nothing) run-is)
+      i (rw run-is at h))
+
+  answered : (i : ℕ) → i < length (runOf l)
+      → answerTo l (0 + i) ≡ feedOf (handsetAfter feedOf (after set []) (take i (feedsFrom (after set []) (broughtIn l)))) (getD (broughtIn l) i Nothing) .answer
+  answered i h = ap (answerTo l) (zero-add i) ∙ answer-with _ _ _ _ _ _ i fresh-start run-is (sym (records-fed i h))
+
+  pub is-run : IsRun l
+  unfolding broughtIn
+  is-run =
+      record {
+        feeds = λ i h. record { inside = h; brings = at i h .item ∙ ap feed (records-fed i h) };
+        counted = λ i h. at i h .count;
+        causes = λ i h. rw (at i h .count) (rw (zero-add i, records-fed i h) at (at i h .cause));
+        whole = λ none. ap length run-is ∙ feeds-whole set good (broughtIn l) [] tt (rw play-is at none) ∙ brought-length l 0 (headerOf l .records);
+        stopped = λ some. rw (run-is, play-is) (sym (zero-add _) ∙ feeds-stopped set good (broughtIn l) [] tt (λ z. some (rw play-is z)));
+        prints =
+            ap (λ (p : Played). p .bytes) play-is ∙ bytes-along set good (broughtIn l) [] tt (answerTo l) (λ i h. answered i (rw (← run-is) at h))
+            ∙ ap (λ (items : List Item). bytesFrom (answerTo l) 0 (length items)) (sym run-is);
+        holds = λ sent schedule brings. demand3 .run set good sent schedule (runOf l) brings;
+      }
