@@ -1,4 +1,4 @@
--- Numbers up to 99 as the programs print them.
+-- Numbers as the programs print them.
 -- Assumes nothing.
 use Prim.Native.Nat.{ℕ, _+_, _/_, _%_}
 use mathlib.Core.Bool.{cond}
@@ -9,9 +9,13 @@ use lib.Dec.{ltb}
 abbrev pub decimalDigit : ℕ → ℕ
 decimalDigit x = 48 + x % 10
 
--- A number up to 99 in decimal: one digit below 10, else two. Of a greater number, its last two digits.
+-- The digit that counts units of 10, 100 ..; a number below the unit has none.
+abbrev pub digitFor : ℕ → ℕ → List ℕ
+digitFor unit x = cond (ltb x unit) [] (decimalDigit (x / unit) ∷ [])
+
+-- A number below 100,000, so every number of 16 bits, in decimal.
 unfoldable pub decimal : ℕ → List ℕ
-decimal x = cond (ltb x 10) (decimalDigit x ∷ []) (decimalDigit (x / 10) ∷ decimalDigit x ∷ [])
+decimal x = digitFor 10000 x ++ digitFor 1000 x ++ digitFor 100 x ++ digitFor 10 x ++ decimalDigit x ∷ []
 
 -- Numbers in decimal, a text before each.
 unfoldable pub listed : List ℕ → List ℕ → List ℕ

@@ -1,7 +1,8 @@
 // A text of at most 100 bytes, filled byte by byte, and numbers in decimal: what `listing` and `printing` write with.
+ghost use Prim.Native.Nat.{_<_};
 ghost use mathlib.Core.Path.{_≡_};
 ghost use mathlib.Core.List.{[], _++_};
-ghost use Rattle.line.specs.Decimal.{decimalDigit, decimal, listed};
+ghost use Rattle.line.specs.Decimal.{decimalDigit, digitFor, decimal, listed};
 ghost use Rattle.line.specs.Put.{paged, putOf, added};
 
 // A text of at most 100 bytes, its length and its bytes; the bytes after it are 0.
@@ -56,14 +57,24 @@ pub fn digit(x: u16) -> u8
     (48 + x % 10) as u8
 }
 
-// The line with a number up to 99 in decimal; of a greater one its last two digits.
+// The line with the digit that counts units; the line as it is where the number is below the unit.
+fn put_digit(p: Line, unit: u16, x: u16) -> Line
+    requires { ⌜ 0 < unit ⌝ }
+    ensures { λ r. ⌜ r ≡ added p (digitFor unit x) ⌝ }
+{
+    if x < unit {
+        return p;
+    }
+    put(p, digit(x / unit))
+}
+
+// The line with a number in decimal.
 pub fn put_number(p: Line, x: u16) -> Line
     ensures { λ r. ⌜ r ≡ added p (decimal x) ⌝ }
 {
-    if x < 10 {
-        return put(p, digit(x));
-    }
-    put(put(p, digit(x / 10)), digit(x))
+    let thousands = put_digit(put_digit(p, 10000, x), 1000, x);
+    let tens = put_digit(put_digit(thousands, 100, x), 10, x);
+    put(tens, digit(x))
 }
 
 // The line with a text, then a number.

@@ -17,7 +17,8 @@ use Rattle.line.proofs.Paged.{alone, take-padded}
 use Rattle.line.specs.Decimal.{decimal, listed}
 use Rattle.line.specs.Put.{paged, putOf, added}
 use Rattle.line.specs.declared.Line.{Line}
-use Rattle.printing.specs.Text.{bytes, kText}
+use Rattle.line.specs.Ascii.{bytes}
+use Rattle.printing.specs.Text.{kText}
 
 -- No window: the dash (45).
 pub added-none : (p : Line) (ks : List ℕ) → length ks ≡ 0 → putOf p 45 ≡ added p (kText ks)

@@ -1,21 +1,15 @@
 -- The text that the program `tables` prints: Tables 10.1-1 to 10.1-4 of TS 36.213, from `windowOf` and `tableOf`, the tables that
 -- the engine's promises cite.
 -- Assumes nothing.
-use Prim.Native.Char.{code}
 use Prim.Native.Nat.{ℕ, zero, suc, _*_}
-use Prim.Native.String.{String, [] as []ˢ, _∷_ as _∷ˢ_}
 use mathlib.Core.List.{List, [], _∷_, _++_, map}
 use lib.ListN.{getD, take}
 use Rattle.frame.specs.Table.{windowOf}
+use Rattle.line.specs.Ascii.{bytes}
 use Rattle.line.specs.Decimal.{decimalDigit, decimal, listed}
 use Rattle.symbols.specs.Selection.{RowState, ACK, NACK, DTX, NACK/DTX, Row, tableOf}
 use Rattle.symbols.specs.declared.Symbol.the-variants.{Sent, Silent}
 use Rattle.symbols.specs.declared.Symbol.{Symbol}
-
--- The bytes of an ASCII text.
-abbrev pub bytes : String → List ℕ
-bytes []ˢ = []
-bytes (c ∷ˢ s) = code c ∷ bytes s
 
 -- A text in a column: spaces (32) after it, up to the column's width.
 unfoldable pub cell : ℕ → List ℕ → List ℕ

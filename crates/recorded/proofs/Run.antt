@@ -153,9 +153,9 @@ module _ (set : Settings) (good : settingsRefusal set ≡ 0) where
           let each′ = rw (feeds-on x xs l valid e) at each in
           let here : answers (length l) ≡ feedOf (after set l) x .answer = ap answers (sym (add-zero (length l))) ∙ each′ 0 (omega arith) in
           let later = next (e, valid) answers
-                (λ i h. ap answers (suc-add (length l) i ∙ sym (add-suc (length l) i))
-                ∙ each′ (suc i) (suc-le-suc h)
-                ∙ ap (λ (f : Fed). feedOf (handsetAfter feedOf (f .handset) (take i (feedsFrom (after set (x ∷ l)) xs))) (getD xs i Nothing) .answer) (accepted-after set good l valid x e)) in
+          (λ i h. ap answers (suc-add (length l) i ∙ sym (add-suc (length l) i))
+          ∙ each′ (suc i) (suc-le-suc h)
+          ∙ ap (λ (f : Fed). feedOf (handsetAfter feedOf (f .handset) (take i (feedsFrom (after set (x ∷ l)) xs))) (getD xs i Nothing) .answer) (accepted-after set good l valid x e)) in
           rw (plays-on x xs l valid e, feeds-on x xs l valid e, here, later)
       go (suc k) e next =
           let each′ = rw (feeds-last x xs l valid k e) at each in

@@ -1,11 +1,11 @@
 -- The whole call: refused before any record, or the feeds. Assumes nothing.
-use Prim.Native.Nat.{ℕ, zero, suc, _≤_}
+use Prim.Native.Nat.{ℕ, zero, suc, _*_, _≤_}
 use mathlib.Core.Bool.{Bool, true, false, cond}
 use mathlib.Core.List.{List}
-use mathlib.Core.Path.{_≡_, refl}
+use mathlib.Core.Path.{_≡_, refl, ap, _∙_}
 use native.Mathlib.Omega.{arith}
 use lib.Dec.{ltb}
-use lib.ListN.{length}
+use lib.ListN.{length, drop, length-append}
 use borrow.Author.Tests.{ltb-false}
 use Rattle.frame.specs.declared.Settings.{Settings}
 use Rattle.frame.specs.Settings.{settingsRefusal}
@@ -20,12 +20,12 @@ use Rattle.replaying.specs.Replay.{broughtIn, Played, played, playedIn, 
 module _ (l old : List ℕ) where
   -- An answer and an output that are right.
   abbrev Right : Replayed → List ℕ → Type 0
-  Right r new = (r ≡ replayOf l (length old)) × (new ≡ outputOf l old)
+  Right r new = (r ≡ replayOf l (length old)) × ((new ≡ outputOf l old) × (8 * r .windows ≤ length new))
 
   pub refused-before : (k : ℕ) → k ≡ startRefusal l (length old) → (k ≡ 0 → ⊥)
       → Right (record { refusal = k; kind = 0; number = 0; windows = 0 }) old
   unfolding replayOf outputOf
-  refused-before k e some = go k (startRefusal l (length old)) e some
+  refused-before k e some = let p = go k (startRefusal l (length old)) e some in (p .0, (p .1, omega arith))
     where
       go : (k r : ℕ) → k ≡ r → (k ≡ 0 → ⊥)
           → (record { refusal = k; kind = 0; number = 0; windows = 0 } ≡ replayedAs r (playedIn l)) × (old ≡ outputAs r (playedIn l) old)
@@ -46,4 +46,8 @@ module _ (l old : List ℕ) where
     pub played-on : (r : Replayed) (new : List ℕ) → r ≡ endedAs (played (makeOf (settingsOf l) .handset) 0 (broughtIn l))
         → new ≡ written (played (makeOf (settingsOf l) .handset) 0 (broughtIn l) .bytes) old → Right r new
     unfolding replayOf outputOf playedIn
-    played-on r new e f = rw (← asked, none) (e, f)
+    played-on r new e f =
+        let bytes : List ℕ = played (makeOf (settingsOf l) .handset) 0 (broughtIn l) .bytes in
+        let size = ap length f ∙ length-append bytes (drop (length bytes) old) in
+        let windows = ap (λ (a : Replayed). a .windows) e in
+        (rw (← asked, none) e, (rw (← asked, none) f, omega (arith, size, windows)))

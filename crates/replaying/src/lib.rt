@@ -2,7 +2,7 @@
 // eight bytes for each window into a lent output.
 use handset::Handset;
 use reply::Answer;
-ghost use Prim.Native.Nat.{_+_, _≤_};
+ghost use Prim.Native.Nat.{_+_, _*_, _≤_};
 ghost use mathlib.Core.Path.{_≡_};
 ghost use lib.ListN.{length};
 ghost use Rattle.replaying.specs.Ready.{Ready};
@@ -139,9 +139,11 @@ fn play(trace: &[u8], records: u16, start: Handset, out: &mut [u8]) -> Replayed
 }
 
 // The replay of any bytes into any output.
+// The third promise follows from the first; with it a caller may lend the windows that were written.
 pub fn replay(trace: &[u8], out: &mut [u8]) -> Replayed
     ensures { λ r. ⌜ r ≡ replayOf (now (trace .entry)) (length (now (out .entry))) ⌝ }
     ensures { λ _. ⌜ now (out .exit) ≡ outputOf (now (trace .entry)) (now (out .entry)) ⌝ }
+    ensures { λ r. ⌜ 8 * (r .windows) ≤ length (now (out .exit)) ⌝ }
 {
     let refusal = start_refusal(trace, out.len());
     if refusal != 0 {

@@ -75,7 +75,7 @@ module _ (h : Header) (long : 8 ≤ h .size) where
   unfolding settingsFit recordsFit
   so-fit f = (
     rw (le-leb (h .settings + 10) (h .size) (omega (arith, f .settings (h .settings + 9) (omega arith, omega arith))))
-    (so-apart headerPart (settingsPart h) (omega arith) (omega arith) (f .headerSettings)),
+        (so-apart headerPart (settingsPart h) (omega arith) (omega arith) (f .headerSettings)),
     go (eqb (h .records) 0) refl,
   )
     where
@@ -143,8 +143,10 @@ exactly l =
   where
     a : Bool
     a = leb 8 (length l) && eqb (length l) (headerOf l .size)
+
     b : Bool
     b = settingsFit (headerOf l) && recordsFit (headerOf l)
+
     c : Bool
     c = kindsKnown l (headerOf l .first) (headerOf l .records)
 

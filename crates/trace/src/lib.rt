@@ -5,6 +5,7 @@ mod records;
 
 use heard::Heard;
 use heard::Slot;
+pub use parts::byte_at;
 pub use parts::header_of;
 pub use parts::parts_refusal;
 pub use parts::settings_of;

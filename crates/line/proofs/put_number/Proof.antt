@@ -1,11 +1,21 @@
--- `line::put_number` meets its contract: one digit below 10, else two.
--- Assumes nothing.
-use borrow.Author.Needs.{needs}
-use borrow.Author.Tests.{le-ltb, lt-ltb}
+-- `line::put_number` meets its contract: the digits one after the other. Assumes nothing.
 use Rattle.line.specs.Decimal.{decimal}
-use Rattle.line.specs.Put.{added}
+use Rattle.line.proofs.Adding.{added-digits}
+use borrow.Author.Needs.{needs}
 use Rattle.line.proofs.put_number.Statement.{statement}
 use Rattle.line.proofs.put_number.Tie as tie
+
+put-digit-requires : tie.Need-put-digit-requires
+put-digit-requires c κs = search needs
+
+put-digit-requires-2 : tie.Need-put-digit-requires-2
+put-digit-requires-2 c κs = search needs
+
+put-digit-requires-3 : tie.Need-put-digit-requires-3
+put-digit-requires-3 c κs = search needs
+
+put-digit-requires-4 : tie.Need-put-digit-requires-4
+put-digit-requires-4 c κs = search needs
 
 digit-requires : tie.Need-digit-requires
 digit-requires c κs = search needs
@@ -14,41 +24,19 @@ put-requires : tie.Need-put-requires
 put-requires c κs = search needs
 
 returns : tie.Need-returns
-unfolding decimal added
-returns c = rw (c .put .ensures, c .before .digit .ensures, lt-ltb _ _ (c .before .before .if1 .taken))
-
-digit-requires-2 : tie.Need-digit-requires-2
-digit-requires-2 c κs = search needs
-
-put-requires-2 : tie.Need-put-requires-2
-put-requires-2 c κs = search needs
-
-digit-requires-3 : tie.Need-digit-requires-3
-digit-requires-3 c κs = search needs
-
-put-requires-3 : tie.Need-put-requires-3
-put-requires-3 c κs = search needs
-
-returns-2 : tie.Need-returns-2
-unfolding decimal added
-returns-2 c =
-    rw (
-      c .put3 .ensures,
-      c .before .digit3 .ensures,
-      c .before .before .put2 .ensures,
-      c .before .before .before .digit2 .ensures,
-      le-ltb _ _ (c .before .before .before .before .if1 .left),
-    )
+unfolding decimal
+returns c =
+    rw (c .put .ensures, c .before .digit .ensures, c .before .before .put-digit4 .ensures, c .before .before .before .put-digit3 .ensures, c .before .before .before .before .put-digit2 .ensures, c .before .before .before .before .before .put-digit .ensures)
+    (added-digits _ _ _ _ _ _)
 
 pub put-number-spec : {M : Type 1} → statement M
 put-number-spec =
     tie.close
     (tie.spec
+    put-digit-requires
+    put-digit-requires-2
+    put-digit-requires-3
+    put-digit-requires-4
     digit-requires
     put-requires
-    returns
-    digit-requires-2
-    put-requires-2
-    digit-requires-3
-    put-requires-3
-    returns-2)
+    returns)
