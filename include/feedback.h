@@ -15,9 +15,11 @@
  *   calls of the handset    feedback_make, feedback_feed_nothing,
  *                           feedback_feed_grant, feedback_feed_scheduled,
  *                           feedback_feed_release
+ *   calls on a recorded     feedback_replay, feedback_record
+ *   drive
  *
  * feedback_text.h has the refusals and the kinds as sentences for a log.
- * examples/cell.c runs both ends against each other.
+ * examples/cell.c runs both ends against each other, examples/replay.c replays a drive.
  *
  *
  * TERMS
@@ -95,6 +97,57 @@
  *             for the states of the M positions; the reply is sent on the resource
  *             of position i, which was always heard: that of its PDCCH or of its
  *             scheduled block. All D is silent.
+ * trace       a recorded drive of one handset as a file: its settings, and for each
+ *             subframe a record of what it brought. See TRACES.
+ *
+ *
+ * TRACES
+ *
+ * A trace is at most 65535 bytes, in three parts: the header, the settings and the
+ * records. The header is at byte 0 and says where the other two are. They may be in
+ * either order, and bytes that are in no part are ignored. No two parts share a byte,
+ * and none leaves the file. The records follow one another: record 0 is subframe 0 of a
+ * frame, record i is subframe i modulo 10. Numbers of two bytes have the low byte first.
+ *
+ *             header, 8 bytes
+ *             0, 1     records     the number of records; at most 16379 have room
+ *             2, 3     first       the place of record 0 in the file, from 0; ignored
+ *                                  where there are no records
+ *             4, 5     settings    the place of the settings
+ *             6, 7     length      the number of bytes of the whole file
+ *
+ *             settings, 10 bytes: the fields of struct feedback_settings
+ *             0        config
+ *             1        nrb
+ *             2        mode
+ *             3        blocks
+ *             4        special
+ *             5        prefix
+ *             6, 7     n1
+ *             8, 9     scheduled   65535 for none
+ *
+ *             record, 4 bytes: the fields of struct feedback_slot
+ *             0        kind        0 nothing, 1 grant, 2 scheduled block, 3 release
+ *             1        cce         grant, release; else ignored
+ *             2        dai         grant, release; else ignored
+ *             3        results     grant, scheduled block; else ignored. Bit 0: the first
+ *                                  block, or the only one, was decoded; bit 1: the
+ *                                  second; bit 2: two blocks were carried. Bits 3 to 7
+ *                                  are ignored, and bit 1 where bit 2 is 0
+ *
+ * feedback_replay writes 8 bytes for each window that is answered, one window behind the
+ * other in time order:
+ *
+ *             window, 8 bytes
+ *             0        n           the uplink subframe, 0 to 9
+ *             1        kind        0 silent, 1 bundled, 2 multiplexed
+ *             2, 3     resource    the PUCCH resource; 0 if silent
+ *             4        b0          as in struct feedback_fed; 0 if silent
+ *             5        b1          likewise
+ *             6, 7     zero
+ *
+ * A record completes a window if its subframe is an uplink one that has a window. So a
+ * whole frame of configuration 0 to 6 completes 4, 4, 2, 3, 2, 1 and 5 windows.
  *
  *
  * NUMBERS
@@ -128,6 +181,8 @@
  *             feedback_feed_grant     2048
  *             feedback_feed_scheduled 2048
  *             feedback_feed_release   2048
+ *             feedback_replay         4096
+ *             feedback_record         64
  *
  * Of the C library the calls use memset and nothing else.
  */
@@ -142,12 +197,20 @@
 #include <stdint.h>
 
 /* This header's version: major * 10000 + minor * 100 + patch, and the same as text. */
-#define FEEDBACK_VERSION 30000
-#define FEEDBACK_VERSION_TEXT "3.0.0"
+#define FEEDBACK_VERSION 30100
+#define FEEDBACK_VERSION_TEXT "3.1.0"
 
 #define FEEDBACK_WINDOW_MOST 9     /* the most subframes of a window: M in configuration 5 */
 #define FEEDBACK_MEMORY 13         /* the subframes that a handset remembers: the greatest k */
 #define FEEDBACK_SCRATCH_MOST 1206 /* the most scratch that feedback_claims needs: 9 * 134 */
+
+#define FEEDBACK_TRACE_HEADER 8     /* the bytes of a trace's header */
+#define FEEDBACK_TRACE_SETTINGS 10  /* the bytes of its settings */
+#define FEEDBACK_TRACE_RECORD 4     /* the bytes of each of its records */
+#define FEEDBACK_RECORDS_MOST 16379 /* the most records of a trace: (65535 - 8 - 10) / 4 */
+#define FEEDBACK_WINDOW_BYTES 8     /* the bytes that feedback_replay writes for a window */
+#define FEEDBACK_WINDOWS_MOST 8190  /* the most windows of a trace, in configuration 6: 65520
+                                       bytes of output */
 
 /*
  * None: as the setting scheduled, that no resource is set for scheduled blocks; as the
@@ -172,11 +235,15 @@ extern "C" {
 
 /*
  * Why a call refuses: the value of refusal in every answer, 0 for no refusal. Each
- * call names the refusals it can give. Where several causes are met, the first in
- * this order is given: 1 to 6, 17, 19, 7, 8, 9, 20, 10, 11, 12, 18, 13, 14, 15, 16. A
- * refused call changes nothing: no buffer is written, no state moves on, nothing is
- * made. Beside a refusal every other number of the answer is 0, with two exceptions: a
- * feed gives back the handset as it was, and 16 comes with an index.
+ * call names the refusals it can give. Where several causes are met, the first in this
+ * order is given:
+ * 21, 22, 1 to 6, 17, 19, 7, 8, 9, 20, 10, 11, 12, 18, 13, 14, 15, 16; 23 in
+ * feedback_replay after 19 and before any record.
+ * A refused call changes nothing: no buffer is written, no state moves on, nothing is
+ * made. Beside a refusal every other number of the answer is 0. There are three
+ * exceptions: a feed gives back the handset as it was; 16 comes with an index; and a
+ * replay that stops at a record leaves the windows before it in the output, and tells
+ * how many they are and the record's number.
  */
 enum feedback_refusal {
     FEEDBACK_NOT_REFUSED = 0,
@@ -214,9 +281,16 @@ enum feedback_refusal {
     FEEDBACK_REFUSED_SPECIAL = 19,      /* prefix not 0 or 1, or special subframe configuration
                                            over 8 with the normal prefix, over 6 with the
                                            extended */
-    FEEDBACK_REFUSED_SHORT = 20         /* grant or scheduled block in a special subframe too
+    FEEDBACK_REFUSED_SHORT = 20,        /* grant or scheduled block in a special subframe too
                                            short for data; in feedback_reading a scheduled
                                            position told whose subframe is such a one */
+    FEEDBACK_REFUSED_TRACE_LENGTH = 21, /* trace below eight bytes, or not of the length that its
+                                           header names */
+    FEEDBACK_REFUSED_TRACE_PARTS = 22,  /* parts of the trace, the header too, that share a byte
+                                           or leave the file (where there are no records, their
+                                           place is ignored), or a record's kind over 3 */
+    FEEDBACK_REFUSED_OUTPUT = 23        /* output under eight bytes for each window that the
+                                           records of the header complete */
 };
 
 /* The kind of a feed's answer, and of a reading (there 0, 1 or 2). */
@@ -236,6 +310,21 @@ enum feedback_claims_kind {
     FEEDBACK_CLAIMS_CLASH = 2    /* two claims are equal */
 };
 
+/* The kind of a replay's answer. */
+enum feedback_replay_kind {
+    FEEDBACK_REPLAY_REFUSED = 0, /* refused before any record; the refusal says why */
+    FEEDBACK_REPLAY_DONE = 1,    /* every record was replayed */
+    FEEDBACK_REPLAY_STOPPED = 2  /* stopped at the first record that its feed refuses; the refusal
+                                    says why */
+};
+
+/* The kind of an answer about a record of a trace. */
+enum feedback_record_kind {
+    FEEDBACK_RECORD_REFUSED = 0, /* refused; the refusal says why */
+    FEEDBACK_RECORD_READ = 1,    /* the record */
+    FEEDBACK_RECORD_END = 2      /* the trace has no such record: its number is past the last */
+};
+
 /* The mode of a handset, as in feedback_settings. */
 enum feedback_mode {
     FEEDBACK_MODE_BUNDLING = 0,
@@ -248,7 +337,7 @@ enum feedback_prefix {
     FEEDBACK_PREFIX_EXTENDED = 1
 };
 
-/* What a remembered subframe brought, as in feedback_slot: the kinds, and the bits of results. */
+/* What a subframe brought, as in feedback_slot: the kinds, and the bits of results. */
 enum feedback_slot_kind {
     FEEDBACK_SLOT_NOTHING = 0,
     FEEDBACK_SLOT_GRANT = 1,
@@ -348,7 +437,7 @@ struct feedback_claims_answer {
                          refused 16: the index of the first bad claim; else 0 */
 };
 
-/* One remembered subframe. 4 bytes. */
+/* What one subframe brought: remembered by a handset, or a record of a trace. 4 bytes. */
 struct feedback_slot {
     uint8_t kind;    /* one of enum feedback_slot_kind */
     uint8_t cce;     /* grant, release: its first CCE; else no meaning */
@@ -394,6 +483,24 @@ struct feedback_fed {
     uint16_t b1;       /* bundled: the same of the second block, 0 in a one-bit reply;
                           multiplexed: b(1); else 0 */
     struct feedback_handset handset; /* for the next feed; if refused, the handset as it was */
+};
+
+/* The answer of feedback_replay. 8 bytes. */
+struct feedback_replay_answer {
+    uint16_t refusal; /* 0; before any record 1 to 6, 17, 19 or 21 to 23; at a record 9 to 12, 18
+                         or 20 */
+    uint16_t kind;    /* one of enum feedback_replay_kind */
+    uint16_t record;  /* stopped: the number of the refused record, from 0; else 0 */
+    uint16_t windows; /* the windows that were written to the output; 0 if refused before any
+                         record */
+};
+
+/* The answer of feedback_record. 8 bytes. */
+struct feedback_record_answer {
+    uint16_t refusal;          /* 0, 21 or 22 */
+    uint16_t kind;             /* one of enum feedback_record_kind */
+    struct feedback_slot slot; /* read: the record; fields and bits that its kind does not use
+                                  are 0; else 4 zero bytes */
 };
 
 /*
@@ -675,6 +782,65 @@ struct feedback_fed feedback_feed_release(struct feedback_handset handset, uint1
                                           uint16_t dai);
 
 /*
+ * The replies that a handset should have sent in a recorded drive.
+ *
+ *   trace      the bytes of the trace, only read; their layout is under TRACES
+ *   length     the number of bytes of the trace
+ *   out        bytes for the windows, at least FEEDBACK_WINDOW_BYTES for each window
+ *              that the records complete (FEEDBACK_WINDOWS_MOST *
+ *              FEEDBACK_WINDOW_BYTES are always enough)
+ *   room       the number of bytes lent in out
+ *
+ * The same as to make a handset with the settings of the trace, by feedback_make, and to
+ * feed it what each record has, one by one, by the four feeds. Each window that is
+ * answered is written to out, a silent one too. A feed that answers FEEDBACK_KIND_TAKEN
+ * or FEEDBACK_KIND_NO_WINDOW writes nothing. The kinds in out are not those of enum
+ * feedback_kind: 1 and 2 are the same, but 0 is silent.
+ *
+ * If all records are fed, the kind is FEEDBACK_REPLAY_DONE. If a feed is refused, the
+ * replay stops there: the kind is FEEDBACK_REPLAY_STOPPED, the refusal that of the
+ * feed, and record the number of that record, from 0. The windows before it stay in out.
+ * Bytes of out behind the windows written keep their values.
+ *
+ * Refuses 21 and 22, then 1 to 6, 17 and 19 for the settings of the trace, in this order
+ * whatever the order of their bytes, then 23; all before any record: then the kind is
+ * FEEDBACK_REPLAY_REFUSED and all of out is as it was. 22 is given for a kind over 3 in
+ * any record, 23 by the windows of all records that the header names, even where an
+ * earlier record will be refused. Then it stops at a record for 9, 20, 10, 11, 12 and 18.
+ *
+ * A length or room of 0 is a trace or output of length 0, and its pointer may then be
+ * NULL; with any other length NULL is an error that no refusal catches, as is a length
+ * beyond the memory lent. The two must not overlap, and nothing else may write either
+ * during the call. Where they overlap all the same, the answer and the windows may be
+ * wrong, but nothing is written outside of out.
+ */
+FEEDBACK_MUST_USE
+struct feedback_replay_answer feedback_replay(const uint8_t *trace, size_t length, uint8_t *out,
+                                              size_t room);
+
+/*
+ * A record of a trace by its number. To read them all, count next up from 0 until the
+ * kind is FEEDBACK_RECORD_END.
+ *
+ *   trace      the bytes of the trace, only read; their layout is under TRACES
+ *   length     the number of bytes of the trace
+ *   next       the number of the record, from 0; any number may be given
+ *
+ * The answer's slot has the record. Fields and bits that its kind does not use are 0: of
+ * a grant all fields are used, of a scheduled block results, of a release cce and dai,
+ * of nothing none; of results bits 0 to 2, and bit 1 only with bit 2. Where the trace has
+ * no such record the kind is FEEDBACK_RECORD_END.
+ *
+ * Refuses 21 and 22. 22 is given for the parts of the trace, and for the kind of this
+ * record over 3; the kinds of other records and the settings are not looked at.
+ *
+ * A length of 0 is a trace of length 0, and its pointer may then be NULL, as in
+ * feedback_replay. Nothing else may write the trace during the call.
+ */
+FEEDBACK_MUST_USE
+struct feedback_record_answer feedback_record(const uint8_t *trace, size_t length, size_t next);
+
+/*
  * The number of the layout of the structs above is part of a name in the library,
  * and every object that includes this header refers to that name. So an object that
  * was compiled against another layout does not link: "undefined reference to
@@ -773,6 +939,15 @@ FEEDBACK_PLACE(feedback_fed, resource, 4)
 FEEDBACK_PLACE(feedback_fed, b0, 6)
 FEEDBACK_PLACE(feedback_fed, b1, 8)
 FEEDBACK_PLACE(feedback_fed, handset, 10)
+FEEDBACK_SIZE(feedback_replay_answer, 8)
+FEEDBACK_PLACE(feedback_replay_answer, refusal, 0)
+FEEDBACK_PLACE(feedback_replay_answer, kind, 2)
+FEEDBACK_PLACE(feedback_replay_answer, record, 4)
+FEEDBACK_PLACE(feedback_replay_answer, windows, 6)
+FEEDBACK_SIZE(feedback_record_answer, 8)
+FEEDBACK_PLACE(feedback_record_answer, refusal, 0)
+FEEDBACK_PLACE(feedback_record_answer, kind, 2)
+FEEDBACK_PLACE(feedback_record_answer, slot, 4)
 FEEDBACK_HOLDS(feedback_size_t_has_8_bytes, sizeof(size_t) == 8)
 
 #undef FEEDBACK_PLACE

@@ -8,7 +8,9 @@
  *   feedback_refusal_text       a refusal, of any answer
  *   feedback_kind_text          the kind of a feed's answer or of a reading
  *   feedback_claims_kind_text   the kind of an answer about claims
- *   feedback_slot_kind_text     the kind of a remembered subframe
+ *   feedback_slot_kind_text     the kind of a remembered subframe, or of a record
+ *   feedback_replay_kind_text   the kind of a replay's answer
+ *   feedback_record_kind_text   the kind of an answer about a record of a trace
  */
 #ifndef FEEDBACK_TEXT_H
 #define FEEDBACK_TEXT_H
@@ -61,6 +63,12 @@ static inline const char *feedback_refusal_text(unsigned refusal)
         return "Refused 19: the prefix or the special subframe configuration is out of its range.";
     case FEEDBACK_REFUSED_SHORT:
         return "Refused 20: a grant or scheduled block in a special subframe too short for data.";
+    case FEEDBACK_REFUSED_TRACE_LENGTH:
+        return "Refused 21: the trace is below 8 bytes, or not of the length in its header.";
+    case FEEDBACK_REFUSED_TRACE_PARTS:
+        return "Refused 22: parts of the trace overlap or leave it, or a record's kind is over 3.";
+    case FEEDBACK_REFUSED_OUTPUT:
+        return "Refused 23: the output is under 8 bytes for each window of the records.";
     default:
         return "This number is no refusal.";
     }
@@ -102,7 +110,7 @@ static inline const char *feedback_claims_kind_text(unsigned kind)
     }
 }
 
-/* What the kind of a remembered subframe says, by enum feedback_slot_kind. */
+/* What the kind of a remembered subframe or of a record says, by enum feedback_slot_kind. */
 static inline const char *feedback_slot_kind_text(unsigned kind)
 {
     switch (kind) {
@@ -116,6 +124,36 @@ static inline const char *feedback_slot_kind_text(unsigned kind)
         return "The subframe brought a release of the schedule.";
     default:
         return "This number is no kind of a remembered subframe.";
+    }
+}
+
+/* What the kind of a replay's answer says, by enum feedback_replay_kind. */
+static inline const char *feedback_replay_kind_text(unsigned kind)
+{
+    switch (kind) {
+    case FEEDBACK_REPLAY_REFUSED:
+        return "The replay was refused before any record.";
+    case FEEDBACK_REPLAY_DONE:
+        return "The replay is done: every record was fed.";
+    case FEEDBACK_REPLAY_STOPPED:
+        return "The replay stopped at a record that was refused.";
+    default:
+        return "This number is no kind of a replay's answer.";
+    }
+}
+
+/* What the kind of an answer about a record says, by enum feedback_record_kind. */
+static inline const char *feedback_record_kind_text(unsigned kind)
+{
+    switch (kind) {
+    case FEEDBACK_RECORD_REFUSED:
+        return "The trace or the record was refused.";
+    case FEEDBACK_RECORD_READ:
+        return "The record was read.";
+    case FEEDBACK_RECORD_END:
+        return "The end: the trace has no record of this number.";
+    default:
+        return "This number is no kind of an answer about a record.";
     }
 }
 

@@ -3,7 +3,8 @@
  * include/feedback.h, with values worked out by hand from documents 01 and 02. They are chosen so
  * that exchanging two parameters, fields or numbers of the header changes an answer. Valid as C99
  * to C17 and as C++98 to C++17. The argument is the header's file: the names of the parameters,
- * their descriptions, the table of windows and the order of refusals are read from its text.
+ * their descriptions, the table of windows, the layout of a trace and the order of refusals are
+ * read from its text.
  */
 #include "feedback.h"
 #include "feedback_text.h"
@@ -11,7 +12,7 @@
 #include <stdlib.h>
 #include <string.h>
 
-#if FEEDBACK_VERSION != 30000
+#if FEEDBACK_VERSION != 30100
 #error "FEEDBACK_VERSION is for the preprocessor too"
 #endif
 
@@ -151,6 +152,9 @@ static void numbers(void)
     EQUAL(FEEDBACK_REFUSED_SCHEDULED, 18);
     EQUAL(FEEDBACK_REFUSED_SPECIAL, 19);
     EQUAL(FEEDBACK_REFUSED_SHORT, 20);
+    EQUAL(FEEDBACK_REFUSED_TRACE_LENGTH, 21);
+    EQUAL(FEEDBACK_REFUSED_TRACE_PARTS, 22);
+    EQUAL(FEEDBACK_REFUSED_OUTPUT, 23);
     EQUAL(FEEDBACK_KIND_REFUSED, 0);
     EQUAL(FEEDBACK_KIND_BUNDLED, 1);
     EQUAL(FEEDBACK_KIND_MULTIPLEXED, 2);
@@ -160,6 +164,12 @@ static void numbers(void)
     EQUAL(FEEDBACK_CLAIMS_REFUSED, 0);
     EQUAL(FEEDBACK_CLAIMS_CLEAN, 1);
     EQUAL(FEEDBACK_CLAIMS_CLASH, 2);
+    EQUAL(FEEDBACK_REPLAY_REFUSED, 0);
+    EQUAL(FEEDBACK_REPLAY_DONE, 1);
+    EQUAL(FEEDBACK_REPLAY_STOPPED, 2);
+    EQUAL(FEEDBACK_RECORD_REFUSED, 0);
+    EQUAL(FEEDBACK_RECORD_READ, 1);
+    EQUAL(FEEDBACK_RECORD_END, 2);
     EQUAL(FEEDBACK_MODE_BUNDLING, 0);
     EQUAL(FEEDBACK_MODE_MULTIPLEXING, 1);
     EQUAL(FEEDBACK_PREFIX_NORMAL, 0);
@@ -174,8 +184,14 @@ static void numbers(void)
     EQUAL(FEEDBACK_WINDOW_MOST, 9);
     EQUAL(FEEDBACK_MEMORY, 13);
     EQUAL(FEEDBACK_SCRATCH_MOST, 1206); /* M 9, and N_4 134 where N_RB is 110 */
+    EQUAL(FEEDBACK_TRACE_HEADER, 8);
+    EQUAL(FEEDBACK_TRACE_SETTINGS, 10);
+    EQUAL(FEEDBACK_TRACE_RECORD, 4);
+    EQUAL(FEEDBACK_RECORDS_MOST, 16379); /* 65535 - 18 is 4 * 16379 + 1 */
+    EQUAL(FEEDBACK_WINDOW_BYTES, 8);
+    EQUAL(FEEDBACK_WINDOWS_MOST, 8190); /* 5 in each of 1637 frames, 5 in 9 subframes more */
     EQUAL(FEEDBACK_NONE, 65535);
-    EQUAL(FEEDBACK_VERSION, 30000);
+    EQUAL(FEEDBACK_VERSION, 30100);
     sprintf(version, "%d.%d.%d", FEEDBACK_VERSION / 10000, FEEDBACK_VERSION / 100 % 100,
             FEEDBACK_VERSION % 100);
     SAME(FEEDBACK_VERSION_TEXT, version);
@@ -246,6 +262,15 @@ static void layout(void)
     PLACE(feedback_fed, b0, 6);
     PLACE(feedback_fed, b1, 8);
     PLACE(feedback_fed, handset, 10);
+    SIZE(feedback_replay_answer, 8);
+    PLACE(feedback_replay_answer, refusal, 0);
+    PLACE(feedback_replay_answer, kind, 2);
+    PLACE(feedback_replay_answer, record, 4);
+    PLACE(feedback_replay_answer, windows, 6);
+    SIZE(feedback_record_answer, 8);
+    PLACE(feedback_record_answer, refusal, 0);
+    PLACE(feedback_record_answer, kind, 2);
+    PLACE(feedback_record_answer, slot, 4);
 }
 
 /* ---- settings ---- */
@@ -400,7 +425,9 @@ static void special_settings(void)
 /* The order in which causes are given, as the header tells it; the tests below meet it in pairs. */
 static void order(void)
 {
-    HOLDS(strstr(text, " 1 to 6, 17, 19, 7, 8, 9, 20, 10, 11, 12, 18, 13, 14, 15, 16. ") != NULL);
+    HOLDS(strstr(text,
+                 " 21, 22, 1 to 6, 17, 19, 7, 8, 9, 20, 10, 11, 12, 18, 13, 14, 15, 16; 23 in\n"
+                 " * feedback_replay after 19 and before any record.\n") != NULL);
 }
 
 /* ---- windows ---- */
@@ -1130,6 +1157,359 @@ static void short_refused(void)
     replies(handset, FEEDBACK_KIND_SILENT, 0, 0, 0);
 }
 
+/* ---- recorded drives ---- */
+
+/* The heading of a table in the header's comment: the name of a part and how many bytes it has. */
+static const char *heading(const char *part)
+{
+    char line[64];
+    const char *at;
+    sprintf(line, "\n *             %s, ", part);
+    at = strstr(text, line);
+    if (at == NULL) {
+        printf("the header has no table of %s\n", part);
+        exit(1);
+    }
+    return at + strlen(line);
+}
+
+/* The first byte of a field in such a table; a row has the bytes, then the field's name. */
+static unsigned long place_of(const char *part, const char *field)
+{
+    size_t length = strlen(field);
+    const char *row = strchr(heading(part), '\n');
+    for (; strncmp(row, "\n *\n", 4) != 0; row = strchr(row + 1, '\n'))
+        if (strncmp(row + 25, field, length) == 0 && !is_word(row[25 + length]))
+            return strtoul(row + 16, NULL, 10);
+    printf("the header's table of %s has no %s\n", part, field);
+    exit(1);
+}
+
+/* A trace of at most 16 records: where its parts are, and its bytes. */
+struct drive {
+    unsigned count, first, settings, length;
+    uint8_t bytes[96];
+};
+
+static void put_byte(uint8_t *at, const char *part, const char *field, unsigned number)
+{
+    at[place_of(part, field)] = number & 255u;
+}
+
+static void put_number(uint8_t *at, const char *part, const char *field, unsigned number)
+{
+    put_byte(at, part, field, number);
+    at[place_of(part, field) + 1] = number >> 8 & 255u;
+}
+
+static void put_header(struct drive *drive)
+{
+    put_number(drive->bytes, "header", "records", drive->count);
+    put_number(drive->bytes, "header", "first", drive->first);
+    put_number(drive->bytes, "header", "settings", drive->settings);
+    put_number(drive->bytes, "header", "length", drive->length);
+}
+
+static void put_settings(struct drive *drive, struct feedback_settings settings)
+{
+    uint8_t *at = drive->bytes + drive->settings;
+    put_byte(at, "settings", "config", settings.config);
+    put_byte(at, "settings", "nrb", settings.nrb);
+    put_byte(at, "settings", "mode", settings.mode);
+    put_byte(at, "settings", "blocks", settings.blocks);
+    put_byte(at, "settings", "special", settings.special);
+    put_byte(at, "settings", "prefix", settings.prefix);
+    put_number(at, "settings", "n1", settings.n1);
+    put_number(at, "settings", "scheduled", settings.scheduled);
+}
+
+static void put_record(struct drive *drive, unsigned number, unsigned kind, unsigned cce,
+                       unsigned dai, unsigned results)
+{
+    uint8_t *at = drive->bytes + drive->first + number * FEEDBACK_TRACE_RECORD;
+    put_byte(at, "record", "kind", kind);
+    put_byte(at, "record", "cce", cce);
+    put_byte(at, "record", "dai", dai);
+    put_byte(at, "record", "results", results);
+}
+
+/* A trace of nothing: the settings at 9, the records behind them, a byte before and one behind. */
+static struct drive drive_of(struct feedback_settings settings, unsigned count)
+{
+    struct drive drive;
+    memset(&drive, 0, sizeof drive);
+    drive.count = count;
+    drive.settings = FEEDBACK_TRACE_HEADER + 1;
+    drive.first = drive.settings + FEEDBACK_TRACE_SETTINGS;
+    drive.length = drive.first + count * FEEDBACK_TRACE_RECORD + 1;
+    put_header(&drive);
+    put_settings(&drive, settings);
+    return drive;
+}
+
+/* A window of the output is what it should be. */
+static void written(const uint8_t *window, unsigned n, unsigned kind, unsigned resource,
+                    unsigned b0, unsigned b1)
+{
+    EQUAL(window[place_of("window", "n")], n);
+    EQUAL(window[place_of("window", "kind")], kind);
+    EQUAL(window[place_of("window", "resource")], resource % 256);
+    EQUAL(window[place_of("window", "resource") + 1], resource / 256);
+    EQUAL(window[place_of("window", "b0")], b0);
+    EQUAL(window[place_of("window", "b1")], b1);
+    EQUAL(window[place_of("window", "zero")], 0);
+    EQUAL(window[place_of("window", "zero") + 1], 0);
+}
+
+static void tables_of_traces(void)
+{
+    EQUAL(strtoul(heading("header"), NULL, 10), FEEDBACK_TRACE_HEADER);
+    EQUAL(strtoul(heading("settings"), NULL, 10), FEEDBACK_TRACE_SETTINGS);
+    EQUAL(strtoul(heading("record"), NULL, 10), FEEDBACK_TRACE_RECORD);
+    EQUAL(strtoul(heading("window"), NULL, 10), FEEDBACK_WINDOW_BYTES);
+    EQUAL(place_of("header", "length"), 6);
+    EQUAL(place_of("settings", "scheduled"), 8);
+    EQUAL(place_of("record", "results"), 3);
+    EQUAL(place_of("window", "zero"), 6);
+}
+
+/* The answer of a replay, and the output's first byte that was not written. */
+static void replayed(int line, const struct drive *drive, uint8_t *out, size_t room,
+                     unsigned refusal, unsigned kind, unsigned record, unsigned windows)
+{
+    struct feedback_replay_answer answer;
+    memset(out, 99, room);
+    answer = feedback_replay(drive->bytes, drive->length, out, room);
+    equal(line, "refusal", answer.refusal, refusal);
+    equal(line, "kind", answer.kind, kind);
+    equal(line, "record", answer.record, record);
+    equal(line, "windows", answer.windows, windows);
+    if (windows * FEEDBACK_WINDOW_BYTES < room)
+        equal(line, "the rest", out[windows * FEEDBACK_WINDOW_BYTES], 99);
+}
+
+#define REPLAYED(drive, room, refusal, kind, record, windows) \
+    replayed(__LINE__, &(drive), out, room, refusal, kind, record, windows)
+
+/*
+ * Configuration 2, with special subframes too short for data, where N_p is 0, 11, 27, 44, 61 and N1
+ * 300: the drive of bundled_scheduled, with a release in 1. On its resource, 3 * 11 + 4 + 300.
+ */
+static struct drive drive_of_2(void)
+{
+    struct feedback_settings settings = FEEDBACK_SETTINGS(2, 50, 300, 0, 2);
+    struct drive drive = drive_of(
+        with_special(with_scheduled(settings, 6), FEEDBACK_PREFIX_EXTENDED, 4), 10);
+    put_record(&drive, 0, FEEDBACK_SLOT_GRANT, 3, 1, 7);
+    put_record(&drive, 1, FEEDBACK_SLOT_RELEASE, 4, 2, 255);
+    put_record(&drive, 2, FEEDBACK_SLOT_NOTHING, 9, 9, 9);
+    put_record(&drive, 3, FEEDBACK_SLOT_SCHEDULED, 255, 255, 6);
+    put_record(&drive, 8, FEEDBACK_SLOT_GRANT, 5, 1, FEEDBACK_SECOND_DECODED | 1);
+    return drive;
+}
+
+static void replay(void)
+{
+    struct drive drive = drive_of_2();
+    const uint8_t *trace = drive.bytes;
+    uint8_t out[24], before[24];
+    size_t length = drive.length, room = 20;
+    struct feedback_replay_answer answer;
+    memset(out, 99, sizeof out);
+    memcpy(before, out, sizeof out);
+    answer = CALL(feedback_replay, (trace, length, out, room));
+    EQUAL(answer.refusal, 0);
+    EQUAL(answer.kind, FEEDBACK_REPLAY_DONE);
+    EQUAL(answer.record, 0);
+    EQUAL(answer.windows, 2);
+    written(out, 2, 0, 0, 0, 0);
+    written(out + FEEDBACK_WINDOW_BYTES, 7, 1, 337, 0, 1);
+    BYTES(out + 16, before, 8);
+    memcpy(out, before, sizeof out);
+    answer = feedback_replay(trace, length, out, 15); /* two windows, though one is silent */
+    EQUAL(answer.refusal, FEEDBACK_REFUSED_OUTPUT);
+    EQUAL(answer.kind, FEEDBACK_REPLAY_REFUSED);
+    EQUAL(answer.record, 0);
+    EQUAL(answer.windows, 0);
+    answer = feedback_replay(trace, length - 1, out, 16);
+    EQUAL(answer.refusal, FEEDBACK_REFUSED_TRACE_LENGTH);
+    EQUAL(answer.kind, FEEDBACK_REPLAY_REFUSED);
+    answer = feedback_replay(NULL, 0, NULL, 0);
+    EQUAL(answer.refusal, FEEDBACK_REFUSED_TRACE_LENGTH);
+    answer = feedback_replay(trace, length, NULL, 0);
+    EQUAL(answer.refusal, FEEDBACK_REFUSED_OUTPUT);
+    BYTES(out, before, sizeof out);
+    put_record(&drive, 7, FEEDBACK_SLOT_GRANT, 61, 5, 7); /* in an uplink subframe */
+    answer = feedback_replay(trace, length, out, 16);
+    EQUAL(answer.refusal, FEEDBACK_REFUSED_UPLINK);
+    EQUAL(answer.kind, FEEDBACK_REPLAY_STOPPED);
+    EQUAL(answer.record, 7);
+    EQUAL(answer.windows, 1);
+    written(out, 2, 0, 0, 0, 0);
+    BYTES(out + 8, before, 16);
+}
+
+/* The same in other modes: a window of one subframe is bundled in mode 1 too. */
+static void replay_multiplexed(void)
+{
+    struct feedback_settings cell = FEEDBACK_SETTINGS(2, 50, 300, 1, 2);
+    struct drive drive = drive_of_2(), of_6 = drive_of(FEEDBACK_SETTINGS(6, 110, 0, 1, 1), 9);
+    uint8_t out[40];
+    put_settings(&drive, with_special(with_scheduled(cell, 6), FEEDBACK_PREFIX_EXTENDED, 4));
+    REPLAYED(drive, 16, 0, FEEDBACK_REPLAY_DONE, 0, 2);
+    written(out, 2, 0, 0, 0, 0);
+    written(out + 8, 7, 2, 337, 1, 0); /* -ANA is -A-A, 10 of 3 */
+    put_record(&drive, 3, FEEDBACK_SLOT_NOTHING, 0, 0, 0);
+    put_record(&drive, 0, FEEDBACK_SLOT_SCHEDULED, 0, 0, 0);
+    put_record(&drive, 1, FEEDBACK_SLOT_NOTHING, 0, 0, 0);
+    REPLAYED(drive, 16, 0, FEEDBACK_REPLAY_DONE, 0, 2);
+    written(out + 8, 7, 2, 6, 0, 0); /* -NDD is 00 of 1, the block's */
+    put_record(&of_6, 0, FEEDBACK_SLOT_GRANT, 133, 1, FEEDBACK_FIRST_DECODED);
+    REPLAYED(of_6, 40, 0, FEEDBACK_REPLAY_DONE, 0, 5);
+    written(out + 24, 7, 1, 133, 1, 0);
+    REPLAYED(of_6, 39, FEEDBACK_REFUSED_OUTPUT, FEEDBACK_REPLAY_REFUSED, 0, 0);
+    put_settings(&of_6, FEEDBACK_SETTINGS(1, 110, 0, 0, 1));
+    REPLAYED(of_6, 40, 0, FEEDBACK_REPLAY_DONE, 0, 4);
+    written(out + 16, 7, 1, 133 + 97, 1, 0); /* 1 * 97 + 0 * 134 + 133 */
+}
+
+/* The parts: each place of the two that move, and what the header says of them. */
+static void replay_refused(void)
+{
+    struct drive good = drive_of_2(), drive = good;
+    uint8_t out[40];
+    drive.settings = 7; /* a byte of the header */
+    put_header(&drive);
+    REPLAYED(drive, 40, FEEDBACK_REFUSED_TRACE_PARTS, FEEDBACK_REPLAY_REFUSED, 0, 0);
+    drive.settings = good.first - 9; /* a byte of the first record */
+    put_header(&drive);
+    REPLAYED(drive, 40, FEEDBACK_REFUSED_TRACE_PARTS, FEEDBACK_REPLAY_REFUSED, 0, 0);
+    drive.settings = 65530; /* past the end, and past 16 bits */
+    put_header(&drive);
+    REPLAYED(drive, 40, FEEDBACK_REFUSED_TRACE_PARTS, FEEDBACK_REPLAY_REFUSED, 0, 0);
+    drive = good;
+    drive.count = 11; /* leaves the file by three bytes */
+    put_header(&drive);
+    REPLAYED(drive, 40, FEEDBACK_REFUSED_TRACE_PARTS, FEEDBACK_REPLAY_REFUSED, 0, 0);
+    drive.count = 0;
+    drive.first = 65535;
+    put_header(&drive);
+    REPLAYED(drive, 40, 0, FEEDBACK_REPLAY_DONE, 0, 0);
+    drive = good;
+    put_record(&drive, 9, 4, 0, 0, 0); /* before the settings, the output and record 0 */
+    put_settings(&drive, FEEDBACK_SETTINGS(7, 5, 2048, 2, 3));
+    put_record(&drive, 0, FEEDBACK_SLOT_GRANT, 61, 5, 7);
+    REPLAYED(drive, 15, FEEDBACK_REFUSED_TRACE_PARTS, FEEDBACK_REPLAY_REFUSED, 0, 0);
+    put_record(&drive, 9, 3, 61, 5, 0);
+    REPLAYED(drive, 15, FEEDBACK_REFUSED_CONFIGURATION, FEEDBACK_REPLAY_REFUSED, 0, 0);
+    put_settings(&drive, FEEDBACK_SETTINGS(5, 5, 2048, 2, 3));
+    REPLAYED(drive, 15, FEEDBACK_REFUSED_BANDWIDTH, FEEDBACK_REPLAY_REFUSED, 0, 0);
+    put_settings(&drive, FEEDBACK_SETTINGS(5, 50, 2048, 2, 3));
+    REPLAYED(drive, 15, FEEDBACK_REFUSED_N1, FEEDBACK_REPLAY_REFUSED, 0, 0);
+    put_settings(&drive, FEEDBACK_SETTINGS(5, 50, 300, 2, 3));
+    REPLAYED(drive, 15, FEEDBACK_REFUSED_MODE, FEEDBACK_REPLAY_REFUSED, 0, 0);
+    put_settings(&drive, FEEDBACK_SETTINGS(5, 50, 300, 1, 3));
+    REPLAYED(drive, 15, FEEDBACK_REFUSED_MULTIPLEXING, FEEDBACK_REPLAY_REFUSED, 0, 0);
+    put_settings(&drive, FEEDBACK_SETTINGS(2, 50, 300, 1, 3));
+    REPLAYED(drive, 15, FEEDBACK_REFUSED_BLOCKS, FEEDBACK_REPLAY_REFUSED, 0, 0);
+    put_settings(&drive, with_special(with_scheduled(settings_of(2, 1, 2), 10), 2, 9));
+    REPLAYED(drive, 15, FEEDBACK_REFUSED_SCHEDULED_RESOURCE, FEEDBACK_REPLAY_REFUSED, 0, 0);
+    put_settings(&drive, with_special(with_scheduled(settings_of(2, 1, 2), 9), 2, 8));
+    REPLAYED(drive, 15, FEEDBACK_REFUSED_SPECIAL, FEEDBACK_REPLAY_REFUSED, 0, 0);
+    put_settings(&drive, with_special(with_scheduled(settings_of(2, 1, 2), 9), 0, 5));
+    REPLAYED(drive, 15, FEEDBACK_REFUSED_OUTPUT, FEEDBACK_REPLAY_REFUSED, 0, 0);
+    REPLAYED(drive, 16, FEEDBACK_REFUSED_CCE, FEEDBACK_REPLAY_STOPPED, 0, 0);
+    put_record(&drive, 0, FEEDBACK_SLOT_GRANT, 60, 5, 7);
+    REPLAYED(drive, 16, FEEDBACK_REFUSED_DAI, FEEDBACK_REPLAY_STOPPED, 0, 0);
+    put_record(&drive, 0, FEEDBACK_SLOT_SCHEDULED, 255, 255, 255);
+    REPLAYED(drive, 16, FEEDBACK_REFUSED_SCHEDULED, FEEDBACK_REPLAY_STOPPED, 3, 1);
+    put_record(&drive, 1, FEEDBACK_SLOT_GRANT, 61, 5, 7);
+    REPLAYED(drive, 16, FEEDBACK_REFUSED_SHORT, FEEDBACK_REPLAY_STOPPED, 1, 0);
+    put_settings(&drive, with_scheduled(settings_of(2, 1, 1), 9));
+    REPLAYED(drive, 16, FEEDBACK_REFUSED_CARRIED, FEEDBACK_REPLAY_STOPPED, 0, 0);
+}
+
+static void slot_is(struct feedback_slot slot, unsigned kind, unsigned cce, unsigned dai,
+                    unsigned results)
+{
+    EQUAL(slot.kind, kind);
+    EQUAL(slot.cce, cce);
+    EQUAL(slot.dai, dai);
+    EQUAL(slot.results, results);
+}
+
+static void records(void)
+{
+    struct drive drive = drive_of_2();
+    const uint8_t *trace = drive.bytes;
+    size_t length = drive.length, next = 0;
+    struct feedback_record_answer answer = CALL(feedback_record, (trace, length, next));
+    EQUAL(answer.refusal, 0);
+    EQUAL(answer.kind, FEEDBACK_RECORD_READ);
+    slot_is(answer.slot, FEEDBACK_SLOT_GRANT, 3, 1, 7);
+    slot_is(feedback_record(trace, length, 1).slot, FEEDBACK_SLOT_RELEASE, 4, 2, 0);
+    slot_is(feedback_record(trace, length, 2).slot, FEEDBACK_SLOT_NOTHING, 0, 0, 0);
+    slot_is(feedback_record(trace, length, 3).slot, FEEDBACK_SLOT_SCHEDULED, 0, 0, 6);
+    slot_is(feedback_record(trace, length, 8).slot, FEEDBACK_SLOT_GRANT, 5, 1,
+            FEEDBACK_FIRST_DECODED);
+    EQUAL(feedback_record(trace, length, 9).kind, FEEDBACK_RECORD_READ);
+    answer = feedback_record(trace, length, 10);
+    EQUAL(answer.refusal, 0);
+    EQUAL(answer.kind, FEEDBACK_RECORD_END);
+    slot_is(answer.slot, 0, 0, 0, 0);
+    EQUAL(feedback_record(trace, length, ~next).kind, FEEDBACK_RECORD_END);
+    put_record(&drive, 8, 4, 5, 1, 7);
+    put_settings(&drive, FEEDBACK_SETTINGS(7, 5, 2048, 2, 3)); /* not looked at */
+    answer = feedback_record(trace, length, 8);
+    EQUAL(answer.refusal, FEEDBACK_REFUSED_TRACE_PARTS);
+    EQUAL(answer.kind, FEEDBACK_RECORD_REFUSED);
+    slot_is(answer.slot, 0, 0, 0, 0);
+    slot_is(feedback_record(trace, length, 0).slot, FEEDBACK_SLOT_GRANT, 3, 1, 7);
+    answer = feedback_record(trace, length - 1, 0);
+    EQUAL(answer.refusal, FEEDBACK_REFUSED_TRACE_LENGTH);
+    EQUAL(answer.kind, FEEDBACK_RECORD_REFUSED);
+    slot_is(answer.slot, 0, 0, 0, 0);
+    EQUAL(feedback_record(NULL, 0, 0).refusal, FEEDBACK_REFUSED_TRACE_LENGTH);
+    drive.first--;
+    put_header(&drive);
+    EQUAL(feedback_record(trace, length, 10).refusal, FEEDBACK_REFUSED_TRACE_PARTS);
+}
+
+/* The most records of a trace and the most windows of these; what a whole frame completes. */
+static void largest(void)
+{
+    static uint8_t trace[65535], out[FEEDBACK_WINDOWS_MOST * FEEDBACK_WINDOW_BYTES];
+    static const unsigned in_a_frame[7] = {4, 4, 2, 3, 2, 1, 5};
+    struct drive drive = drive_of(settings_of(6, 0, 1), 0);
+    struct feedback_replay_answer answer;
+    struct feedback_record_answer read;
+    uint16_t config, n;
+    drive.count = FEEDBACK_RECORDS_MOST;
+    drive.length = 65535;
+    put_header(&drive);
+    memcpy(trace, drive.bytes, drive.first);
+    answer = feedback_replay(trace, sizeof trace, out, sizeof out - 1);
+    EQUAL(answer.refusal, FEEDBACK_REFUSED_OUTPUT);
+    answer = feedback_replay(trace, sizeof trace, out, sizeof out);
+    EQUAL(answer.kind, FEEDBACK_REPLAY_DONE);
+    EQUAL(answer.windows, FEEDBACK_WINDOWS_MOST);
+    read = feedback_record(trace, sizeof trace, FEEDBACK_RECORDS_MOST - 1);
+    EQUAL(read.kind, FEEDBACK_RECORD_READ);
+    read = feedback_record(trace, sizeof trace, FEEDBACK_RECORDS_MOST);
+    EQUAL(read.kind, FEEDBACK_RECORD_END);
+    HOLDS(FEEDBACK_TRACE_HEADER + FEEDBACK_TRACE_SETTINGS +
+              (FEEDBACK_RECORDS_MOST + 1) * FEEDBACK_TRACE_RECORD > 65535);
+    HOLDS(strstr(text, " 6 completes 4, 4, 2, 3, 2, 1 and 5 windows.\n") != NULL);
+    for (config = 0; config < 7; config++) {
+        unsigned windows = 0;
+        for (n = 0; n < 10; n++)
+            windows += feedback_window(settings_of(config, 0, 1), n).refusal == 0;
+        EQUAL(windows, in_a_frame[config]);
+        drive = drive_of(settings_of(config, 0, 1), 10);
+        EQUAL(feedback_replay(drive.bytes, drive.length, out, 8 * windows).windows, windows);
+    }
+}
+
 /* ---- the texts ---- */
 
 /* Each number below the limit has a text of its own with its word in it; the rest share one. */
@@ -1162,15 +1542,22 @@ static void all_texts(void)
         "14: the bits",         "15: the scratch",
         "16: a claim",          "17: the resource set for scheduled blocks",
         "18: a scheduled block", "19: the prefix or the special subframe configuration",
-        "20: a grant or scheduled block in a special subframe"};
+        "20: a grant or scheduled block in a special subframe",
+        "21: the trace is below 8 bytes, or not of the length in its header",
+        "22: parts of the trace overlap or leave it, or a record's kind",
+        "23: the output"};
     static const char *const kinds[] = {"refused", "bundled reply", "multiplexed reply",
                                         "Silent",  "downlink",      "uplink"};
     static const char *const claims_kinds[] = {"refused", "clean", "clash"};
     static const char *const slot_kinds[] = {"nothing", "grant", "scheduled block", "release"};
-    texts(feedback_refusal_text, refusals, 21);
+    static const char *const replay_kinds[] = {"refused before any record", "done", "stopped"};
+    static const char *const record_kinds[] = {"refused", "read", "end"};
+    texts(feedback_refusal_text, refusals, 24);
     texts(feedback_kind_text, kinds, 6);
     texts(feedback_claims_kind_text, claims_kinds, 3);
     texts(feedback_slot_kind_text, slot_kinds, 4);
+    texts(feedback_replay_kind_text, replay_kinds, 3);
+    texts(feedback_record_kind_text, record_kinds, 3);
 }
 
 int main(int argc, char **argv)
@@ -1208,6 +1595,12 @@ int main(int argc, char **argv)
     releases_refused();
     blocks_refused();
     short_refused();
+    tables_of_traces();
+    replay();
+    replay_multiplexed();
+    replay_refused();
+    records();
+    largest();
     all_texts();
     if (failures == 0)
         printf("%u checks\n", checks);

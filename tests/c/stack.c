@@ -11,10 +11,12 @@
 #include <string.h>
 #include <ucontext.h>
 
-enum { SETTINGS = 7 * 2 * 2 * 3, FEEDS = 40, HANDSETS = SETTINGS * 4 * FEEDS };
+enum { SETTINGS = 7 * 2 * 2 * 3, FEEDS = 40, RUNS = SETTINGS * 4, HANDSETS = RUNS * FEEDS };
+enum { FIRST = FEEDBACK_TRACE_HEADER + FEEDBACK_TRACE_SETTINGS }; /* the place of the records */
 
 static struct feedback_settings settings[SETTINGS];
 static struct feedback_handset handsets[HANDSETS];
+static uint8_t traces[RUNS][FIRST + FEEDS * FEEDBACK_TRACE_RECORD];
 
 /* ---- for each call, one of its form that does nothing, and a loop that makes it ---- */
 
@@ -83,6 +85,18 @@ LOOP(feed_scheduled, feedback_fed,
 LOOP(feed_release, feedback_fed, (struct feedback_handset handset, uint16_t cce, uint16_t dai),
      EACH(i, HANDSETS) EACH(d, 3) sink += call(handsets[i], 3, (uint16_t)d).kind;)
 
+static uint8_t output[FEEDBACK_WINDOWS_MOST * FEEDBACK_WINDOW_BYTES];
+static uint8_t longest[FIRST + FEEDBACK_RECORDS_MOST * FEEDBACK_TRACE_RECORD];
+LOOP(replay, feedback_replay_answer,
+     (const uint8_t *trace, size_t length, uint8_t *out, size_t room),
+     EACH(i, RUNS) EACH(j, 3)
+         sink += call(traces[i], sizeof traces[i] - (j == 1), output, j == 2 ? 0 : sizeof output)
+                     .windows;
+     sink += call(longest, sizeof longest, output, sizeof output).windows;)
+
+LOOP(record, feedback_record_answer, (const uint8_t *trace, size_t length, size_t next),
+     EACH(i, RUNS) EACH(j, FEEDS + 2) sink += call(traces[i], sizeof traces[i], j).slot.cce;)
+
 /* ---- inputs ---- */
 
 static unsigned draw(unsigned limit)
@@ -142,11 +156,47 @@ static void fill_handsets(void)
                 dai = (uint16_t)(dai % 4 + 1);
         struct feedback_fed fed =
             lost ? feedback_feed_nothing(*handset) : something(*handset, dai);
+        memcpy(traces[i / FEEDS] + FIRST + i % FEEDS * sizeof *fed.handset.past, fed.handset.past,
+               sizeof *fed.handset.past);
         if (i % FEEDS < FEEDS - 1)
             handsets[i + 1] = fed.handset;
         if (draw(20) == 0)
             handset->past[draw(13)].kind ^= (uint8_t)draw(8);
     }
+}
+
+/* A number of two bytes in a trace, the low one first. */
+static void put(uint8_t *at, size_t number)
+{
+    at[0] = (uint8_t)number;
+    at[1] = (uint8_t)(number >> 8);
+}
+
+/* Header and settings of a trace whose records are there, directly behind these. */
+static void put_header(uint8_t *trace, size_t length, struct feedback_settings cell)
+{
+    put(trace, (length - FIRST) / FEEDBACK_TRACE_RECORD);
+    put(trace + 2, FIRST);
+    put(trace + 4, FEEDBACK_TRACE_HEADER);
+    put(trace + 6, length);
+    trace[8] = (uint8_t)cell.config;
+    trace[9] = (uint8_t)cell.nrb;
+    trace[10] = (uint8_t)cell.mode;
+    trace[11] = (uint8_t)cell.blocks;
+    trace[12] = (uint8_t)cell.special;
+    trace[13] = (uint8_t)cell.prefix;
+    put(trace + 14, cell.n1);
+    put(trace + 16, cell.scheduled);
+}
+
+/* The runs of fill_handsets as traces, and the longest: the first of them over and over. */
+static void fill_traces(void)
+{
+    EACH(i, RUNS) put_header(traces[i], sizeof traces[i], settings[i % SETTINGS]);
+    EACH(i, FEEDBACK_RECORDS_MOST)
+        memcpy(longest + FIRST + i * FEEDBACK_TRACE_RECORD,
+               traces[0] + FIRST + i % FEEDS * FEEDBACK_TRACE_RECORD, FEEDBACK_TRACE_RECORD);
+    put_header(longest, sizeof longest, settings[0]);
 }
 
 /* A list of claims; how far they are good depends on the window. */
@@ -205,6 +255,7 @@ int main(int argc, char **argv)
     fclose(file);
     fill_settings();
     fill_handsets();
+    fill_traces();
     fill_list();
     int all = HELD(window, 0);
     all &= HELD(answered, 0);
@@ -217,5 +268,7 @@ int main(int argc, char **argv)
     all &= HELD(feed_grant, 72);
     all &= HELD(feed_scheduled, 72);
     all &= HELD(feed_release, 72);
+    all &= HELD(replay, 0);
+    all &= HELD(record, 0);
     return !all;
 }

@@ -5,13 +5,16 @@ use crate::guarded::{Flush, Guarded, BOTH};
 use crate::model::Model;
 use crate::plain::{
     plain_answered, plain_claims, plain_feed_grant, plain_feed_nothing, plain_feed_release,
-    plain_feed_scheduled, plain_inverse, plain_make, plain_reading, plain_resource, plain_window,
+    plain_feed_scheduled, plain_inverse, plain_make, plain_reading, plain_record, plain_replay,
+    plain_resource, plain_window,
 };
 use crate::{
-    answered, claims, feed, inverse, make, reading, resource, window, Block, ClaimsAnswer, Fed,
-    Grant, Handset, Heard, ReadingAnswer, Release, Settings,
+    answered, claims, feed, inverse, make, reading, record, replay, resource, window, Block,
+    ClaimsAnswer, Fed, Grant, Handset, Heard, ReadingAnswer, RecordAnswer, Release, ReplayAnswer,
+    Settings,
 };
 use std::fmt;
+use std::hint::black_box;
 
 /// The number of windows in the table.
 pub const WINDOWS: u64 = 21;
@@ -30,7 +33,7 @@ pub const BANDWIDTHS: u64 = 105;
 pub const CCES: u64 = 7397;
 
 /// The highest refusal number.
-const LAST_REFUSAL: usize = 20;
+const LAST_REFUSAL: usize = 23;
 
 /// The highest kind of an answer.
 const LAST_KIND: usize = 5;
@@ -189,6 +192,57 @@ impl<'a> Comparison<'a> {
         given
     }
 
+    /// Two comparisons: trace and output lie flush with a guard, once at their start
+    /// and once at their end. Every byte of both is compared. Shows the answer.
+    pub fn replay(&mut self, lent: &mut LentTrace, trace: &[u8], output: &[u8]) -> ReplayAnswer {
+        let (due, left) = self.model.replay(trace, output);
+        let mut plain_left = output.to_vec();
+        let plain = plain_replay_on(trace, &mut plain_left);
+        for flush in BOTH {
+            let (given, given_left) = lent.replay(trace, output, flush);
+            assert!(
+                given == due && plain == due,
+                "feedback_replay({}, room {}), flush at the {flush:?}: the engine gives \
+                 {given:?}, the model {due:?}, the plain implementation {plain:?}",
+                Shown(trace),
+                output.len()
+            );
+            assert!(
+                given_left == left && plain_left == left,
+                "feedback_replay({}, room {}), flush at the {flush:?}: the output was {}; the \
+                 engine leaves {}, the model {}, the plain implementation {}",
+                Shown(trace),
+                output.len(),
+                Shown(output),
+                Shown(given_left),
+                Shown(&left),
+                Shown(&plain_left)
+            );
+            self.counts[usize::from(due.refusal)] += 1;
+            self.kinds[usize::from(due.kind)] += 1;
+        }
+        due
+    }
+
+    /// Two comparisons: the trace lies flush with a guard, once at its start and once at
+    /// its end.
+    pub fn record(&mut self, lent: &mut LentTrace, trace: &[u8], next: usize) -> RecordAnswer {
+        let due = self.model.record(trace, next);
+        let plain = plain_record_of(trace, next);
+        for flush in BOTH {
+            let given = lent.record(trace, next, flush);
+            assert!(
+                given == due && plain == due,
+                "feedback_record({}, next {next}), flush at the {flush:?}: the engine gives \
+                 {given:?}, the model {due:?}, the plain implementation {plain:?}",
+                Shown(trace)
+            );
+            self.counts[usize::from(due.refusal)] += 1;
+            self.kinds[usize::from(due.kind)] += 1;
+        }
+        due
+    }
+
     /// Ends a test: as many answers were compared as there should be, and as
     /// many of them were answers without a refusal.
     pub fn finish(&self, compared: u64, answered: u64) {
@@ -250,6 +304,70 @@ impl Lent {
         let read = self.list.numbers(list, flush);
         (claims(settings, n, read, left), read, left)
     }
+}
+
+/// The memory that is lent for a replay: the trace, which is only read, and the output.
+pub struct LentTrace {
+    pub trace: Guarded,
+    pub output: Guarded,
+}
+
+impl LentTrace {
+    /// For every trace, and for a file that is twice as long.
+    pub fn new() -> Self {
+        Self { trace: Guarded::new(131_072), output: Guarded::new(65536) }
+    }
+
+    /// Calls the engine on copies of trace and output, flush with a guard, and shows
+    /// what it left of the output. It leaves the trace as it was.
+    pub fn replay(&mut self, trace: &[u8], output: &[u8], flush: Flush) -> (ReplayAnswer, &[u8]) {
+        let left = self.output.bytes(output, flush);
+        let read: &[u8] = self.trace.bytes(trace, flush);
+        let answer = replay(read, left);
+        assert!(black_box(read) == trace, "feedback_replay({}) wrote the trace", Shown(trace));
+        (answer, left)
+    }
+
+    /// The same for a record.
+    pub fn record(&mut self, trace: &[u8], next: usize, flush: Flush) -> RecordAnswer {
+        let read: &[u8] = self.trace.bytes(trace, flush);
+        let answer = record(read, next);
+        assert!(black_box(read) == trace, "feedback_record({}) wrote the trace", Shown(trace));
+        answer
+    }
+
+    /// The same two calls on a trace in memory that ends the test when it is written.
+    pub fn read_only(
+        &mut self,
+        trace: &[u8],
+        output: &[u8],
+        next: usize,
+        flush: Flush,
+    ) -> (ReplayAnswer, RecordAnswer) {
+        let left = self.output.bytes(output, flush);
+        let read = self.trace.bytes_to_read(trace, flush);
+        (replay(read, left), record(read, next))
+    }
+}
+
+impl Default for LentTrace {
+    fn default() -> Self {
+        Self::new()
+    }
+}
+
+/// The plain implementation's replay, with the windows it leaves.
+pub fn plain_replay_on(trace: &[u8], output: &mut [u8]) -> ReplayAnswer {
+    let (out, room) = (output.as_mut_ptr(), output.len());
+    // SAFETY: each slice is lent with its own length, and by their types the two
+    // do not overlap.
+    unsafe { plain_replay(trace.as_ptr(), trace.len(), out, room) }
+}
+
+/// The plain implementation's answer about a record.
+pub fn plain_record_of(trace: &[u8], next: usize) -> RecordAnswer {
+    // SAFETY: the trace is lent with its length.
+    unsafe { plain_record(trace.as_ptr(), trace.len(), next) }
 }
 
 /// The plain implementation's answer to claims, with the marks it leaves.

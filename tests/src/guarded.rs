@@ -118,6 +118,14 @@ impl Guarded {
         bytes
     }
 
+    /// As `bytes`, and until the next copy a write to them ends the test.
+    pub fn bytes_to_read(&mut self, from: &[u8], flush: Flush) -> &[u8] {
+        self.bytes(from, flush);
+        self.set_read_only(true);
+        // SAFETY: this is where the bytes were copied to.
+        unsafe { slice::from_raw_parts(self.place(from.len(), flush), from.len()) }
+    }
+
     /// Copies 16-bit numbers flush with a guard.
     pub fn numbers(&mut self, from: &[u16], flush: Flush) -> &[u16] {
         self.set_read_only(false);

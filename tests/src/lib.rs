@@ -6,7 +6,8 @@
 //! third, made to be fast, the measure in the benchmark and in the fuzzing.
 //! [`compare`] holds the engine to the model, answer by answer, on inputs in every
 //! combination ([`every`]) or at random ([`random`]), and on memory that is lent
-//! from [`guarded`]. [`vectors`] reads the cases that come with the requests.
+//! from [`guarded`]. [`trace`] builds recorded drives as bytes. [`vectors`] reads the
+//! cases that come with the requests.
 
 pub mod compare;
 pub mod every;
@@ -14,19 +15,21 @@ pub mod guarded;
 pub mod model;
 pub mod plain;
 pub mod random;
+pub mod trace;
 pub mod types;
 pub mod vectors;
 
 pub use types::{
     AnsweredAnswer, Block, ClaimsAnswer, Fed, Grant, Handset, Heard, InverseAnswer, Made,
-    ReadingAnswer, Release, ResourceAnswer, Settings, Slot, WindowAnswer, NONE, NOT_TOLD,
+    ReadingAnswer, RecordAnswer, Release, ReplayAnswer, ResourceAnswer, Settings, Slot,
+    WindowAnswer, NONE, NOT_TOLD,
 };
 
 /// The engine's calls under their C names.
 pub mod c {
     use super::{
         AnsweredAnswer, ClaimsAnswer, Fed, Handset, InverseAnswer, Made, ReadingAnswer,
-        ResourceAnswer, Settings, WindowAnswer,
+        RecordAnswer, ReplayAnswer, ResourceAnswer, Settings, WindowAnswer,
     };
 
     extern "C" {
@@ -84,6 +87,15 @@ pub mod c {
         ) -> Fed;
 
         pub fn feedback_feed_release(handset: Handset, cce: u16, dai: u16) -> Fed;
+
+        pub fn feedback_replay(
+            trace: *const u8,
+            length: usize,
+            out: *mut u8,
+            room: usize,
+        ) -> ReplayAnswer;
+
+        pub fn feedback_record(trace: *const u8, length: usize, next: usize) -> RecordAnswer;
     }
 }
 
@@ -182,4 +194,19 @@ pub fn feed_release(handset: Handset, release: Release) -> Fed {
     let Release { cce, dai } = release;
     // SAFETY: the call takes numbers and gives numbers, and is lent no memory.
     unsafe { c::feedback_feed_release(handset, cce, dai) }
+}
+
+/// The engine's replay of a trace, with the windows it leaves in the output.
+pub fn replay(trace: &[u8], output: &mut [u8]) -> ReplayAnswer {
+    let (file, length) = (trace.as_ptr(), trace.len());
+    let (out, room) = (output.as_mut_ptr(), output.len());
+    // SAFETY: each slice is lent with its own length, the trace to be read and the
+    // output to be written, and by their types the two do not overlap.
+    unsafe { c::feedback_replay(file, length, out, room) }
+}
+
+/// The engine's answer about the record of a number, from 0, of a trace.
+pub fn record(trace: &[u8], next: usize) -> RecordAnswer {
+    // SAFETY: the trace is lent with its length, to be read.
+    unsafe { c::feedback_record(trace.as_ptr(), trace.len(), next) }
 }

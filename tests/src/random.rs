@@ -2,6 +2,7 @@
 
 use crate::every::SPECIALS;
 use crate::model::{edge, Model, Window, NRB};
+use crate::trace::{record_of, Trace};
 use crate::{Block, Grant, Handset, Heard, Release, Settings, Slot, NONE};
 
 /// Numbers that are a limit somewhere, lie beside one, or would be allowed if
@@ -216,6 +217,68 @@ impl Random {
         }
     }
 
+    /// Records that a replay takes to the end. What is drawn for a subframe is recorded
+    /// if a handset takes it there, else nothing is. DAIs go by the rule, mostly, and what
+    /// a record's kind does not use has any value.
+    pub fn records(&mut self, model: &Model, settings: Settings, number: usize) -> Vec<Slot> {
+        let mut records: Vec<Slot> = Vec::new();
+        let mut handset = Handset::fresh(settings);
+        for at in 0..number {
+            let dai = match self.once_in(8) {
+                true => 1 + self.below16(4),
+                false => 1 + pdcchs_before(model, settings, &records) % 4,
+            };
+            let grant = Grant { dai, ..self.grant(settings) };
+            let Grant { blocks, first, second, cce, .. } = grant;
+            let drawn = match self.below(8) {
+                0..4 => Heard::Grant(grant),
+                4 => Heard::Block(Block { blocks, first, second }),
+                5 => Heard::Release(Release { cce, dai }),
+                _ => Heard::Nothing,
+            };
+            let taken = model.feed(handset, drawn);
+            let (heard, fed) = match taken.refusal {
+                0 => (drawn, taken),
+                _ => (Heard::Nothing, model.feed(handset, Heard::Nothing)),
+            };
+            assert_eq!(fed.refusal, 0, "record {at} of {settings:?}");
+            handset = fed.handset;
+            records.push(self.with_unused(record_of(heard)));
+        }
+        records
+    }
+
+    /// The same record; what its kind does not use has any value.
+    pub fn with_unused(&mut self, record: Slot) -> Slot {
+        let [cce, dai, results] = [0; 3].map(|_: u8| self.any_byte());
+        let Slot { kind, .. } = record;
+        // Bit 1 of the results is used only with bit 2.
+        let used = if record.results & Slot::TWO != 0 { 7 } else { 5 };
+        let results_of_data = results & !used | record.results & used;
+        match kind {
+            Slot::GRANT => Slot { results: results_of_data, ..record },
+            Slot::BLOCK => Slot { kind, cce, dai, results: results_of_data },
+            Slot::RELEASE => Slot { results, ..record },
+            _ => Slot { kind, cce, dai, results },
+        }
+    }
+
+    /// Bytes of any value.
+    pub fn bytes(&mut self, length: usize) -> Vec<u8> {
+        (0..length).map(|_| self.any_byte()).collect()
+    }
+
+    /// One of the arrangements of a trace: either order of its parts, and gaps of up to
+    /// five bytes or none.
+    pub fn arranged(&mut self, trace: Trace) -> Trace {
+        let gaps = [0; 3].map(|_: u8| {
+            let length = if self.once_in(2) { 0 } else { self.below(6) };
+            self.bytes(length)
+        });
+        let trace = if self.once_in(2) { trace.records_first() } else { trace };
+        trace.with_gaps(gaps.each_ref().map(Vec::as_slice))
+    }
+
     /// One to three fields of a handset get other values.
     pub fn damage(&mut self, mut handset: Handset) -> Handset {
         for _ in 0..1 + self.below(3) {
@@ -267,4 +330,21 @@ impl Random {
         }
         handset
     }
+}
+
+/// How many PDCCHs there are among the records of the window that the next subframe is
+/// in; none in an uplink one.
+fn pdcchs_before(model: &Model, settings: Settings, records: &[Slot]) -> u16 {
+    let next = records.len();
+    let answered = model.answered(settings, (next % 10) as u16);
+    let Some(window) = model.window(settings.config, answered.n) else {
+        return 0;
+    };
+    let uplink = next + usize::from(answered.k);
+    let subframes = window.k.iter().filter_map(|k| uplink.checked_sub(usize::from(*k)));
+    let is_pdcch = |at: usize| {
+        let kind = records.get(at).map(|record| record.kind);
+        kind == Some(Slot::GRANT) || kind == Some(Slot::RELEASE)
+    };
+    subframes.filter(|at| is_pdcch(*at)).count() as u16
 }

@@ -107,7 +107,7 @@ pub struct ClaimsAnswer {
     pub index: u64,
 }
 
-/// What a handset remembers of one subframe: nothing (kind 0), a grant (1) with
+/// What a handset remembers of one subframe, or a record of a trace has: nothing (kind 0), a grant (1) with
 /// its results, a scheduled block (2) with its results and no CCE or DAI, or a
 /// release (3) with its CCE and DAI and no results. Of the results bit 0 says if
 /// the first block was decoded, bit 1 if the second was, bit 2 if two were carried.
@@ -150,6 +150,28 @@ pub struct Fed {
     pub b0: u16,
     pub b1: u16,
     pub handset: Handset,
+}
+
+/// The answer of a replay: refused before any record (kind 0), done (1), or stopped at
+/// the record whose feed is refused (2), with that record's number; and how many
+/// windows were written.
+#[repr(C)]
+#[derive(Clone, Copy, Debug, PartialEq, Eq)]
+pub struct ReplayAnswer {
+    pub refusal: u16,
+    pub kind: u16,
+    pub record: u16,
+    pub windows: u16,
+}
+
+/// The answer about a record of a trace: refused (kind 0), the record (1), in which
+/// what its kind does not use is 0, or no such record (2).
+#[repr(C)]
+#[derive(Clone, Copy, Debug, PartialEq, Eq)]
+pub struct RecordAnswer {
+    pub refusal: u16,
+    pub kind: u16,
+    pub slot: Slot,
 }
 
 /// A grant as the arguments of a feed name it: raw numbers, of which the feed
@@ -274,12 +296,59 @@ impl ClaimsAnswer {
     }
 }
 
+impl ReplayAnswer {
+    pub const REFUSED: u16 = 0;
+    pub const DONE: u16 = 1;
+    pub const STOPPED: u16 = 2;
+
+    pub fn refused(refusal: u16) -> Self {
+        Self { refusal, kind: Self::REFUSED, record: 0, windows: 0 }
+    }
+
+    pub fn done(windows: usize) -> Self {
+        Self { refusal: 0, kind: Self::DONE, record: 0, windows: windows as u16 }
+    }
+
+    pub fn stopped(refusal: u16, record: usize, windows: usize) -> Self {
+        Self { refusal, kind: Self::STOPPED, record: record as u16, windows: windows as u16 }
+    }
+}
+
+impl RecordAnswer {
+    pub const END: Self = Self { refusal: 0, kind: 2, slot: Slot::NOTHING };
+
+    pub fn refused(refusal: u16) -> Self {
+        Self { refusal, kind: 0, slot: Slot::NOTHING }
+    }
+
+    pub fn read(slot: Slot) -> Self {
+        Self { refusal: 0, kind: 1, slot }
+    }
+}
+
 impl Slot {
     pub const NOTHING: Self = Self { kind: 0, cce: 0, dai: 0, results: 0 };
 
     pub const GRANT: u8 = 1;
     pub const BLOCK: u8 = 2;
     pub const RELEASE: u8 = 3;
+
+    /// Bits of the results.
+    pub const FIRST: u8 = 1;
+    pub const SECOND: u8 = 2;
+    pub const TWO: u8 = 4;
+
+    pub const fn grant(cce: u8, dai: u8, results: u8) -> Self {
+        Self { kind: Self::GRANT, cce, dai, results }
+    }
+
+    pub const fn block(results: u8) -> Self {
+        Self { kind: Self::BLOCK, cce: 0, dai: 0, results }
+    }
+
+    pub const fn release(cce: u8, dai: u8) -> Self {
+        Self { kind: Self::RELEASE, cce, dai, results: 0 }
+    }
 }
 
 impl Handset {

@@ -3,7 +3,8 @@
 //!
 //! A line that begins with `#` is a comment, and the last of them names the
 //! columns; every other line is a case. A comma parts the columns, a space the
-//! entries of a list, and `-` is an empty list. A file that has settings has all
+//! entries of a list, and `-` is an empty list or byte string; bytes have two
+//! hexadecimal digits each. A file that has settings has all
 //! that there will ever be, of which those that a later request brings have the
 //! value that changes nothing.
 
@@ -63,6 +64,17 @@ impl<'a> Case<'a> {
             "-" => Vec::new(),
             list => list.split(' ').map(|entry| self.parse(entry)).collect(),
         }
+    }
+
+    /// A byte string.
+    pub fn bytes(&self, name: &str) -> Vec<u8> {
+        let digits = match self.text(name) {
+            "-" => "",
+            digits => digits,
+        };
+        let byte = |at: usize| u8::from_str_radix(&digits[at..at + 2], 16);
+        let bytes: Result<Vec<u8>, _> = (0..digits.len()).step_by(2).map(byte).collect();
+        bytes.unwrap_or_else(|_| panic!("{}, line {}: {digits}", self.file, self.line))
     }
 
     pub fn settings(&self) -> Settings {

@@ -6,15 +6,19 @@
 //! The calls counted below are those of a normal run. With FEEDBACK_FUZZ set to
 //! a number, as many times more are made, from further seeds.
 
-use feedback_tests::compare::{plain_claims_on, plain_feed, Comparison, Lent, Shown};
+use feedback_tests::compare::{
+    plain_claims_on, plain_feed, plain_record_of, plain_replay_on, Comparison, Lent, LentTrace,
+    Shown,
+};
 use feedback_tests::guarded::BOTH;
 use feedback_tests::model::{edge, is_short, is_uplink, Model, NRB};
 use feedback_tests::plain::{
     plain_answered, plain_inverse, plain_make, plain_reading, plain_resource, plain_window,
 };
 use feedback_tests::random::Random;
+use feedback_tests::trace::{number_at, record_of, Trace, RECORDS_AT, SETTINGS_AT, WINDOW};
 use feedback_tests::{
-    answered, feed, inverse, make, reading, resource, window, Fed, Handset, Heard, Settings,
+    answered, feed, inverse, make, reading, resource, window, Fed, Handset, Heard, Settings, Slot,
     NOT_TOLD,
 };
 use std::env;
@@ -27,6 +31,8 @@ const READING_CALLS: u64 = 4_000_000;
 const MAKE_CALLS: u64 = 1_000_000;
 const FEED_CALLS: u64 = 8_000_000;
 const CLAIMS_CALLS: u64 = 2_000_000;
+const REPLAY_CALLS: u64 = 1_024_000;
+const RECORD_CALLS: u64 = 1_024_000;
 
 const _: () = assert!(
     WINDOW_CALLS
@@ -37,6 +43,8 @@ const _: () = assert!(
         + MAKE_CALLS
         + FEED_CALLS
         + CLAIMS_CALLS
+        + REPLAY_CALLS
+        + RECORD_CALLS
         >= 10_000_000
 );
 
@@ -357,4 +365,167 @@ fn lists_of_claims() {
     assert_eq!(calls, CLAIMS_CALLS * times());
     let refusals = [0, 1, 2, 3, 4, 5, 6, 7, 15, 16, 17, 19];
     comparison.finish_with(calls / 2 / SAMPLE * 2, &refusals, &[0, 1, 2]);
+}
+
+/// Settings that fit in a trace: each number once in `times` any that its bytes hold.
+fn settings_in_a_trace(random: &mut Random, times: usize) -> Settings {
+    let Settings { config, nrb, n1, mode, blocks, scheduled, prefix, special } =
+        random.wild_settings(times);
+    let byte = |number: u16| number & 255;
+    let settings = Settings::plain(byte(config), byte(nrb), n1, byte(mode), byte(blocks));
+    settings.with_scheduled(scheduled).with_special(byte(prefix), byte(special))
+}
+
+/// Records of which a number is once in `times` any, and so is a kind, which may then be
+/// over 3. In the uplink a grant, a scheduled block or a release is rare. What a kind
+/// does not use has any value.
+fn records(settings: Settings, number: usize, times: usize, random: &mut Random) -> Vec<Slot> {
+    let record = |at: usize| {
+        let subframe = (at % 10) as u16;
+        let uplink = settings.config < 7 && is_uplink(settings.config, subframe);
+        let is_heard = if uplink { random.once_in(4 * times) } else { !random.once_in(3) };
+        let short = settings.config < 7 && is_short(settings, subframe);
+        let heard = match is_heard {
+            true if short && !random.once_in(times) => {
+                Heard::Release(random.release(Settings { nrb: 6, blocks: 1, ..settings }))
+            }
+            true => random.wild_heard(settings, times),
+            false => Heard::Nothing,
+        };
+        // Few blocks: the second one of a window is refused.
+        let heard = match heard {
+            Heard::Block(_) if !random.once_in(8) => Heard::Nothing,
+            heard => heard,
+        };
+        let record = random.with_unused(record_of(heard));
+        let any_kind = random.once_in(64 * times);
+        if any_kind {
+            Slot { kind: random.any_byte(), ..record }
+        } else {
+            record
+        }
+    };
+    (0..number).map(record).collect()
+}
+
+/// A trace, mostly a good one, but for its records. Of others a number of the header or
+/// any byte is changed, or the file is cut or lengthened.
+fn trace(random: &mut Random) -> Vec<u8> {
+    let settings = settings_in_a_trace(random, 200);
+    let longest = random.one_of(&[3, 12, 25, 60, 200]);
+    let number = random.below(longest + 1);
+    let times = random.one_of(&[10, 100, 1000]);
+    let records = records(settings, number, times, random);
+    let mut trace = random.arranged(Trace::new(settings, &records)).bytes();
+    let length = trace.len();
+    for _ in 0..random.one_of(&[0, 0, 0, 0, 1, 2]) {
+        let number = number_at(&trace, 2 * random.below(4)) as u16;
+        let near = number.wrapping_add(random.below16(24)).wrapping_sub(12);
+        let number = if random.once_in(3) { random.any() } else { near };
+        let header_at = 2 * random.below(4);
+        match random.below(4) {
+            0 | 1 => trace[header_at..header_at + 2].copy_from_slice(&number.to_le_bytes()),
+            2 => trace[random.below(length)] = random.any_byte(),
+            _ => {
+                let cut = random.below(length + 1);
+                trace.truncate(if random.once_in(2) { cut } else { length });
+                trace.extend(random.bytes(cut % 7));
+                break;
+            }
+        }
+    }
+    trace
+}
+
+/// The bytes that the windows of a trace take, as far as its header and its
+/// configuration can be read.
+fn need(model: &Model, trace: &[u8]) -> usize {
+    if trace.len() < 8 {
+        return 0;
+    }
+    let config = trace.get(number_at(trace, SETTINGS_AT)).copied().unwrap_or(0);
+    let records = number_at(trace, RECORDS_AT).min(1000);
+    WINDOW * model.windows_among(u16::from(config).min(6), records)
+}
+
+/// Windows that a replay wrote, by their kind.
+fn count_windows(output: &[u8], counts: &mut [u64; 3]) {
+    output.chunks(WINDOW).for_each(|window| counts[usize::from(window[1])] += 1);
+}
+
+#[test]
+fn replays() {
+    let model = Model::new();
+    let mut comparison = Comparison::with(&model);
+    let mut lent = LentTrace::new();
+    let mut windows = [0; 3];
+    let calls = fuzz(9, REPLAY_CALLS, |random, ask_model| {
+        let trace = trace(random);
+        let need = need(&model, &trace);
+        let room = match random.below(16) {
+            0 => random.below(need + 64),
+            1 => need.saturating_sub(1),
+            2..=8 => need,
+            _ => need + random.below(64),
+        };
+        let output = random.bytes(room);
+        let mut plain_left = output.clone();
+        let plain = plain_replay_on(&trace, &mut plain_left);
+        for flush in BOTH {
+            let (given, left) = lent.replay(&trace, &output, flush);
+            assert!(
+                given == plain && left == plain_left,
+                "feedback_replay({}, room {room}), flush at the {flush:?}: the output was {}; \
+                 the engine gives {given:?} and leaves {}, the plain implementation {plain:?} \
+                 and {}",
+                Shown(&trace),
+                Shown(&output),
+                Shown(left),
+                Shown(&plain_left)
+            );
+        }
+        count_windows(&plain_left[..WINDOW * usize::from(plain.windows)], &mut windows);
+        if ask_model {
+            comparison.replay(&mut lent, &trace, &output);
+        }
+        2
+    });
+    assert_eq!(calls, REPLAY_CALLS * times());
+    println!("windows by kind: {windows:?}");
+    let refusals = [0, 1, 2, 3, 4, 5, 6, 9, 10, 11, 12, 17, 18, 19, 20, 21, 22, 23];
+    comparison.finish_with(calls / 2 / SAMPLE * 2, &refusals, &[0, 1, 2]);
+    assert!(windows.iter().all(|number| *number > 100_000));
+}
+
+#[test]
+fn records_of_traces() {
+    let model = Model::new();
+    let mut comparison = Comparison::with(&model);
+    let mut lent = LentTrace::new();
+    let calls = fuzz(10, RECORD_CALLS, |random, ask_model| {
+        let trace = trace(random);
+        let records = if trace.len() < 8 { 0 } else { number_at(&trace, RECORDS_AT) };
+        let next = match random.below(8) {
+            0 => random.number() as usize,
+            1 => random.any().into(),
+            2 => records + random.below(3),
+            _ => random.below(records + 1),
+        };
+        let plain = plain_record_of(&trace, next);
+        for flush in BOTH {
+            let given = lent.record(&trace, next, flush);
+            assert!(
+                given == plain,
+                "feedback_record({}, next {next}), flush at the {flush:?}: the engine gives \
+                 {given:?}, the plain implementation {plain:?}",
+                Shown(&trace)
+            );
+        }
+        if ask_model {
+            comparison.record(&mut lent, &trace, next);
+        }
+        2
+    });
+    assert_eq!(calls, RECORD_CALLS * times());
+    comparison.finish_with(calls / 2 / SAMPLE * 2, &[0, 21, 22], &[0, 1, 2]);
 }

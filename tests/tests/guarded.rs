@@ -51,6 +51,10 @@ fn lend(memory: &mut Guarded, way: &str, flush: Flush) -> Range<*mut u8> {
     let numbers = match way {
         "all" => return memory.all().as_mut_ptr_range(),
         "bytes" => return memory.bytes(&[1, 2, 3], flush).as_mut_ptr_range(),
+        "bytes_to_read" => {
+            let bytes = memory.bytes_to_read(&[1, 2, 3], flush).as_ptr_range();
+            return bytes.start.cast_mut()..bytes.end.cast_mut();
+        }
         "numbers" => memory.numbers(&[1, 2, 3], flush).as_ptr_range(),
         _ => memory.numbers_to_read(&[1, 2, 3], flush).as_ptr_range(),
     };
@@ -65,13 +69,13 @@ fn a_touch_beyond_faults() {
         return touch(&words);
     }
     let (mut faults, mut returns) = (0, 0);
-    for way in ["all", "bytes", "numbers", "numbers_to_read"] {
+    for way in ["all", "bytes", "bytes_to_read", "numbers", "numbers_to_read"] {
         for flush in BOTH {
             for touch in ["edge read", "edge write", "beyond read", "beyond write"] {
                 let words = format!("{way} {flush:?} {touch}");
                 let status = child(&words);
                 let is_fault = touch.starts_with("beyond")
-                    || (way, touch) == ("numbers_to_read", "edge write");
+                    || way.ends_with("to_read") && touch == "edge write";
                 if is_fault {
                     assert_eq!(status.signal(), Some(SIGSEGV), "{words}: {status}");
                     faults += 1;
@@ -82,7 +86,7 @@ fn a_touch_beyond_faults() {
             }
         }
     }
-    assert_eq!((faults, returns), (4 * 4 + 2, 4 * 4 - 2));
+    assert_eq!((faults, returns), (5 * 4 + 4, 5 * 4 - 4));
 }
 
 /// A page that comes to lie in a guard, next to the memory or as far from it as

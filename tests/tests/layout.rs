@@ -1,9 +1,11 @@
 //! The structs of the C calls, byte by byte, and how they are passed.
 
+use feedback_tests::trace::Trace;
 use feedback_tests::{
-    answered, claims, feed, inverse, layout_3, make, reading, resource, window, AnsweredAnswer,
-    Block, ClaimsAnswer, Fed, Grant, Handset, Heard, InverseAnswer, Made, ReadingAnswer, Release,
-    ResourceAnswer, Settings, Slot, WindowAnswer, NOT_TOLD,
+    answered, claims, feed, inverse, layout_3, make, reading, record, replay, resource, window,
+    AnsweredAnswer, Block, ClaimsAnswer, Fed, Grant, Handset, Heard, InverseAnswer, Made,
+    ReadingAnswer, RecordAnswer, Release, ReplayAnswer, ResourceAnswer, Settings, Slot,
+    WindowAnswer, NOT_TOLD,
 };
 use std::mem::{align_of, offset_of, size_of};
 
@@ -109,6 +111,39 @@ fn answers_with_a_handset_have_it_last() {
     assert_eq!(offset_of!(Fed, b0), 6);
     assert_eq!(offset_of!(Fed, b1), 8);
     assert_eq!(offset_of!(Fed, handset), 10);
+}
+
+#[test]
+fn a_replay_answer_is_four_16_bit_numbers() {
+    assert_eq!((size_of::<ReplayAnswer>(), align_of::<ReplayAnswer>()), (8, 2));
+    assert_eq!(offset_of!(ReplayAnswer, refusal), 0);
+    assert_eq!(offset_of!(ReplayAnswer, kind), 2);
+    assert_eq!(offset_of!(ReplayAnswer, record), 4);
+    assert_eq!(offset_of!(ReplayAnswer, windows), 6);
+}
+
+#[test]
+fn a_record_answer_is_two_16_bit_numbers_and_a_slot() {
+    assert_eq!((size_of::<RecordAnswer>(), align_of::<RecordAnswer>()), (8, 2));
+    assert_eq!(offset_of!(RecordAnswer, refusal), 0);
+    assert_eq!(offset_of!(RecordAnswer, kind), 2);
+    assert_eq!(offset_of!(RecordAnswer, slot), 4);
+}
+
+/// Every field of these two answers, each with a value of its own. In configuration 1
+/// the windows of 2, 3, 7 and 8 are complete before the bad CCE of record 1015; numbers
+/// above 255 come back whole.
+#[test]
+fn every_field_of_a_replay_comes_back() {
+    let mut records = [Slot::NOTHING; 1016];
+    records[1014] = Slot::grant(60, 3, 5);
+    records[1015] = Slot::grant(61, 4, 1);
+    let trace = Trace::new(Settings::plain(1, 50, 10, 0, 2), &records).bytes();
+    let answer = replay(&trace, &mut [9; 8 * 406]);
+    assert_eq!(answer, ReplayAnswer { refusal: 11, kind: 2, record: 1015, windows: 406 });
+    let slot = Slot { kind: 1, cce: 60, dai: 3, results: 5 };
+    assert_eq!(record(&trace, 1014), RecordAnswer { refusal: 0, kind: 1, slot });
+    assert_eq!(record(&trace[1..], 1014).refusal, 21);
 }
 
 /// Every byte of a handset that is not refused comes back where it was, each

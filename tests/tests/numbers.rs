@@ -1,11 +1,12 @@
-//! Every refusal number, 1 to 20, from every call that can give it. What is due
+//! Every refusal number, 1 to 23, from every call that can give it. What is due
 //! is written out by hand; the model has no part here.
 
+use feedback_tests::trace::{put_number, Trace, LENGTH_AT, SETTINGS_AT};
 use feedback_tests::{
     answered, claims, feed_grant, feed_nothing, feed_release, feed_scheduled, inverse, make,
-    reading, resource, window, AnsweredAnswer, Block, ClaimsAnswer, Fed, Grant, Handset,
-    InverseAnswer, Made, ReadingAnswer, Release, ResourceAnswer, Settings, Slot, WindowAnswer,
-    NONE, NOT_TOLD,
+    reading, record, replay, resource, window, AnsweredAnswer, Block, ClaimsAnswer, Fed, Grant,
+    Handset, InverseAnswer, Made, ReadingAnswer, RecordAnswer, Release, ReplayAnswer,
+    ResourceAnswer, Settings, Slot, WindowAnswer, NONE, NOT_TOLD,
 };
 use std::fmt::Debug;
 
@@ -50,7 +51,7 @@ const REFUSED: [(u16, Settings); 21] = [
 ];
 
 /// Counts the refusals that came as they were due.
-struct Count([u64; 21]);
+struct Count([u64; 24]);
 
 impl Count {
     fn due<T: Debug + PartialEq>(&mut self, number: u16, given: T, due: T) {
@@ -113,6 +114,27 @@ impl Count {
         self.due(number, feed_release(handset, release), Fed::refused(number, handset));
     }
 
+    /// The output is left as it was.
+    fn replay(&mut self, number: u16, trace: &[u8], room: usize) {
+        let mut output = vec![5; room];
+        let given = replay(trace, &mut output);
+        let due = (ReplayAnswer::refused(number), vec![5; room]);
+        self.due(number, (given, output), due);
+    }
+
+    /// A replay that stops at its last record, after one silent window, that of 2.
+    fn stopped(&mut self, number: u16, settings: Settings, records: &[Slot]) {
+        let mut output = [5; 17];
+        let given = replay(&Trace::new(settings, records).bytes(), &mut output);
+        let due = ReplayAnswer::stopped(number, records.len() - 1, 1);
+        let left = [&[2, 0, 0, 0, 0, 0, 0, 0][..], &[5; 9]].concat();
+        self.due(number, (given, output.to_vec()), (due, left));
+    }
+
+    fn record(&mut self, number: u16, trace: &[u8], next: usize) {
+        self.due(number, record(trace, next), RecordAnswer::refused(number));
+    }
+
     /// The handset is left as it was, whatever it is fed.
     fn bad_state(&mut self, handset: Handset) {
         self.due(8, feed_nothing(handset), Fed::refused(8, handset));
@@ -127,7 +149,7 @@ impl Count {
 
 #[test]
 fn every_number_occurs() {
-    let mut count = Count([0; 21]);
+    let mut count = Count([0; 24]);
     let fresh = make(CELL).handset;
     assert_eq!(fresh, Handset::fresh(CELL));
 
@@ -230,35 +252,103 @@ fn every_number_occurs() {
     count.claims(16, CELL, 2, &[0, 512], 122);
     count.claims(16, CELL, 2, &[7, 7, 65535], 200);
 
+    replays(&mut count);
+    records_stopped_at(&mut count);
+
     println!("refusals by number: {:?}", count.0);
     let of_settings = |causes: u64| 7 * causes;
     let states = 7 * (21 + 9 * 7 + 4 + 3) + 1;
     let shorts = 4;
     let counts = [
         0,
-        of_settings(1),
-        of_settings(2),
-        of_settings(1),
-        of_settings(1),
-        of_settings(1),
-        of_settings(3),
+        of_settings(1) + 1,
+        of_settings(2) + 2,
+        of_settings(1) + 1,
+        of_settings(1) + 1,
+        of_settings(1) + 1,
+        of_settings(3) + 2,
         5 * 5 + 7 + 1 + shorts,
         states + 7 * (9 * 6 + 4 * 2 + 2) + 2 + shorts * 7 * 3 * 2,
-        2 + 4 + shorts * 3,
-        2 + 3,
-        3 + 2 + 5 + shorts * (2 + 2),
-        2 + 2 + shorts * 2,
+        2 + 4 + shorts * 3 + 3,
+        2 + 3 + 2,
+        3 + 2 + 5 + shorts * (2 + 2) + 2,
+        2 + 2 + shorts * 2 + 2,
         8 + 2,
         7 + 3,
         3,
         3,
-        of_settings(4),
-        3 + 4 + shorts * 2,
-        of_settings(8),
-        shorts * (2 * 6 + 2 * 4),
+        of_settings(4) + 4,
+        3 + 4 + shorts * 2 + 2,
+        of_settings(8) + 4,
+        shorts * (2 * 6 + 2 * 4) + shorts * 2,
+        2 * 4,
+        2 * 2 + 1,
+        2,
     ];
     assert_eq!(count.0, counts);
     assert!(count.0[1..].iter().all(|number| *number > 0));
+}
+
+/// What a replay refuses before any record. Of the settings above those count whose
+/// numbers fit in the bytes of a trace.
+fn replays(count: &mut Count) {
+    let good = Trace::new(CELL, &[Slot::NOTHING; 4]).bytes();
+    assert_eq!(replay(&good, &mut [5; 16]), ReplayAnswer::done(2));
+    assert_eq!(record(&good, 3), RecordAnswer::read(Slot::NOTHING));
+    let mut told_longer = good.clone();
+    put_number(&mut told_longer, LENGTH_AT, good.len() + 1);
+    for trace in [&[][..], &good[..7], &good[..good.len() - 1], &told_longer] {
+        count.replay(21, trace, 16);
+        count.record(21, trace, 0);
+    }
+    for settings_at in [7, good.len() - 9] {
+        let mut bad = good.clone();
+        put_number(&mut bad, SETTINGS_AT, settings_at);
+        count.replay(22, &bad, 16);
+        count.record(22, &bad, 0);
+    }
+    let mut kind = good.clone();
+    kind[good.len() - 4] = 4;
+    count.replay(22, &kind, 0);
+    for (number, settings) in REFUSED {
+        let Settings { mode, blocks, prefix, special, .. } = settings;
+        if [mode, blocks, prefix, special].into_iter().all(|number| number < 256) {
+            count.replay(number, &Trace::new(settings, &[Slot::NOTHING; 4]).bytes(), 0);
+        }
+    }
+    count.replay(23, &good, 15);
+    count.replay(23, &good, 0);
+}
+
+/// What a replay stops at. In configuration 1 subframe 3 is uplink and has a window, as
+/// 2 has. In configuration 5 there is that of 2 alone, and 3 to 9 are downlink. In
+/// configuration 2 there is no other before the special subframe 6.
+fn records_stopped_at(count: &mut Count) {
+    let good = Slot::grant(60, 1, 1);
+    let at = |subframe: usize, slot: Slot| {
+        let mut records = vec![Slot::NOTHING; subframe];
+        records.push(slot);
+        records
+    };
+    for slot in [good, Slot::block(1), Slot::release(60, 4)] {
+        count.stopped(9, SCHEDULED, &at(3, slot));
+    }
+    let cell = Settings { config: 5, ..SCHEDULED };
+    count.stopped(10, cell, &at(4, Slot { results: 5, ..good }));
+    count.stopped(10, cell, &at(4, Slot::block(4)));
+    count.stopped(11, cell, &at(4, Slot { cce: 61, ..good }));
+    count.stopped(11, cell, &at(4, Slot::release(61, 5)));
+    count.stopped(12, cell, &at(4, Slot { dai: 5, ..good }));
+    count.stopped(12, cell, &at(4, Slot::release(60, 0)));
+    count.stopped(18, Settings { scheduled: NONE, ..cell }, &at(4, Slot::block(1)));
+    let mut second = at(5, Slot::block(0));
+    second[4] = Slot::block(1);
+    count.stopped(18, cell, &second);
+    for (prefix, special) in SHORT {
+        let cell = Settings { config: 2, ..SCHEDULED }.with_special(prefix, special);
+        count.stopped(20, cell, &at(6, Slot { results: 5, cce: 61, ..good }));
+        count.stopped(20, cell, &at(6, Slot::block(4)));
+    }
 }
 
 /// What is remembered in a handset that expects 2, as above, with a resource set. In

@@ -2,13 +2,13 @@
 //! model and the plain implementation are held to them too. Each test knows how
 //! many lines its file has, and how many of them this layout cannot hold.
 
-use feedback_tests::compare::{plain_claims_on, plain_feed};
+use feedback_tests::compare::{plain_claims_on, plain_feed, plain_record_of, plain_replay_on};
 use feedback_tests::model::Model;
 use feedback_tests::plain::{plain_inverse, plain_make, plain_reading, plain_resource};
 use feedback_tests::vectors::{cases, heard, Case};
 use feedback_tests::{
-    claims, feed, inverse, make, reading, resource, Fed, Handset, Heard, ReadingAnswer, Settings,
-    NOT_TOLD,
+    claims, feed, inverse, make, reading, record, replay, resource, Fed, Handset, Heard,
+    ReadingAnswer, RecordAnswer, ReplayAnswer, Settings, Slot, NOT_TOLD,
 };
 use std::fmt::Debug;
 
@@ -83,6 +83,24 @@ impl Who<'_> {
             Self::Plain => plain_claims_on(settings, n, list, &mut scratch),
         };
         answer.refusal
+    }
+
+    /// The answer of a replay, and the output afterwards.
+    fn replay(&self, trace: &[u8], lent: &[u8]) -> (ReplayAnswer, Vec<u8>) {
+        let mut output = lent.to_vec();
+        match self {
+            Self::Engine => (replay(trace, &mut output), output),
+            Self::Model(model) => model.replay(trace, lent),
+            Self::Plain => (plain_replay_on(trace, &mut output), output),
+        }
+    }
+
+    fn record(&self, trace: &[u8], next: usize) -> RecordAnswer {
+        match self {
+            Self::Engine => record(trace, next),
+            Self::Model(model) => model.record(trace, next),
+            Self::Plain => plain_record_of(trace, next),
+        }
     }
 }
 
@@ -216,6 +234,41 @@ fn run_line(case: &Case, who: &Who) -> (Option<Step>, Option<Step>) {
     last
 }
 
+/// Stands in the files for no record's number.
+const NO_RECORD: u16 = 65535;
+
+/// A trace replayed into a lent output. A refusal with a record's number stopped it
+/// there, one without came before any record.
+fn replay_line(case: &Case, who: &Who) -> ((ReplayAnswer, Vec<u8>), (ReplayAnswer, Vec<u8>)) {
+    let (refusal, windows) = (case.number("refusal"), usize::from(case.number("windows")));
+    let answer = match (refusal, case.number("record")) {
+        (0, NO_RECORD) => ReplayAnswer::done(windows),
+        (_, NO_RECORD) => {
+            ReplayAnswer { windows: windows as u16, ..ReplayAnswer::refused(refusal) }
+        }
+        (_, record) => ReplayAnswer::stopped(refusal, record.into(), windows),
+    };
+    let given = who.replay(&case.bytes("trace"), &case.bytes("lent"));
+    (given, (answer, case.bytes("output")))
+}
+
+/// A record by its number. Fields and bits that its kind does not use have a 0 in the
+/// files, which are not to be compared with them; here they are 0 all the same.
+fn reader_line(case: &Case, who: &Who) -> (RecordAnswer, RecordAnswer) {
+    let byte = |name: &str| u8::try_from(case.number(name)).expect("a byte");
+    let due = match (case.number("refusal"), case.number("end")) {
+        (0, 0) => {
+            let two = if byte("blocks") == 2 { 4 } else { 0 };
+            let results = byte("first") + 2 * byte("second") + two;
+            let [kind, cce, dai] = ["kind", "CCE", "DAI"].map(byte);
+            RecordAnswer::read(Slot { kind, cce, dai, results })
+        }
+        (0, _) => RecordAnswer::END,
+        (refusal, _) => RecordAnswer::refused(refusal),
+    };
+    (who.record(&case.bytes("trace"), case.number("next").into()), due)
+}
+
 #[test]
 fn u01_settings() {
     let text = include_str!("../data/u01-settings.csv");
@@ -271,4 +324,18 @@ fn u02_runs() {
     let text = include_str!("../data/u02-runs.csv");
     let tally = Tally::of("u02-runs.csv", text, |case, who| Some(run_line(case, who)));
     tally.finish(84, 0);
+}
+
+#[test]
+fn u03_replay() {
+    let text = include_str!("../data/u03-replay.csv");
+    let tally = Tally::of("u03-replay.csv", text, |case, who| Some(replay_line(case, who)));
+    tally.finish(1214, 0);
+}
+
+#[test]
+fn u03_reader() {
+    let text = include_str!("../data/u03-reader.csv");
+    let tally = Tally::of("u03-reader.csv", text, |case, who| Some(reader_line(case, who)));
+    tally.finish(371, 0);
 }

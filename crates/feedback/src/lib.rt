@@ -1,313 +1,35 @@
 // The engine's C interface: one static library, libfeedback.a, with the header include/feedback.h. The papers' numbers are sixteen
-// bits wide. An answer is a struct of numbers: the refusal, 0 for none, and the values, which are 0 where they say nothing.
-use claims::Checked;
+// bits wide. An answer is a struct of numbers (`numbers`): the refusal, 0 for none, and the values, which are 0 where they say nothing.
 use frame::Answered;
 use frame::Settings;
-use handset::Fed;
 use handset::Handset;
 use handset::Made;
 use heard::Grant;
 use heard::Heard;
 use heard::Release;
 use heard::ScheduledBlock;
-use heard::Slot;
+use numbers::ClaimsAnswer;
+use numbers::FedAnswer;
+use numbers::InverseAnswer;
+use numbers::ReadingAnswer;
+use numbers::RecordAnswer;
+use numbers::ResourceAnswer;
+use numbers::WindowAnswer;
 use replaying::Replayed;
-use reply::Answer;
 use resource::Cce;
-use resource::Inverted;
-use resource::Mapped;
 use resource::Resource;
-use station::Place;
-use station::Reading;
-use station::Told;
-use trace::Record;
 ghost use mathlib.Core.Path.{_≡_};
 ghost use Rattle.frame.specs.Distance.{answeredOf};
 ghost use Rattle.resource.specs.Calls.{resourceOf, inverseOf};
 ghost use Rattle.station.specs.Readings.{readOf};
 ghost use Rattle.claims.specs.Claims.{checkedOf, scratchOf};
 ghost use lib.ListN.{length};
-ghost use Rattle.feedback.specs.Answers.{windowAnswer, resourceAnswer, inverseAnswer, toldPosition, placeAnswer, readingAnswer, claimsAnswer, noReply, answerNumbers, fedAnswer, grantOf, blockOf, releaseOf, noRecord, recordAnswer};
+ghost use Rattle.numbers.specs.Answers.{windowAnswer, resourceAnswer, inverseAnswer, toldPosition, readingAnswer, claimsAnswer, fedAnswer, grantOf, blockOf, releaseOf, recordAnswer};
 ghost use Rattle.handset.specs.Feed.{feedOf};
 ghost use Rattle.handset.specs.Make.{makeOf};
 ghost use Rattle.heard.specs.declared.Heard.the-variants.{Nothing};
 ghost use Rattle.replaying.specs.Replay.{replayOf, outputOf};
-ghost use Rattle.trace.specs.Record.{recordOf};
-
-// The kinds of a reading and of a feed, then those of claims and of a record, as reply/specs/Kinds.antt and specs/Kinds.antt have them.
-const KIND_REFUSED: u16 = 0;
-
-const KIND_BUNDLED: u16 = 1;
-
-const KIND_MULTIPLEXED: u16 = 2;
-
-const KIND_SILENT: u16 = 3;
-
-const KIND_TAKEN: u16 = 4;
-
-const KIND_NO_WINDOW: u16 = 5;
-
-const CLAIMS_REFUSED: u16 = 0;
-
-const CLAIMS_CLEAN: u16 = 1;
-
-const CLAIMS_CLASH: u16 = 2;
-
-const RECORD_REFUSED: u16 = 0;
-
-const RECORD_READ: u16 = 1;
-
-const RECORD_END: u16 = 2;
-
-// `size` is M, `k` has K in the print's order and `order` its positions in time order, zeros after the M entries of both; all 0 where
-// refused.
-#[repr(C)]
-pub struct WindowAnswer {
-    pub refusal: u16,
-    pub size: u16,
-    pub k: [u16; 9],
-    pub order: [u16; 9],
-}
-
-#[repr(C)]
-pub struct ResourceAnswer {
-    pub refusal: u16,
-    pub resource: u16,
-}
-
-#[repr(C)]
-pub struct InverseAnswer {
-    pub refusal: u16,
-    pub position: u16,
-    pub cce: u16,
-}
-
-// Kind 1 is a bundled reading with the ACK bits, 2 a multiplexed one with the delivered positions, bit p for position p; 0 where
-// refused. `scheduled` is 1 where the reply is read as the scheduled block, which has no CCE.
-#[repr(C)]
-pub struct ReadingAnswer {
-    pub refusal: u16,
-    pub kind: u16,
-    pub position: u16,
-    pub cce: u16,
-    pub b0: u16,
-    pub b1: u16,
-    pub delivered: u16,
-    pub scheduled: u16,
-}
-
-// Kind 1 is clean, 2 a clash with the index of the first claim equal to an earlier one; 0 where refused, and 16 has the index of the
-// first bad claim.
-#[repr(C)]
-pub struct ClaimsAnswer {
-    pub refusal: u16,
-    pub kind: u16,
-    pub index: u64,
-}
-
-// Kind 1 is a bundled reply, 2 a multiplexed one, 3 silent, 4 taken, 5 no window; 0 where refused. `handset` is the handset after the feed.
-#[repr(C)]
-pub struct FedAnswer {
-    pub refusal: u16,
-    pub kind: u16,
-    pub resource: u16,
-    pub b0: u16,
-    pub b1: u16,
-    pub handset: Handset,
-}
-
-// Kind 1 is a record, with what its kind uses of it, 2 the end of the trace; 0 where refused.
-#[repr(C)]
-pub struct RecordAnswer {
-    pub refusal: u16,
-    pub kind: u16,
-    pub slot: Slot,
-}
-
-fn resource_numbers(x: Mapped) -> ResourceAnswer
-    ensures { λ r. ⌜ r ≡ resourceAnswer x ⌝ }
-{
-    match x {
-        Mapped::At(r) => ResourceAnswer {
-            refusal: 0,
-            resource: r.number(),
-        },
-        Mapped::Refused(k) => ResourceAnswer {
-            refusal: k,
-            resource: 0,
-        },
-    }
-}
-
-fn inverse_numbers(x: Inverted) -> InverseAnswer
-    ensures { λ r. ⌜ r ≡ inverseAnswer x ⌝ }
-{
-    match x {
-        Inverted::At(m, c) => InverseAnswer {
-            refusal: 0,
-            position: m,
-            cce: c.number(),
-        },
-        Inverted::Refused(k) => InverseAnswer {
-            refusal: k,
-            position: 0,
-            cce: 0,
-        },
-    }
-}
-
-// The position that a C caller tells, 65535 for none.
-fn told_position(position: u16) -> Told
-    ensures { λ r. ⌜ r ≡ toldPosition position ⌝ }
-{
-    if position == 65535 {
-        return Told::NotTold;
-    }
-    Told::At(position)
-}
-
-fn place_numbers(x: Place, kind: u16, b0: u16, b1: u16, delivered: u16) -> ReadingAnswer
-    ensures { λ r. ⌜ r ≡ placeAnswer x kind b0 b1 delivered ⌝ }
-{
-    match x {
-        Place::Pdcch(m, c) => ReadingAnswer {
-            refusal: 0,
-            kind,
-            position: m,
-            cce: c.number(),
-            b0,
-            b1,
-            delivered,
-            scheduled: 0,
-        },
-        Place::Block(m) => ReadingAnswer {
-            refusal: 0,
-            kind,
-            position: m,
-            cce: 0,
-            b0,
-            b1,
-            delivered,
-            scheduled: 1,
-        },
-    }
-}
-
-fn reading_numbers(x: Reading) -> ReadingAnswer
-    ensures { λ r. ⌜ r ≡ readingAnswer x ⌝ }
-{
-    match x {
-        Reading::Bundled(place, b0, b1) => place_numbers(place, KIND_BUNDLED, b0, b1, 0),
-        Reading::Multiplexed(place, positions) => {
-            place_numbers(place, KIND_MULTIPLEXED, 0, 0, positions)
-        }
-        Reading::Refused(k) => ReadingAnswer {
-            refusal: k,
-            kind: KIND_REFUSED,
-            position: 0,
-            cce: 0,
-            b0: 0,
-            b1: 0,
-            delivered: 0,
-            scheduled: 0,
-        },
-    }
-}
-
-fn claims_numbers(x: Checked) -> ClaimsAnswer
-    ensures { λ r. ⌜ r ≡ claimsAnswer x ⌝ }
-{
-    match x {
-        Checked::Clean => ClaimsAnswer {
-            refusal: 0,
-            kind: CLAIMS_CLEAN,
-            index: 0,
-        },
-        Checked::Clash(i) => ClaimsAnswer {
-            refusal: 0,
-            kind: CLAIMS_CLASH,
-            index: i as u64,
-        },
-        Checked::Refused(k, i) => ClaimsAnswer {
-            refusal: k,
-            kind: CLAIMS_REFUSED,
-            index: i as u64,
-        },
-    }
-}
-
-fn no_reply(refusal: u16, kind: u16, handset: Handset) -> FedAnswer
-    ensures { λ r. ⌜ r ≡ noReply refusal kind handset ⌝ }
-{
-    FedAnswer {
-        refusal,
-        kind,
-        resource: 0,
-        b0: 0,
-        b1: 0,
-        handset,
-    }
-}
-
-fn answer_numbers(x: Answer, handset: Handset) -> FedAnswer
-    ensures { λ r. ⌜ r ≡ answerNumbers x handset ⌝ }
-{
-    match x {
-        Answer::Taken => no_reply(0, KIND_TAKEN, handset),
-        Answer::NoWindow => no_reply(0, KIND_NO_WINDOW, handset),
-        Answer::Silent => no_reply(0, KIND_SILENT, handset),
-        Answer::Refused(k) => no_reply(k, KIND_REFUSED, handset),
-        Answer::Sent(r) => {
-            let resource = r.resource;
-            FedAnswer {
-                refusal: 0,
-                kind: r.kind,
-                resource: resource.number(),
-                b0: r.b0,
-                b1: r.b1,
-                handset,
-            }
-        }
-    }
-}
-
-fn fed_numbers(f: Fed) -> FedAnswer
-    ensures { λ r. ⌜ r ≡ fedAnswer f ⌝ }
-{
-    let answer = f.answer;
-    let handset = f.handset;
-    answer_numbers(answer, handset)
-}
-
-fn no_record(refusal: u16, kind: u16) -> RecordAnswer
-    ensures { λ r. ⌜ r ≡ noRecord refusal kind ⌝ }
-{
-    let slot = Slot {
-        kind: 0,
-        cce: 0,
-        dai: 0,
-        results: 0,
-    };
-    RecordAnswer {
-        refusal,
-        kind,
-        slot,
-    }
-}
-
-fn record_numbers(x: Record) -> RecordAnswer
-    ensures { λ r. ⌜ r ≡ recordAnswer x ⌝ }
-{
-    match x {
-        Record::Refused(k) => no_record(k, RECORD_REFUSED),
-        Record::At(slot) => RecordAnswer {
-            refusal: 0,
-            kind: RECORD_READ,
-            slot,
-        },
-        Record::End => no_record(0, RECORD_END),
-    }
-}
+ghost use Rattle.reader.specs.Record.{recordOf};
 
 // The number of the structs' layout, which the name carries too: a program that was compiled for another layout does not link.
 #[no_mangle]
@@ -321,24 +43,7 @@ pub extern "C" fn feedback_layout_3() -> u16
 pub extern "C" fn feedback_window(settings: Settings, n: u16) -> WindowAnswer
     ensures { λ r. ⌜ r ≡ windowAnswer settings n ⌝ }
 {
-    let refusal = frame::window_refusal(settings, n);
-    if refusal != 0 {
-        return WindowAnswer {
-            refusal,
-            size: 0,
-            k: [0; 9],
-            order: [0; 9],
-        };
-    }
-    let w = frame::window_of(settings.config, n);
-    let k = w.k;
-    let order = w.order;
-    WindowAnswer {
-        refusal: 0,
-        size: w.size,
-        k,
-        order,
-    }
+    numbers::window_numbers(settings, n)
 }
 
 #[no_mangle]
@@ -357,14 +62,14 @@ pub extern "C" fn feedback_resource(
 ) -> ResourceAnswer
     ensures { λ r. ⌜ r ≡ resourceAnswer (resourceOf settings n position cce) ⌝ }
 {
-    resource_numbers(resource::resource_of(settings, n, position, Cce::new(cce)))
+    numbers::resource_numbers(resource::resource_of(settings, n, position, Cce::new(cce)))
 }
 
 #[no_mangle]
 pub extern "C" fn feedback_inverse(settings: Settings, n: u16, resource: u16) -> InverseAnswer
     ensures { λ r. ⌜ r ≡ inverseAnswer (inverseOf settings n resource) ⌝ }
 {
-    inverse_numbers(resource::inverse_of(settings, n, Resource::new(resource)))
+    numbers::inverse_numbers(resource::inverse_of(settings, n, Resource::new(resource)))
 }
 
 // `position` is that of the scheduled block that was sent in the window, 65535 where none was.
@@ -379,8 +84,8 @@ pub extern "C" fn feedback_reading(
 ) -> ReadingAnswer
     ensures { λ r. ⌜ r ≡ readingAnswer (readOf settings n (toldPosition position) resource b0 b1) ⌝ }
 {
-    let told = told_position(position);
-    reading_numbers(station::read(settings, n, told, Resource::new(resource), b0, b1))
+    let told = numbers::told_position(position);
+    numbers::reading_numbers(station::read(settings, n, told, Resource::new(resource), b0, b1))
 }
 
 #[no_mangle]
@@ -393,7 +98,7 @@ pub extern "C" fn feedback_claims(
     ensures { λ r. ⌜ r ≡ claimsAnswer (checkedOf settings n (now (claims .entry)) (length (now (scratch .entry)))) ⌝ }
     ensures { λ _. ⌜ now (scratch .exit) ≡ scratchOf settings n (now (claims .entry)) (now (scratch .entry)) ⌝ }
 {
-    claims_numbers(claims::claims_of(settings, n, claims, scratch))
+    numbers::claims_numbers(claims::claims_of(settings, n, claims, scratch))
 }
 
 #[no_mangle]
@@ -407,7 +112,7 @@ pub extern "C" fn feedback_make(settings: Settings) -> Made
 pub extern "C" fn feedback_feed_nothing(handset: Handset) -> FedAnswer
     ensures { λ r. ⌜ r ≡ fedAnswer (feedOf handset Nothing) ⌝ }
 {
-    fed_numbers(handset::feed(handset, Heard::Nothing))
+    numbers::fed_numbers(handset::feed(handset, Heard::Nothing))
 }
 
 // A decoded flag is a number: decoded unless it is 0.
@@ -429,7 +134,7 @@ pub extern "C" fn feedback_feed_grant(
         cce: Cce::new(cce),
         dai,
     };
-    fed_numbers(handset::feed(handset, Heard::Granted(grant)))
+    numbers::fed_numbers(handset::feed(handset, Heard::Granted(grant)))
 }
 
 #[no_mangle]
@@ -446,7 +151,7 @@ pub extern "C" fn feedback_feed_scheduled(
         first: first != 0,
         second: second != 0,
     };
-    fed_numbers(handset::feed(handset, Heard::Scheduled(block)))
+    numbers::fed_numbers(handset::feed(handset, Heard::Scheduled(block)))
 }
 
 #[no_mangle]
@@ -457,7 +162,7 @@ pub extern "C" fn feedback_feed_release(handset: Handset, cce: u16, dai: u16) ->
         cce: Cce::new(cce),
         dai,
     };
-    fed_numbers(handset::feed(handset, Heard::Released(release)))
+    numbers::fed_numbers(handset::feed(handset, Heard::Released(release)))
 }
 
 #[no_mangle]
@@ -473,5 +178,5 @@ pub extern "C" fn feedback_replay(trace: &[u8], out: &mut [u8]) -> Replayed
 pub extern "C" fn feedback_record(trace: &[u8], next: usize) -> RecordAnswer
     ensures { λ r. ⌜ r ≡ recordAnswer (recordOf (now (trace .entry)) next) ⌝ }
 {
-    record_numbers(trace::read_at(trace, next))
+    numbers::record_numbers(reader::read_at(trace, next))
 }

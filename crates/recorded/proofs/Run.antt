@@ -21,7 +21,7 @@ use Rattle.handset.specs.declared.Fed.{Fed}
 use Rattle.handset.specs.declared.Handset.{Handset}
 use Rattle.handset.specs.Feed.{nextAnswer, feedOf}
 use Rattle.handset.specs.Make.{makeOf}
-use Rattle.trace.specs.Record.{broughtAt}
+use Rattle.reader.specs.Record.{broughtAt}
 use Rattle.trace.specs.Trace.{headerOf, settingsOf}
 use Rattle.replaying.specs.Replay.{refusalIn, broughtIn, Played, after as behind, stopOr, played, playedIn}
 use Rattle.replaying.specs.Written.{bytesOf}

@@ -13,7 +13,7 @@ use Rattle.reply.specs.declared.Answer.{Answer}
 use Rattle.handset.specs.declared.Handset.{Handset}
 use Rattle.handset.specs.Feed.{feedOf}
 use Rattle.handset.specs.Make.{makeOf}
-use Rattle.trace.specs.Record.{broughtAt}
+use Rattle.reader.specs.Record.{broughtAt}
 use Rattle.trace.specs.Trace.{headerOf, settingsOf}
 use Rattle.replaying.specs.Replay.{refusalIn, broughtIn, playedIn}
 use Rattle.replaying.specs.Written.{bytesOf}

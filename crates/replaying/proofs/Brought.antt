@@ -5,7 +5,7 @@ use mathlib.Core.Path.{_≡_, refl, sym, ap, _∙_}
 use native.Mathlib.Nat.{add-zero, add-suc, suc-add, le-of-suc-le-suc, not-suc-le-zero}
 use lib.ListN.{length, getD}
 use Rattle.heard.specs.declared.Heard.the-variants.{Nothing}
-use Rattle.trace.specs.Record.{broughtAt}
+use Rattle.reader.specs.Record.{broughtAt}
 use Rattle.replaying.specs.Replay.{broughtFrom}
 
 -- It has one entry for each record, in their order.

@@ -15,9 +15,9 @@ use Rattle.counting.proofs.Frames.{windows-most, windows-rise}
 use Rattle.heard.specs.declared.Heard.{Heard}
 use Rattle.handset.specs.declared.Handset.{Handset}
 use Rattle.handset.specs.Feed.{feedOf}
-use Rattle.trace.specs.Reading.{heardOf}
-use Rattle.trace.specs.Record.{broughtAt, recordOf}
-use Rattle.trace.proofs.Known.{record-heard}
+use Rattle.reader.specs.Reading.{heardOf}
+use Rattle.reader.specs.Record.{broughtAt, recordOf}
+use Rattle.reader.proofs.Given.{record-heard}
 use Rattle.replaying.specs.declared.Replayed.{Replayed}
 use Rattle.replaying.specs.Ready.{Ready}
 use Rattle.replaying.specs.Replay.{refusalIn, broughtFrom, broughtIn, Played, after, stopOr, played, endedAs, written}

@@ -114,7 +114,7 @@ fn play(trace: &[u8], records: u16, start: Handset, out: &mut [u8]) -> Replayed
     let mut i: u16 = 0;
     let mut at: usize = 0;
     while i < records {
-        let x = trace::heard_at(trace, i as usize);
+        let x = reader::heard_at(trace, i as usize);
         let fed = handset::feed(h, x);
         let answer = fed.answer;
         let refusal = refusal_in(answer);

@@ -1,15 +1,12 @@
 -- The tests of the parts as the code makes them: a part that is not empty is apart from the header exactly if it begins behind it.
 -- Assumes nothing.
-use Prim.Native.Nat.{ℕ, zero, suc, _+_, _*_, _≤_, _<_}
+use Prim.Native.Nat.{_+_, _*_, _≤_, _<_}
 use mathlib.Core.Bool.{Bool, true, false, _||_}
 use mathlib.Core.Path.{_≡_, refl}
 use native.Mathlib.Omega.{arith}
 use lib.Dec.{leb}
 use borrow.Author.Tests.{le-leb, lt-leb, ne-eqb}
 use Rattle.trace.specs.declared.Header.{Header}
-use Rattle.trace.specs.declared.Record.{Record}
-use Rattle.trace.specs.declared.Record.the-variants.{Refused}
-use Rattle.trace.specs.Record.{refusedOr}
 use Rattle.trace.specs.Trace.{settingsFit, recordsFit}
 
 or-false : (b : Bool) → b ≡ b || false
@@ -26,11 +23,3 @@ pub records-over-header : (h : Header) → (h .records ≡ 0 → ⊥) → h .fir
 unfolding recordsFit
 records-over-header h some p q =
     rw (ne-eqb _ _ some, le-leb _ _ p, lt-leb 8 (h .first) q, lt-leb (h .first + 4 * h .records) 0 (omega arith))
-
--- A refusal of the parts is the reader's answer; where there is none, it is what comes after.
-pub refused-as : (k r : ℕ) (read : Record) → k ≡ r → (k ≡ 0 → ⊥) → Refused k ≡ refusedOr r read
-refused-as k zero read e some = absurd (some e)
-refused-as k (suc r) read e some = rw e
-
-pub read-on : (k r : ℕ) (given read : Record) → k ≡ r → k ≡ 0 → given ≡ read → given ≡ refusedOr r read
-read-on k r given read e none f = rw (← e, none) f

@@ -1,17 +1,13 @@
--- The records of a trace that is not refused: each has a kind that there is, and the reader gives it. Assumes nothing.
+-- The kinds of the records of a trace that is not refused. Assumes nothing.
 use Prim.Native.Nat.{ℕ, zero, suc, _-_, _<_}
 use mathlib.Core.Bool.{Bool, true, false, cond, _&&_, false≢true}
 use mathlib.Core.List.{List}
 use mathlib.Core.Logic.{⊎-elim}
-use mathlib.Core.Path.{_≡_, refl, sym, ap}
+use mathlib.Core.Path.{_≡_, refl}
 use native.Mathlib.Nat.{eq-or-lt-of-le, le-of-suc-le-suc}
 use native.Mathlib.Omega.{arith}
 use lib.Dec.{leb}
-use borrow.Author.Tests.{lt-ltb}
 use Rattle.frame.proofs.Accepted.{neither}
-use Rattle.trace.specs.declared.Record.the-variants.{At}
-use Rattle.trace.specs.Reading.{heardOf}
-use Rattle.trace.specs.Record.{slotAt, usedIn, broughtBy, recordSlot, broughtAt, readAs, recordOf}
 use Rattle.trace.specs.Trace.{byteAt, headerOf, partsRefusal, placeOf, kindsKnown, traceRefusal}
 
 pub both : (a b : Bool) → (a && b) ≡ true → (a ≡ true) × (b ≡ true)
@@ -39,15 +35,10 @@ known-unless : (b : Bool) → _≡_ {A = ℕ} (cond b 0 22) 0 → b ≡ true
 known-unless true e = refl
 known-unless false e = absurd (omega arith)
 
--- The reader of a trace that is not refused gives each of its records, and what it brings is what its bytes say.
-module _ (l : List ℕ) (accepted : traceRefusal l ≡ 0) (i : ℕ) (inside : i < headerOf l .records) where
-  pub record-read : recordOf l i ≡ At (usedIn (recordSlot l i))
-  unfolding traceRefusal recordOf readAs recordSlot slotAt
-  record-read =
-      let p = neither (partsRefusal l) _ accepted in
-      let known = kind-known l (headerOf l .first) (headerOf l .records) i (known-unless _ (p .1)) inside in
-      rw (p .0, lt-ltb i _ inside, known)
-
-  pub record-heard : heardOf (recordOf l i) ≡ broughtAt l i
-  unfolding broughtAt broughtBy
-  record-heard = ap heardOf record-read
+-- A trace that is not refused is in order in its parts, and has no unknown kind.
+pub in-order : (l : List ℕ) → traceRefusal l ≡ 0 → (i : ℕ) → i < headerOf l .records
+    → (partsRefusal l ≡ 0) × (leb (byteAt l (placeOf (headerOf l .first) i)) 3 ≡ true)
+unfolding traceRefusal
+in-order l accepted i inside =
+    let p = neither (partsRefusal l) _ accepted in
+    (p .0, kind-known l (headerOf l .first) (headerOf l .records) i (known-unless _ (p .1)) inside)

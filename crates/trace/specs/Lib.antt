@@ -1,4 +1,2 @@
 pub mod Exactly
-pub mod Reading
-pub mod Record
 pub mod Trace

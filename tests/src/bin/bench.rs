@@ -9,19 +9,20 @@
 use feedback_tests::c::{
     feedback_answered, feedback_claims, feedback_feed_grant, feedback_feed_nothing,
     feedback_feed_release, feedback_feed_scheduled, feedback_inverse, feedback_make,
-    feedback_reading, feedback_resource, feedback_window,
+    feedback_reading, feedback_replay, feedback_resource, feedback_window,
 };
 use feedback_tests::compare::plain_feed;
 use feedback_tests::every;
 use feedback_tests::model::{bundles, edge, is_short, is_uplink, Model, Window};
 use feedback_tests::plain::{
-    plain_answered, plain_claims, plain_inverse, plain_make, plain_reading, plain_resource,
-    plain_window,
+    plain_answered, plain_claims, plain_inverse, plain_make, plain_reading, plain_replay,
+    plain_resource, plain_window,
 };
 use feedback_tests::random::Random;
+use feedback_tests::trace::{Trace, MOST_WINDOWS, WINDOW};
 use feedback_tests::{
     AnsweredAnswer, Block, ClaimsAnswer, Fed, Grant, Handset, Heard, ReadingAnswer, Release,
-    Settings, WindowAnswer, NOT_TOLD,
+    ReplayAnswer, Settings, WindowAnswer, NOT_TOLD,
 };
 use std::hint::black_box;
 use std::time::Instant;
@@ -76,8 +77,8 @@ fn main() {
     println!(
         "# Performance
 
-The C calls beside the same calls in plain Rust, in nanoseconds for one call, and
-for the claims for one claim. Printed by `cargo run --release --offline --locked
+The C calls beside the same calls in plain Rust, in nanoseconds for one call, for
+the claims for one claim, and for a replay for one record. Printed by `cargo run --release --offline --locked
 --bin bench` in `tests`. Both sides are `extern \"C\"` functions of one signature
 and are not inlined; they get the same inputs, in batches that alternate, and the
 median of {BATCHES} batches counts. The figures depend on the machine; the ratios
@@ -91,6 +92,10 @@ schedule one subframe of each window has a scheduled block, every other time, an
 one PDCCH in eight is a release. Special subframes carry data, but for the cells
 called short: there they bring nothing or a release.
 
+The traces are of configuration 2 with two blocks and a schedule, with grants, scheduled
+blocks, releases and nothing in the downlink, and good to the end. In plain Rust a
+replay keeps no state: it checks the settings once and looks back into the trace.
+
 | call | ours, ns | plain Rust, ns | ratio |
 |---|---:|---:|---:|"
     );
@@ -101,6 +106,7 @@ called short: there they bring nothing or a release.
     claims(&model, &mut random);
     schedule(&model, &mut Random::new(1));
     short_specials(&model, &mut Random::new(2));
+    replays(&model, &mut Random::new(3));
 }
 
 fn numbers(model: &Model, random: &mut Random) {
@@ -371,6 +377,32 @@ fn claims_row(name: &str, lists: &[List]) {
     );
 }
 
+/// Traces of several lengths; of the short ones so many that a batch has thousands of
+/// records.
+fn replays(model: &Model, random: &mut Random) {
+    for (name, mode) in [("bundled", 0), ("multiplexed", 1)] {
+        let settings = Settings::plain(2, 50, 10, mode, 2).with_scheduled(7);
+        for (length, records, traces) in
+            [("1,000", 1_000, 8), ("4,000", 4_000, 2), ("16,379", 16_379, 1)]
+        {
+            let mut trace = || Trace::new(settings, &random.records(model, settings, records));
+            let inputs: Vec<Vec<u8>> = (0..traces).map(|_| trace().bytes()).collect();
+            let name = format!("replay, {name} cell, {length} records");
+            let (mut our_output, mut plain_output) = (vec![0; ROOM], vec![0; ROOM]);
+            row(
+                &name,
+                &inputs,
+                traces * records,
+                |trace| engine_replay(trace, &mut our_output),
+                |trace| plain_rust_replay(trace, &mut plain_output),
+            );
+        }
+    }
+}
+
+/// Room for every trace.
+const ROOM: usize = WINDOW * MOST_WINDOWS;
+
 /// Measures two implementations whose batches alternate, each over all inputs,
 /// and prints the nanoseconds of one of the `number` things that are in them.
 fn row<T>(
@@ -562,4 +594,26 @@ fn plain_rust_claims(list: &List, scratch: &mut [u8]) -> u64 {
 
 fn claims_sum(answer: ClaimsAnswer) -> u64 {
     u64::from(answer.kind) << 32 | answer.index
+}
+
+fn engine_replay(trace: &[u8], output: &mut [u8]) -> u64 {
+    let (out, room) = (output.as_mut_ptr(), output.len());
+    // SAFETY: trace and output are lent with their lengths and do not overlap.
+    let answer = unsafe { feedback_replay(trace.as_ptr(), trace.len(), out, room) };
+    last_window(answer, output)
+}
+
+fn plain_rust_replay(trace: &[u8], output: &mut [u8]) -> u64 {
+    let (out, room) = (output.as_mut_ptr(), output.len());
+    // SAFETY: trace and output are lent with their lengths and do not overlap.
+    let answer = unsafe { plain_replay(trace.as_ptr(), trace.len(), out, room) };
+    last_window(answer, output)
+}
+
+/// How many windows were written, and some of the last one.
+fn last_window(answer: ReplayAnswer, output: &[u8]) -> u64 {
+    let windows = usize::from(answer.windows);
+    let last = &black_box(output)[WINDOW * windows.max(1) - WINDOW..][..WINDOW];
+    let resource = u64::from(last[3]) << 8 | u64::from(last[2]);
+    u64::from(answer.kind) << 48 | (windows as u64) << 16 | resource
 }

@@ -1,6 +1,6 @@
 //! The handset's side: making one and feeding it.
 
-use super::{bundles, cces, check, is_short, region, window_size, DOWNLINK, K, SPECIAL};
+use super::{bundles, cces, check, is_short, region, DOWNLINK, K, SPECIAL};
 use crate::{Fed, Handset, Made, Settings, Slot, NONE};
 
 /// How many subframes later each downlink subframe is answered; 0 for an uplink one.
@@ -33,8 +33,15 @@ enum State {
     D,
 }
 
+/// What is sent for a window.
+pub(super) struct Reply {
+    pub kind: u16,
+    pub resource: u16,
+    pub bits: (u16, u16),
+}
+
 /// What a state that has been checked allows the next subframe to bring.
-struct Limits {
+pub(super) struct Limits {
     /// The downlink subframes, special ones too, and those that carry data.
     downlink: u16,
     data: u16,
@@ -69,20 +76,13 @@ pub extern "C" fn plain_feed_nothing(handset: Handset) -> Fed {
         return Fed::answer(Fed::TAKEN, after);
     }
     let settings = &handset.settings;
-    let Ok(size) = window_size(settings.config, handset.next) else {
-        return Fed::answer(Fed::NO_WINDOW, after);
-    };
     let window = K[usize::from(settings.config)][usize::from(handset.next)];
-    if bundles(settings, size) {
-        match bundled(settings, window, &handset.past) {
-            Some((resource, bits)) => Fed::reply(Fed::BUNDLED, resource, bits, after),
-            None => Fed::answer(Fed::SILENT, after),
-        }
-    } else {
-        match multiplexed(settings, window, &handset.past) {
-            Some((resource, bits)) => Fed::reply(Fed::MULTIPLEXED, resource, bits, after),
-            None => Fed::answer(Fed::SILENT, after),
-        }
+    if window.is_empty() {
+        return Fed::answer(Fed::NO_WINDOW, after);
+    }
+    match reply(settings, window, |k| handset.past[usize::from(k) - 1]) {
+        Some(Reply { kind, resource, bits }) => Fed::reply(kind, resource, bits, after),
+        None => Fed::answer(Fed::SILENT, after),
     }
 }
 
@@ -140,6 +140,39 @@ pub extern "C" fn plain_feed_release(handset: Handset, cce: u16, dai: u16) -> Fe
 }
 
 impl Limits {
+    /// The limits of settings that have been checked, where nothing was heard yet.
+    pub fn new(settings: &Settings) -> Self {
+        let config = usize::from(settings.config);
+        Self {
+            downlink: DOWNLINK[config],
+            data: DOWNLINK[config] & !if is_short(settings) { SPECIAL[config] } else { 0 },
+            blocks: settings.blocks,
+            cces: cces(settings.nrb),
+            distances: &DISTANCE[config],
+            scheduled: settings.scheduled != NONE,
+            taken: 0,
+        }
+    }
+
+    /// Checks what a slot of an existing kind, not nothing, brings to the next subframe.
+    pub fn check(&self, subframe: u16, slot: Slot) -> Result<(), u16> {
+        let blocks = 1 + u16::from(slot.results >> 2 & 1);
+        let (cce, dai) = (slot.cce.into(), slot.dai.into());
+        match slot.kind {
+            Slot::GRANT => self.check_grant(subframe, blocks, cce, dai),
+            Slot::BLOCK => self.check_block(subframe, blocks),
+            _ => self.check_release(subframe, cce, dai),
+        }
+    }
+
+    /// Goes on by a subframe, which brought a scheduled block or did not.
+    pub fn go_on(&mut self, subframe: u16, is_block: bool) {
+        if is_block {
+            self.taken |= self.window_of(subframe, 0);
+        }
+        self.taken >>= 1;
+    }
+
     fn is_downlink(&self, subframe: u16) -> bool {
         self.downlink >> subframe & 1 == 1
     }
@@ -212,16 +245,7 @@ fn limits_of_good(handset: &Handset) -> Option<Limits> {
     if handset.next > 9 {
         return None;
     }
-    let config = usize::from(settings.config);
-    let mut limits = Limits {
-        downlink: DOWNLINK[config],
-        data: DOWNLINK[config] & !if is_short(settings) { SPECIAL[config] } else { 0 },
-        blocks: settings.blocks,
-        cces: cces(settings.nrb),
-        distances: &DISTANCE[config],
-        scheduled: settings.scheduled != NONE,
-        taken: 0,
-    };
+    let mut limits = Limits::new(settings);
     let mut any_block = false;
     let mut subframe = handset.next;
     for slot in &handset.past {
@@ -268,13 +292,29 @@ fn remember(handset: &Handset, slot: Slot) -> Handset {
     after
 }
 
-fn bundled(settings: &Settings, window: &[u8], past: &[Slot; 13]) -> Option<(u16, (u16, u16))> {
+/// What is sent for a window; `ago` has what was heard k subframes ago.
+#[inline(always)]
+pub(super) fn reply(settings: &Settings, window: &[u8], ago: impl Fn(u8) -> Slot) -> Option<Reply> {
+    let is_bundled = bundles(settings, window.len() as u16);
+    let (kind, sent) = match is_bundled {
+        true => (Fed::BUNDLED, bundled(settings, window, ago)),
+        false => (Fed::MULTIPLEXED, multiplexed(settings, window, ago)),
+    };
+    sent.map(|(resource, bits)| Reply { kind, resource, bits })
+}
+
+#[inline(always)]
+fn bundled(
+    settings: &Settings,
+    window: &[u8],
+    ago: impl Fn(u8) -> Slot,
+) -> Option<(u16, (u16, u16))> {
     let mut heard = 0;
     let mut acks = 0b11;
     let mut last: Option<(usize, u8)> = None;
     let mut scheduled = false;
     for (position, &k) in window.iter().enumerate() {
-        let slot = &past[usize::from(k) - 1];
+        let slot = ago(k);
         acks &= acks_of(slot);
         if slot.kind == Slot::BLOCK {
             scheduled = true;
@@ -289,23 +329,28 @@ fn bundled(settings: &Settings, window: &[u8], past: &[Slot; 13]) -> Option<(u16
     let Some((position, k)) = last else {
         return scheduled.then_some((settings.scheduled, (acks & 1, b1)));
     };
-    let slot = &past[usize::from(k) - 1];
+    let slot = ago(k);
     if settings.config != 0 && slot.dai != (heard - 1) % 4 + 1 {
         return None;
     }
     Some((resource_of(settings, window.len(), position, slot), (acks & 1, b1)))
 }
 
-fn multiplexed(settings: &Settings, window: &[u8], past: &[Slot; 13]) -> Option<(u16, (u16, u16))> {
+#[inline(always)]
+fn multiplexed(
+    settings: &Settings,
+    window: &[u8],
+    ago: impl Fn(u8) -> Slot,
+) -> Option<(u16, (u16, u16))> {
     let mut states = [State::D; 4];
     for (state, &k) in states.iter_mut().zip(window) {
-        let slot = &past[usize::from(k) - 1];
+        let slot = ago(k);
         if slot.kind != 0 {
             *state = if acks_of(slot) == 0b11 { State::A } else { State::N };
         }
     }
     let (position, bits) = symbol(&states[..window.len()])?;
-    let slot = &past[usize::from(window[position]) - 1];
+    let slot = ago(window[position]);
     match slot.kind {
         Slot::BLOCK => Some((settings.scheduled, bits)),
         _ => Some((resource_of(settings, window.len(), position, slot), bits)),
@@ -353,7 +398,7 @@ fn symbol(states: &[State]) -> Option<(usize, (u16, u16))> {
 }
 
 /// The ACK bits of a remembered subframe, bit 0 for the first block.
-fn acks_of(slot: &Slot) -> u16 {
+fn acks_of(slot: Slot) -> u16 {
     ACKS[usize::from(slot.kind & 3)][usize::from(slot.results & 7)].into()
 }
 
@@ -363,7 +408,7 @@ const ACKS: [[u8; 8]; 4] = [[3; 8], CARRIED, CARRIED, [3; 8]];
 const CARRIED: [u8; 8] = [0, 3, 0, 3, 0, 1, 2, 3];
 
 /// The resource of a remembered PDCCH, whose CCE has been checked.
-fn resource_of(settings: &Settings, size: usize, position: usize, slot: &Slot) -> u16 {
+fn resource_of(settings: &Settings, size: usize, position: usize, slot: Slot) -> u16 {
     let (size, position, cce) = (size as u16, position as u16, u16::from(slot.cce));
     let (lower, upper) = region(settings.nrb, 1, cce).unwrap_or((0, 0));
     (size - position - 1) * lower + position * upper + cce + settings.n1

@@ -1,6 +1,6 @@
 -- `feedback::feedback_claims` meets its contract. Assumes nothing.
 use mathlib.Core.Path.{ap, _∙_}
-use Rattle.feedback.specs.Answers.{claimsAnswer}
+use Rattle.numbers.specs.Answers.{claimsAnswer}
 use borrow.Author.Needs.{needs}
 use Rattle.feedback.proofs.feedback_claims.Statement.{statement}
 use Rattle.feedback.proofs.feedback_claims.Tie as tie

@@ -2,7 +2,7 @@
 use Prim.Native.Nat.{ℕ}
 use mathlib.Core.Path.{ap, _∙_}
 use Rattle.handset.specs.Feed.{feedOf}
-use Rattle.feedback.specs.Answers.{fedAnswer, grantOf}
+use Rattle.numbers.specs.Answers.{fedAnswer, grantOf}
 use borrow.Author.Needs.{needs}
 use Rattle.feedback.proofs.feedback_feed_grant.Statement.{statement}
 use Rattle.feedback.proofs.feedback_feed_grant.Tie as tie

@@ -2,7 +2,7 @@
 use Prim.Native.Nat.{ℕ}
 use mathlib.Core.Path.{ap, _∙_}
 use Rattle.handset.specs.Feed.{feedOf}
-use Rattle.feedback.specs.Answers.{fedAnswer, releaseOf}
+use Rattle.numbers.specs.Answers.{fedAnswer, releaseOf}
 use borrow.Author.Needs.{needs}
 use Rattle.feedback.proofs.feedback_feed_release.Statement.{statement}
 use Rattle.feedback.proofs.feedback_feed_release.Tie as tie

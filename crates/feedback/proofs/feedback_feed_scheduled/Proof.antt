@@ -1,6 +1,6 @@
 -- `feedback::feedback_feed_scheduled` meets its contract. Assumes nothing.
 use mathlib.Core.Path.{ap, _∙_}
-use Rattle.feedback.specs.Answers.{fedAnswer}
+use Rattle.numbers.specs.Answers.{fedAnswer}
 use borrow.Author.Needs.{needs}
 use Rattle.feedback.proofs.feedback_feed_scheduled.Statement.{statement}
 use Rattle.feedback.proofs.feedback_feed_scheduled.Tie as tie

@@ -1,7 +1,7 @@
 -- `feedback::feedback_inverse` meets its contract. Assumes nothing.
 use mathlib.Core.Path.{ap, _∙_}
 use Rattle.resource.specs.Calls.{inverseOf}
-use Rattle.feedback.specs.Answers.{inverseAnswer}
+use Rattle.numbers.specs.Answers.{inverseAnswer}
 use borrow.Author.Needs.{needs}
 use Rattle.feedback.proofs.feedback_inverse.Statement.{statement}
 use Rattle.feedback.proofs.feedback_inverse.Tie as tie

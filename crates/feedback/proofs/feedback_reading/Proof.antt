@@ -4,7 +4,7 @@ use mathlib.Core.Path.{_≡_, ap, _∙_}
 use Rattle.frame.specs.declared.Settings.{Settings}
 use Rattle.station.specs.declared.Told.{Told}
 use Rattle.station.specs.Readings.{readOf}
-use Rattle.feedback.specs.Answers.{readingAnswer}
+use Rattle.numbers.specs.Answers.{readingAnswer}
 use borrow.Author.Needs.{needs}
 use Rattle.feedback.proofs.feedback_reading.Statement.{statement}
 use Rattle.feedback.proofs.feedback_reading.Tie as tie

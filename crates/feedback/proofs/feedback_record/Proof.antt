@@ -1,6 +1,6 @@
 -- `feedback::feedback_record` meets its contract. Assumes nothing.
 use mathlib.Core.Path.{ap, _∙_}
-use Rattle.feedback.specs.Answers.{recordAnswer}
+use Rattle.numbers.specs.Answers.{recordAnswer}
 use borrow.Author.Needs.{needs}
 use Rattle.feedback.proofs.feedback_record.Statement.{statement}
 use Rattle.feedback.proofs.feedback_record.Tie as tie

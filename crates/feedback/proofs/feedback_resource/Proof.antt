@@ -1,7 +1,7 @@
 -- `feedback::feedback_resource` meets its contract. Assumes nothing.
 use mathlib.Core.Path.{ap, _∙_}
 use Rattle.resource.specs.Calls.{resourceOf}
-use Rattle.feedback.specs.Answers.{resourceAnswer}
+use Rattle.numbers.specs.Answers.{resourceAnswer}
 use borrow.Author.Needs.{needs}
 use Rattle.feedback.proofs.feedback_resource.Statement.{statement}
 use Rattle.feedback.proofs.feedback_resource.Tie as tie

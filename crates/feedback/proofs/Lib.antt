@@ -1,8 +1,0 @@
-pub mod Chosen
-pub mod ClaimsKept
-pub mod ComeBack
-pub mod FeedKept
-pub mod InverseKept
-pub mod ReadingKept
-pub mod ResourceKept
-pub mod WindowKept

@@ -1,0 +1,30 @@
+-- The numbers of feedback_claims lose nothing: no claims are refused with 0.
+-- Assumes nothing.
+use Prim.Native.Nat.{ℕ, zero, suc}
+use mathlib.Core.Bool.{not}
+use mathlib.Core.List.{List}
+use mathlib.Core.Path.{_≡_, refl, sym, ap}
+use lib.Dec.{ltb, eqb·suc-zero}
+use lib.ListN.{length}
+use Rattle.frame.specs.declared.Settings.{Settings}
+use Rattle.claims.specs.declared.Checked.{Checked}
+use Rattle.claims.specs.Claims.{firstBad, firstClash, scratchRefusal, checkedOn, refusedOr, checkedOf}
+use Rattle.numbers.specs.Answers.{claimsAnswer}
+use Rattle.numbers.specs.Back.{checkedIn, KindFor}
+use Rattle.numbers.specs.Kinds.{claimsClash}
+use Rattle.numbers.proofs.Chosen.{either}
+
+-- An answer about claims comes back from its numbers, and its kind is one that there is, 0 where it is refused.
+abbrev pub CheckedKept : Checked → Type 0
+CheckedKept x = (checkedIn (claimsAnswer x) ≡ x) × KindFor claimsClash (claimsAnswer x .kind) (claimsAnswer x .refusal)
+
+refused-or-kept : (k : ℕ) (x : Checked) → CheckedKept x → CheckedKept (refusedOr k x)
+refused-or-kept zero x kept = kept
+refused-or-kept (suc k) x kept = (refl, (sym (ap not (eqb·suc-zero k)), refl))
+
+pub claims-kept : (s : Settings) (n : ℕ) (list : List ℕ) (lent : ℕ) → CheckedKept (checkedOf s n list lent)
+unfolding checkedOf checkedOn
+claims-kept s n list lent =
+    refused-or-kept (scratchRefusal s n lent) _
+    (either CheckedKept (ltb (firstBad s n list) (length list)) _ _ (refl, (refl, refl))
+    (either CheckedKept (ltb (firstClash s n list) (length list)) _ _ (refl, (refl, refl)) (refl, (refl, refl))))

@@ -1,0 +1,53 @@
+-- The numbers of feedback_record lose nothing, and those of feedback_replay tell a refusal by the kind.
+-- Assumes nothing.
+use Prim.Native.Nat.{ℕ, zero, suc}
+use mathlib.Core.Bool.{Bool, true, false, cond, not}
+use mathlib.Core.List.{List}
+use mathlib.Core.Path.{_≡_, refl, sym, ap}
+use lib.Dec.{eqb, ltb, leb, eqb·suc-zero}
+use Rattle.heard.specs.declared.Slot.{Slot}
+use Rattle.reader.specs.declared.Record.{Record}
+use Rattle.reader.specs.declared.Record.the-variants as traced
+use Rattle.reader.specs.Record.{usedIn, recordSlot, readAs, refusedOr, recordOf}
+use Rattle.trace.specs.Trace.{headerOf, partsRefusal}
+use Rattle.replaying.specs.declared.Replayed.{Replayed}
+use Rattle.replaying.specs.Replay.{Played, playedIn, startRefusal, replayDone, replayStopped, replayedAs, replayOf}
+use Rattle.numbers.specs.Answers.{recordAnswer}
+use Rattle.numbers.specs.Back.{recordIn, KindFor}
+use Rattle.numbers.specs.Kinds.{recordEnd}
+use Rattle.numbers.proofs.Chosen.{either}
+
+-- A reader's answer comes back from its numbers, and its kind is one that there is, 0 where it is refused.
+abbrev Kept : Record → Type 0
+Kept x = (recordIn (recordAnswer x) ≡ x) × KindFor recordEnd (recordAnswer x .kind) (recordAnswer x .refusal)
+
+refused-kept : (k : ℕ) → Kept (traced.Refused (suc k))
+refused-kept k = (refl, (sym (ap not (eqb·suc-zero k)), refl))
+
+read-kept : (k : ℕ) (x : Record) → Kept x → Kept (refusedOr k x)
+read-kept zero x kept = kept
+read-kept (suc k) x kept = refused-kept k
+
+pub reader-kept : (l : List ℕ) (i : ℕ) → Kept (recordOf l i)
+unfolding recordOf readAs
+reader-kept l i =
+    read-kept (partsRefusal l) _
+    (either Kept (ltb i (headerOf l .records)) _ _
+    (either Kept (leb (recordSlot l i .kind) 3) _ _ (refl, (refl, refl)) (refused-kept 21))
+    (refl, (refl, refl)))
+
+-- Done, or stopped at a record, or refused before any.
+abbrev Told : Replayed → Type 0
+Told r = (eqb (r .kind) replayDone ≡ eqb (r .refusal) 0) × (leb (r .kind) replayStopped ≡ true)
+
+ended-told : (b : Bool) → (eqb (cond b replayDone replayStopped) replayDone ≡ b) × (leb (cond b replayDone replayStopped) replayStopped ≡ true)
+ended-told true = (refl, refl)
+ended-told false = (refl, refl)
+
+told-as : (k : ℕ) (p : Played) → Told (replayedAs k p)
+told-as zero p = ended-told (eqb (p .refusal) 0)
+told-as (suc k) p = (sym (eqb·suc-zero k), refl)
+
+pub replay-told : (l : List ℕ) (room : ℕ) → Told (replayOf l room)
+unfolding replayOf
+replay-told l room = told-as (startRefusal l room) (playedIn l)

@@ -1,0 +1,124 @@
+//! Recorded drives as bytes: a trace is built from settings and records, its parts in
+//! either order and with any bytes in the gaps.
+//!
+//! What is built judges nothing: settings and records are written as they are given.
+//! A good trace is made a bad one by changing its bytes, such as the header's numbers.
+
+use crate::{Block, Grant, Heard, Release, Settings, Slot};
+
+/// The bytes of the header, of the settings, of a record, and of a window in the output.
+pub const HEADER: usize = 8;
+pub const SETTINGS: usize = 10;
+pub const RECORD: usize = 4;
+pub const WINDOW: usize = 8;
+
+/// The most bytes of a trace, whose length is one of its 16-bit numbers; the most
+/// records in so many bytes; and the most windows that these complete, in
+/// configuration 6.
+pub const LONGEST: usize = 65535;
+pub const MOST_RECORDS: usize = 16379;
+pub const MOST_WINDOWS: usize = 8190;
+
+/// Where the numbers of the header stand.
+pub const RECORDS_AT: usize = 0;
+pub const FIRST_AT: usize = 2;
+pub const SETTINGS_AT: usize = 4;
+pub const LENGTH_AT: usize = 6;
+
+/// A trace before it is bytes.
+#[derive(Clone, Debug)]
+pub struct Trace {
+    settings: Settings,
+    records: Vec<Slot>,
+    records_first: bool,
+    gaps: [Vec<u8>; 3],
+}
+
+impl Trace {
+    /// The settings directly behind the header, the records directly behind them.
+    pub fn new(settings: Settings, records: &[Slot]) -> Self {
+        let gaps = [const { Vec::new() }; 3];
+        Self { settings, records: records.to_vec(), records_first: false, gaps }
+    }
+
+    /// The same with the records before the settings.
+    pub fn records_first(self) -> Self {
+        Self { records_first: true, ..self }
+    }
+
+    /// The same with these bytes behind the header, behind the part that follows it,
+    /// and at the end.
+    pub fn with_gaps(self, gaps: [&[u8]; 3]) -> Self {
+        Self { gaps: gaps.map(<[u8]>::to_vec), ..self }
+    }
+
+    pub fn bytes(&self) -> Vec<u8> {
+        let settings = settings_bytes(self.settings).to_vec();
+        let records: Vec<u8> = self.records.iter().copied().flat_map(record_bytes).collect();
+        let (one, other) =
+            if self.records_first { (records, settings) } else { (settings, records) };
+        let [behind_header, between, end] = &self.gaps;
+        let one_at = HEADER + behind_header.len();
+        let other_at = one_at + one.len() + between.len();
+        let (first, settings_at) =
+            if self.records_first { (one_at, other_at) } else { (other_at, one_at) };
+        let length = other_at + other.len() + end.len();
+        let header = [self.records.len(), first, settings_at, length].map(number_bytes);
+        [header.as_flattened(), behind_header, &one, between, &other, end].concat()
+    }
+}
+
+/// The ten bytes of the settings in a trace.
+pub fn settings_bytes(settings: Settings) -> [u8; SETTINGS] {
+    let Settings { config, nrb, n1, mode, blocks, scheduled, prefix, special } = settings;
+    let byte = |number: u16| u8::try_from(number).expect("a setting of one byte");
+    let [config, nrb, mode, blocks] = [config, nrb, mode, blocks].map(byte);
+    let ([n1, n1_high], [scheduled, scheduled_high]) = (n1.to_le_bytes(), scheduled.to_le_bytes());
+    let (special, prefix) = (byte(special), byte(prefix));
+    [config, nrb, mode, blocks, special, prefix, n1, n1_high, scheduled, scheduled_high]
+}
+
+/// The four bytes of a record.
+pub fn record_bytes(record: Slot) -> [u8; RECORD] {
+    let Slot { kind, cce, dai, results } = record;
+    [kind, cce, dai, results]
+}
+
+/// The record of what a subframe heard, as far as its bytes hold it; what its kind does
+/// not use is 0.
+pub fn record_of(heard: Heard) -> Slot {
+    let results = |blocks: u16, first: u16, second: u16| {
+        u8::from(first != 0) * Slot::FIRST
+            + u8::from(second != 0) * Slot::SECOND
+            + u8::from(blocks == 2) * Slot::TWO
+    };
+    match heard {
+        Heard::Nothing => Slot::NOTHING,
+        Heard::Grant(Grant { blocks, first, second, cce, dai }) => {
+            Slot::grant(cce as u8, dai as u8, results(blocks, first, second))
+        }
+        Heard::Block(Block { blocks, first, second }) => {
+            Slot::block(results(blocks, first, second))
+        }
+        Heard::Release(Release { cce, dai }) => Slot::release(cce as u8, dai as u8),
+    }
+}
+
+/// A number of two bytes at a place of a trace, such as one of the header.
+pub fn number_at(trace: &[u8], at: usize) -> usize {
+    u16::from_le_bytes([trace[at], trace[at + 1]]).into()
+}
+
+/// Puts a number of two bytes there.
+pub fn put_number(trace: &mut [u8], at: usize, number: usize) {
+    trace[at..at + 2].copy_from_slice(&number_bytes(number));
+}
+
+/// Gives the header the length that the trace has now.
+pub fn put_length(trace: &mut [u8]) {
+    put_number(trace, LENGTH_AT, trace.len());
+}
+
+fn number_bytes(number: usize) -> [u8; 2] {
+    u16::try_from(number).expect("a number of two bytes").to_le_bytes()
+}
