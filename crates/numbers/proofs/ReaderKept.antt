@@ -5,10 +5,9 @@ use mathlib.Core.Bool.{Bool, true, false, cond, not}
 use mathlib.Core.List.{List}
 use mathlib.Core.Path.{_≡_, refl, sym, ap}
 use lib.Dec.{eqb, ltb, leb, eqb·suc-zero}
-use Rattle.heard.specs.declared.Slot.{Slot}
 use Rattle.reader.specs.declared.Record.{Record}
 use Rattle.reader.specs.declared.Record.the-variants as traced
-use Rattle.reader.specs.Record.{usedIn, recordSlot, readAs, refusedOr, recordOf}
+use Rattle.reader.specs.Record.{recordSlot, readAs, refusedOr, recordOf}
 use Rattle.trace.specs.Trace.{headerOf, partsRefusal}
 use Rattle.replaying.specs.declared.Replayed.{Replayed}
 use Rattle.replaying.specs.Replay.{Played, playedIn, startRefusal, replayDone, replayStopped, replayedAs, replayOf}

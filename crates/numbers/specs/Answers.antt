@@ -26,7 +26,6 @@ use Rattle.reply.specs.declared.Answer.{Answer}
 use Rattle.reply.specs.declared.Answer.the-variants as answer
 use Rattle.heard.specs.declared.Heard.{Heard}
 use Rattle.heard.specs.declared.Heard.the-variants.{Granted, Scheduled, Released}
-use Rattle.heard.specs.declared.Slot.{Slot}
 use Rattle.heard.specs.Memory.{none}
 use Rattle.handset.specs.declared.Fed.{Fed}
 use Rattle.handset.specs.declared.Handset.{Handset}

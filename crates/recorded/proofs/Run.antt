@@ -1,8 +1,8 @@
 -- The feeds of a replay are a run of demand 3: specs/Run.antt, proved.
 -- Assumes nothing.
-use Prim.Native.Nat.{ℕ, zero, suc, _+_, _-_, _%_, _<_, _≤_, suc-le-suc}
+use Prim.Native.Nat.{ℕ, zero, suc, _+_, _%_, _<_, _≤_, suc-le-suc}
 use mathlib.Core.Bool.{Bool, true, false, cond}
-use mathlib.Core.List.{List, [], _∷_, _++_, map}
+use mathlib.Core.List.{List, [], _∷_}
 use mathlib.Core.Logic.{_⊎_, inl, inr}
 use mathlib.Core.Path.{_≡_, refl, sym, ap, _∙_}
 use native.Mathlib.Nat.{add-zero, zero-add, add-suc, suc-add, le-of-suc-le-suc, not-suc-le-zero}
@@ -26,13 +26,12 @@ use Rattle.trace.specs.Trace.{headerOf, settingsOf}
 use Rattle.replaying.specs.Replay.{refusalIn, broughtIn, Played, after as behind, stopOr, played, playedIn}
 use Rattle.replaying.specs.Written.{bytesOf}
 use Rattle.replaying.proofs.Brought.{brought-length, brought-at}
-use Rattle.agreement.specs.Demand3.{feedbackEngine, fedAt}
 use Rattle.agreement.specs.Run.{Item, feed, itemAt, handsetAfter, causeAfter, heardFrom, heardInRun}
 use Rattle.agreement.proofs.Demand3.{demand3}
 use Rattle.agreement.proofs.Feeds.{causeIn, Past, cause-past}
 use Rattle.agreement.proofs.Memory.{ValidPast, after, accepted-after, refused-after, made-fresh}
 use Rattle.agreement.proofs.NeverRefused.{never-refused}
-use Rattle.recorded.specs.Run.{unlessRefused, feedsFrom, runOf, answerTo, bytesFrom, IsRun}
+use Rattle.recorded.specs.Run.{feedsFrom, runOf, answerTo, bytesFrom, IsRun}
 
 not-refused : (a : Answer) → ((k : ℕ) → a ≡ answer.Refused k → ⊥) → refusalIn a ≡ 0
 not-refused answer.Taken h = refl

@@ -18,7 +18,6 @@ use Rattle.handset.specs.Feed.{feedOf}
 use Rattle.reader.specs.Reading.{heardOf}
 use Rattle.reader.specs.Record.{broughtAt, recordOf}
 use Rattle.reader.proofs.Given.{record-heard}
-use Rattle.replaying.specs.declared.Replayed.{Replayed}
 use Rattle.replaying.specs.Ready.{Ready}
 use Rattle.replaying.specs.Replay.{refusalIn, broughtFrom, broughtIn, Played, after, stopOr, played, endedAs, written}
 use Rattle.replaying.specs.Written.{bytesOf, putAt, FitsBytes}

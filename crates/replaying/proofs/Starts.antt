@@ -1,21 +1,17 @@
 -- The whole call: refused before any record, or the feeds. Assumes nothing.
 use Prim.Native.Nat.{ℕ, zero, suc, _*_, _≤_}
-use mathlib.Core.Bool.{Bool, true, false, cond}
 use mathlib.Core.List.{List}
 use mathlib.Core.Path.{_≡_, refl, ap, _∙_}
 use native.Mathlib.Omega.{arith}
-use lib.Dec.{ltb}
 use lib.ListN.{length, drop, length-append}
 use borrow.Author.Tests.{ltb-false}
-use Rattle.frame.specs.declared.Settings.{Settings}
 use Rattle.frame.specs.Settings.{settingsRefusal}
 use Rattle.frame.proofs.Accepted.{neither, unmet}
-use Rattle.handset.specs.declared.Handset.{Handset}
 use Rattle.handset.specs.Make.{fresh, makeOf}
 use Rattle.trace.specs.Trace.{headerOf, settingsOf, traceRefusal}
 use Rattle.replaying.specs.declared.Replayed.{Replayed}
 use Rattle.replaying.specs.Ready.{Ready}
-use Rattle.replaying.specs.Replay.{broughtIn, Played, played, playedIn, outputNeeded, startRefusal, endedAs, replayedAs, replayOf, written, outputAs, outputOf}
+use Rattle.replaying.specs.Replay.{broughtIn, played, playedIn, outputNeeded, startRefusal, endedAs, replayedAs, replayOf, written, outputAs, outputOf}
 
 module _ (l old : List ℕ) where
   -- An answer and an output that are right.

@@ -6,7 +6,6 @@ use line::put_labelled;
 use line::put_text;
 use replaying::Replayed;
 ghost use mathlib.Core.Path.{_≡_};
-ghost use mathlib.Core.List.{[]};
 ghost use Rattle.io.specs.Counts.{Counts};
 ghost use Rattle.line.specs.Put.{paged, added};
 ghost use Rattle.reporting.specs.Text.{frameOf, kindText, sentText, lineText, windowText, refusalText};

@@ -3,16 +3,15 @@ use Prim.Native.Nat.{ℕ, zero, suc, _+_, _-_, _*_, _≤_, _<_}
 use mathlib.Core.Bool.{Bool, true, false, cond, _&&_, _||_, or-true, false≢true}
 use mathlib.Core.List.{List}
 use mathlib.Core.Logic.{_⊎_, inl, inr, _↔_}
-use mathlib.Core.Path.{_≡_, refl, sym, ap, _∙_}
+use mathlib.Core.Path.{_≡_, refl, sym, _∙_}
 use native.Mathlib.Decide.{decLe}
 use native.Mathlib.Omega.{arith}
 use lib.Dec.{eqb, leb}
 use lib.ListN.{length}
-use borrow.Author.Tests.{leb-true, leb-false, le-leb, eqb-true, eqb-false, eq-eqb}
+use borrow.Author.Tests.{leb-true, le-leb, eqb-true, eqb-false, eq-eqb}
 use Rattle.frame.specs.Settings.{orElse}
-use Rattle.frame.proofs.Accepted.{neither}
 use Rattle.trace.specs.declared.Header.{Header}
-use Rattle.trace.specs.Exactly.{Holds, Apart, Inside, PartsFit, RightLength, KindsKnown, RefusedExactly}
+use Rattle.trace.specs.Exactly.{Apart, PartsFit, RightLength, RefusedExactly}
 use Rattle.trace.specs.Trace.{byteAt, headerOf, Part, headerPart, settingsPart, recordsPart, apart, within, settingsFit, recordsFit, lengthRefusal, partsRefusal, placeOf, kindsKnown, traceRefusal}
 use Rattle.trace.proofs.Known.{both, kind-known}
 

@@ -1,7 +1,7 @@
 -- `replaying::put_answer` meets its contract: an arm for each answer. Assumes nothing.
-use mathlib.Core.Path.{ap, _∙_}
+use mathlib.Core.Path.{ap}
 use native.Mathlib.Omega.{arith}
-use Rattle.replaying.specs.Written.{windowBytes, bytesOf}
+use Rattle.replaying.specs.Written.{bytesOf}
 use Rattle.replaying.proofs.Putting.{nothing-put, window-room, window-put, reply-fits}
 use borrow.Author.Needs.{needs}
 use Rattle.replaying.proofs.put_answer.Statement.{statement}
