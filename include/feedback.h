@@ -242,8 +242,8 @@ extern "C" {
  * A refused call changes nothing: no buffer is written, no state moves on, nothing is
  * made. Beside a refusal every other number of the answer is 0. There are three
  * exceptions: a feed gives back the handset as it was; 16 comes with an index; and a
- * replay that stops at a record leaves the windows before it in the output, and tells
- * how many they are and the record's number.
+ * replay that stops at a record has the kind FEEDBACK_REPLAY_STOPPED, leaves the windows
+ * before it in the output, and tells how many they are and the record's number.
  */
 enum feedback_refusal {
     FEEDBACK_NOT_REFUSED = 0,
@@ -819,8 +819,9 @@ struct feedback_replay_answer feedback_replay(const uint8_t *trace, size_t lengt
                                               size_t room);
 
 /*
- * A record of a trace by its number. To read them all, count next up from 0 until the
- * kind is FEEDBACK_RECORD_END.
+ * A record of a trace by its number. To read them all, count next up from 0 as long as
+ * the kind is FEEDBACK_RECORD_READ. It is FEEDBACK_RECORD_END behind the last record; of a
+ * trace that is refused it is FEEDBACK_RECORD_REFUSED, for its parts at every number.
  *
  *   trace      the bytes of the trace, only read; their layout is under TRACES
  *   length     the number of bytes of the trace

@@ -1,4 +1,4 @@
-// A text of at most 100 bytes, filled byte by byte, and numbers in decimal: what `listing` and `printing` write with.
+// A text of at most 100 bytes, filled byte by byte, and numbers in decimal: what `listing`, `printing` and `reporting` write with.
 ghost use Prim.Native.Nat.{_<_};
 ghost use mathlib.Core.Path.{_≡_};
 ghost use mathlib.Core.List.{[], _++_};

@@ -59,7 +59,20 @@ fn following(i: usize) -> usize
     i
 }
 
-// What a reader of the trace gives at a number. Its parameters are plain, so what calls it needs no struct.
+// The replay asks by what follows: parameters and results are plain, so what calls these functions needs no struct. Each makes a reader
+// and asks it: the number at which it begins, what it gives at a number, and the number after.
+pub fn first_number(trace: &[u8]) -> usize
+    ensures { λ r. ⌜ r ≡ 0 ⌝ }
+{
+    Reader::new(trace).next
+}
+
+pub fn number_after(trace: &[u8], i: usize) -> usize
+    ensures { λ r. ⌜ r ≡ followingOf i ⌝ }
+{
+    Reader { trace, next: i }.advanced().next
+}
+
 pub fn read_at(trace: &[u8], next: usize) -> Record
     ensures { λ r. ⌜ r ≡ recordOf (now (trace .entry)) next ⌝ }
 {

@@ -1,6 +1,6 @@
 -- The feeds of a replay are a run of demand 3: specs/Run.antt, proved.
 -- Assumes nothing.
-use Prim.Native.Nat.{ℕ, zero, suc, _+_, _%_, _<_, _≤_, suc-le-suc}
+use Prim.Native.Nat.{ℕ, zero, suc, _+_, _-_, _*_, _%_, _<_, _≤_, suc-le-suc}
 use mathlib.Core.Bool.{Bool, true, false, cond}
 use mathlib.Core.List.{List, [], _∷_}
 use mathlib.Core.Logic.{_⊎_, inl, inr}
@@ -8,10 +8,13 @@ use mathlib.Core.Path.{_≡_, refl, sym, ap, _∙_}
 use native.Mathlib.Nat.{add-zero, zero-add, add-suc, suc-add, le-of-suc-le-suc, not-suc-le-zero}
 use native.Mathlib.Omega.{arith}
 use lib.Dec.{eqb}
-use lib.ListN.{length, getD, take}
+use lib.ListN.{length, getD, take, drop}
+use lib.Seq.{take-at, drop-append-add}
 use borrow.Author.Tests.{eq-eqb, ne-eqb}
 use Rattle.frame.specs.declared.Settings.{Settings}
 use Rattle.frame.specs.Settings.{settingsRefusal}
+use Rattle.counting.specs.Windows.{hasWindow, windowsBefore}
+use Rattle.counting.proofs.Frames.{windows-rise}
 use Rattle.heard.specs.declared.Heard.{Heard}
 use Rattle.heard.specs.declared.Heard.the-variants.{Nothing}
 use Rattle.heard.specs.Memory.{viewAgo}
@@ -23,9 +26,11 @@ use Rattle.handset.specs.Feed.{nextAnswer, feedOf}
 use Rattle.handset.specs.Make.{makeOf}
 use Rattle.reader.specs.Record.{broughtAt}
 use Rattle.trace.specs.Trace.{headerOf, settingsOf}
-use Rattle.replaying.specs.Replay.{refusalIn, broughtIn, Played, after as behind, stopOr, played, playedIn}
+use Rattle.replaying.specs.Replay.{refusalIn, broughtIn, Played, after as behind, stopOr, played, playedIn, startRefusal, endedAs, replayOf, written, outputOf}
 use Rattle.replaying.specs.Written.{bytesOf}
+use Rattle.replaying.proofs.Feeds.{taken-up, grows}
 use Rattle.replaying.proofs.Brought.{brought-length, brought-at}
+use Rattle.agreement.specs.Demand3.{causeAt}
 use Rattle.agreement.specs.Run.{Item, feed, itemAt, handsetAfter, causeAfter, heardFrom, heardInRun}
 use Rattle.agreement.proofs.Demand3.{demand3}
 use Rattle.agreement.proofs.Feeds.{causeIn, Past, cause-past}
@@ -161,6 +166,54 @@ module _ (set : Settings) (good : settingsRefusal set ≡ 0) where
           let here : answers (length l) ≡ feedOf (after set l) x .answer = ap answers (sym (add-zero (length l))) ∙ each′ 0 (omega arith) in
           rw (plays-last x xs l valid k e, feeds-last x xs l valid k e, here, refused-after set good l valid x (λ z. omega arith))
 
+  -- The window of a subframe that is taken up stands behind those of the subframes before it.
+  window-at : (xs l : List Heard) → ValidPast set l → (answers : ℕ → Answer)
+      → ((i : ℕ) → i < length (feedsFrom (after set l) xs)
+      → answers (length l + i) ≡ feedOf (handsetAfter feedOf (after set l) (take i (feedsFrom (after set l) xs))) (getD xs i Nothing) .answer)
+      → (j : ℕ) → j < length (feedsFrom (after set l) xs) → refusalIn (answers (length l + j)) ≡ 0 → hasWindow (set .config) ((length l + j) % 10) ≡ true
+      → take 8 (drop (8 * windowsBefore (set .config) (length l + j) - 8 * windowsBefore (set .config) (length l)) (played (after set l) (length l) xs .bytes))
+      ≡ bytesOf ((length l + j) % 10) (answers (length l + j))
+  window-at [] l valid answers each j h none has = absurd (not-suc-le-zero (rw (feeds-none (after set l)) at h))
+  window-at (x ∷ xs) l valid answers each j h none has = go (causeAfter set l x) refl j h none has (window-at xs (x ∷ l))
+    where
+      go : (k : ℕ) → causeAfter set l x ≡ k → (j : ℕ) → j < length (feedsFrom (after set l) (x ∷ xs)) → refusalIn (answers (length l + j)) ≡ 0
+          → hasWindow (set .config) ((length l + j) % 10) ≡ true
+          → (ValidPast set (x ∷ l) → (answers : ℕ → Answer)
+          → ((i : ℕ) → i < length (feedsFrom (after set (x ∷ l)) xs)
+          → answers (suc (length l) + i) ≡ feedOf (handsetAfter feedOf (after set (x ∷ l)) (take i (feedsFrom (after set (x ∷ l)) xs))) (getD xs i Nothing) .answer)
+          → (j : ℕ) → j < length (feedsFrom (after set (x ∷ l)) xs) → refusalIn (answers (suc (length l) + j)) ≡ 0 → hasWindow (set .config) ((suc (length l) + j) % 10) ≡ true
+          → take 8 (drop (8 * windowsBefore (set .config) (suc (length l) + j) - 8 * windowsBefore (set .config) (suc (length l))) (played (after set (x ∷ l)) (suc (length l)) xs .bytes))
+          ≡ bytesOf ((suc (length l) + j) % 10) (answers (suc (length l) + j)))
+          → take 8 (drop (8 * windowsBefore (set .config) (length l + j) - 8 * windowsBefore (set .config) (length l)) (played (after set l) (length l) (x ∷ xs) .bytes))
+          ≡ bytesOf ((length l + j) % 10) (answers (length l + j))
+      go zero e zero h none has next =
+          let each′ = rw (feeds-on x xs l valid e) at each in
+          let here : answers (length l) ≡ feedOf (after set l) x .answer = ap answers (sym (add-zero (length l))) ∙ each′ 0 (omega arith) in
+          let has′ : hasWindow (set .config) (length l % 10) ≡ true = rw (add-zero (length l)) at has in
+          let t = taken-up (after set l) x (refusal-after l valid x ∙ e) in
+          let new : List ℕ = bytesOf (length l % 10) (feedOf (after set l) x .answer) in
+          let size : length new ≡ 8 = rw has′ at (t .gives .size) in
+          let none′ : 8 * windowsBefore (set .config) (length l) - 8 * windowsBefore (set .config) (length l) ≡ 0 = omega arith in
+          rw (add-zero (length l), none′, plays-on x xs l valid e, here) (take-at new _ 8 size)
+      go zero e (suc j) h none has next =
+          let each′ = rw (feeds-on x xs l valid e) at each in
+          let s : length l + suc j ≡ suc (length l) + j = omega arith in
+          let q = next (e, valid) answers
+          (λ i h. ap answers (suc-add (length l) i ∙ sym (add-suc (length l) i))
+          ∙ each′ (suc i) (suc-le-suc h)
+          ∙ ap (λ (f : Fed). feedOf (handsetAfter feedOf (f .handset) (take i (feedsFrom (after set (x ∷ l)) xs))) (getD xs i Nothing) .answer) (accepted-after set good l valid x e))
+          j (le-of-suc-le-suc (rw (feeds-on x xs l valid e) at h)) (rw s at none) (rw s at has) in
+          let new : List ℕ = bytesOf (length l % 10) (feedOf (after set l) x .answer) in
+          let size = grows (after set l) x (taken-up (after set l) x (refusal-after l valid x ∙ e)) (length l) refl in
+          let rise = windows-rise (set .config) (suc (length l)) j in
+          let d : 8 * windowsBefore (set .config) (suc (length l) + j) - 8 * windowsBefore (set .config) (length l)
+          ≡ length new + (8 * windowsBefore (set .config) (suc (length l) + j) - 8 * windowsBefore (set .config) (suc (length l))) = omega (arith, size, rise) in
+          rw (s, plays-on x xs l valid e, d, drop-append-add new (played (after set (x ∷ l)) (suc (length l)) xs .bytes) _) q
+      go (suc k) e zero h none has next =
+          let z : suc k ≡ 0 = sym e ∙ sym (refusal-after l valid x) ∙ sym (ap refusalIn (each 0 h)) ∙ none in
+          absurd (omega arith)
+      go (suc k) e (suc j) h none has next = absurd (omega (arith, rw (feeds-last x xs l valid k e) at h))
+
   -- Each feed: what it brings, the subframe that it comes to, and its cause.
   module _ (heard : List Heard) where
     -- The run's list of heard things goes on, after the history l, with what the feeds still to come bring.
@@ -171,6 +224,7 @@ module _ (set : Settings) (good : settingsRefusal set ≡ 0) where
       item : itemAt items i ≡ feed (getD xs i Nothing)
       count : length (heardFrom set l (take i items)) ≡ i
       cause : causeIn set heard (length l + i) (getD xs i Nothing) ≡ cond (eqb (length l + i) (p .number)) (p .refusal) 0
+      refused : refusalIn (feedOf (handsetAfter feedOf (after set l) (take i items)) (getD xs i Nothing) .answer) ≡ causeIn set heard (length l + i) (getD xs i Nothing)
 
     each : (xs l : List Heard) → ValidPast set l → Past heard l → Rest l (feedsFrom (after set l) xs)
         → (i : ℕ) → i < length (feedsFrom (after set l) xs)
@@ -197,7 +251,7 @@ module _ (set : Settings) (good : settingsRefusal set ≡ 0) where
             → At l (x ∷ xs) (feedsFrom (after set l) (x ∷ xs)) (played (after set l) (length l) (x ∷ xs)) i
         go zero e zero h next =
             let none = later (played (after set (x ∷ l)) (suc (length l)) xs) (number-later (after set (x ∷ l)) (suc (length l)) xs) in
-            rw (feeds-on x xs l valid e, plays-on x xs l valid e) (record { item = refl; count = refl; cause = here ∙ e ∙ sym none })
+            rw (feeds-on x xs l valid e, plays-on x xs l valid e) (record { item = refl; count = refl; cause = here ∙ e ∙ sym none; refused = refusal-after l valid x ∙ sym here })
         go zero e (suc i) h next =
             let rest′ = rw (feeds-on x xs l valid e, eq-eqb (causeAfter set l x) 0 e) at rest in
             let now : getD heard (length l) Nothing ≡ x = ap (λ (s : ℕ). getD heard s Nothing) (sym (add-zero (length l))) ∙ rest′ 0 in
@@ -206,10 +260,17 @@ module _ (set : Settings) (good : settingsRefusal set ≡ 0) where
             let q = next (e, valid) (now, past) more i (le-of-suc-le-suc (rw (feeds-on x xs l valid e) at h)) in
             let s : length l + suc i ≡ suc (length l) + i = omega arith in
             rw (feeds-on x xs l valid e, plays-on x xs l valid e)
-            (record { item = q .item; count = rw (eq-eqb (causeAfter set l x) 0 e) (ap suc (q .count)); cause = rw s (q .cause) })
+            (record {
+              item = q .item;
+              count = rw (eq-eqb (causeAfter set l x) 0 e) (ap suc (q .count));
+              cause = rw s (q .cause);
+              refused = rw s
+                  (ap (λ (f : Fed). refusalIn (feedOf (handsetAfter feedOf (f .handset) (take i (feedsFrom (after set (x ∷ l)) xs))) (getD xs i Nothing) .answer)) (accepted-after set good l valid x e)
+                  ∙ q .refused);
+            })
         go (suc k) e zero h next =
             rw (feeds-last x xs l valid k e, plays-last x xs l valid k e)
-            (record { item = refl; count = refl; cause = here ∙ e ∙ rw (eq-eqb (length l + 0) (length l) (add-zero (length l))) })
+            (record { item = refl; count = refl; cause = here ∙ e ∙ rw (eq-eqb (length l + 0) (length l) (add-zero (length l))); refused = refusal-after l valid x ∙ sym here })
         go (suc k) e (suc i) h next = absurd (omega (arith, rw (feeds-last x xs l valid k e) at h))
 
 answer-with : (h h′ : Handset) (items items′ : List Item) (x x′ : Heard) (i : ℕ) → h ≡ h′ → items ≡ items′ → x ≡ x′
@@ -250,6 +311,32 @@ module _ (l : List ℕ) (good : settingsRefusal (settingsOf l) ≡ 0) where
       → answerTo l (0 + i) ≡ feedOf (handsetAfter feedOf (after set []) (take i (feedsFrom (after set []) (broughtIn l)))) (getD (broughtIn l) i Nothing) .answer
   answered i h = ap (answerTo l) (zero-add i) ∙ answer-with _ _ _ _ _ _ i fresh-start run-is (sym (records-fed i h))
 
+  printed : playedIn l .bytes ≡ bytesFrom (answerTo l) 0 (length (runOf l))
+  printed =
+      ap (λ (p : Played). p .bytes) play-is ∙ bytes-along set good (broughtIn l) [] tt (answerTo l) (λ i h. answered i (rw (← run-is) at h))
+      ∙ ap (λ (items : List Item). bytesFrom (answerTo l) 0 (length items)) (sym run-is)
+
+  outputs : (old : List ℕ) → startRefusal l (length old) ≡ 0 → outputOf l old ≡ written (playedIn l .bytes) old
+  unfolding outputOf
+  outputs old e = rw e
+
+  tells : (room : ℕ) → startRefusal l room ≡ 0 → replayOf l room ≡ endedAs (playedIn l)
+  unfolding replayOf
+  tells room e = rw e
+
+  windows : (i : ℕ) → i < length (runOf l) → causeAt set (runOf l) i (broughtAt l i) ≡ 0 → hasWindow (set .config) (i % 10) ≡ true
+      → take 8 (drop (8 * windowsBefore (set .config) i) (playedIn l .bytes)) ≡ bytesOf (i % 10) (answerTo l i)
+  unfolding windowsBefore
+  windows i h none has =
+      let cause : causeIn set (heardInRun set (runOf l)) (0 + i) (getD (broughtIn l) i Nothing) ≡ 0 = rw (zero-add i, records-fed i h) (rw (at i h .count) at none) in
+      let taken : refusalIn (answerTo l (0 + i)) ≡ 0 =
+            ap refusalIn (answered i h)
+            ∙ ap (λ (items : List Item). refusalIn (feedOf (handsetAfter feedOf (after set []) (take i items)) (getD (broughtIn l) i Nothing) .answer)) (sym run-is)
+            ∙ at i h .refused ∙ cause in
+      let q = window-at set good (broughtIn l) [] tt (answerTo l) (λ i h. answered i (rw (← run-is) at h)) i (rw run-is at h) taken (rw (zero-add i) has) in
+      let z : 8 * windowsBefore (set .config) i - 0 ≡ 8 * windowsBefore (set .config) i = omega arith in
+      rw (zero-add i, z, ← play-is) at q
+
   pub is-run : IsRun l
   unfolding broughtIn
   is-run =
@@ -259,8 +346,9 @@ module _ (l : List ℕ) (good : settingsRefusal (settingsOf l) ≡ 0) where
         causes = λ i h. rw (at i h .count) (rw (zero-add i, records-fed i h) at (at i h .cause));
         whole = λ none. ap length run-is ∙ feeds-whole set good (broughtIn l) [] tt (rw play-is at none) ∙ brought-length l 0 (headerOf l .records);
         stopped = λ some. rw (run-is, play-is) (sym (zero-add _) ∙ feeds-stopped set good (broughtIn l) [] tt (λ z. some (rw play-is z)));
-        prints =
-            ap (λ (p : Played). p .bytes) play-is ∙ bytes-along set good (broughtIn l) [] tt (answerTo l) (λ i h. answered i (rw (← run-is) at h))
-            ∙ ap (λ (items : List Item). bytesFrom (answerTo l) 0 (length items)) (sym run-is);
+        prints = printed;
+        window = windows;
+        output = λ old e. outputs old e ∙ ap (λ (b : List ℕ). written b old) printed;
+        told = tells;
         holds = λ sent schedule brings. demand3 .run set good sent schedule (runOf l) brings;
       }

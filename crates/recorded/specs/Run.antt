@@ -1,12 +1,13 @@
 -- The feeds of a replay are a run of demand 3: document 02, U3, "The replay equals the feeds one by one". So what demand 3 says of a
 -- run it says of what a replay prints.
 -- Assumes nothing.
-use Prim.Native.Nat.{ℕ, zero, suc, _%_, _<_}
-use mathlib.Core.Bool.{cond}
+use Prim.Native.Nat.{ℕ, zero, suc, _*_, _%_, _<_}
+use mathlib.Core.Bool.{true, cond}
 use mathlib.Core.List.{List, [], _∷_, _++_}
 use mathlib.Core.Path.{_≡_}
 use lib.Dec.{eqb}
-use lib.ListN.{length}
+use lib.ListN.{length, take, drop}
+use Rattle.counting.specs.Windows.{hasWindow, windowsBefore}
 use Rattle.confirmation.specs.declared.Send.{Send}
 use Rattle.heard.specs.declared.Heard.{Heard}
 use Rattle.reply.specs.declared.Answer.{Answer}
@@ -15,7 +16,7 @@ use Rattle.handset.specs.Feed.{feedOf}
 use Rattle.handset.specs.Make.{makeOf}
 use Rattle.reader.specs.Record.{broughtAt}
 use Rattle.trace.specs.Trace.{headerOf, settingsOf}
-use Rattle.replaying.specs.Replay.{refusalIn, broughtIn, playedIn}
+use Rattle.replaying.specs.Replay.{refusalIn, broughtIn, playedIn, startRefusal, endedAs, replayOf, written, outputOf}
 use Rattle.replaying.specs.Written.{bytesOf}
 use Rattle.agreement.specs.Demand3.{feedbackEngine, fedAt, IsFeed, causeAt, HoldsAfter}
 use Rattle.agreement.specs.Run.{Item, feed, subframeAt, Schedule, BringsSent}
@@ -52,8 +53,14 @@ pub record IsRun (l : List ℕ) : Type 0 where
   -- all records are fed, or those up to the refused one
   pub whole : playedIn l .refusal ≡ 0 → length (runOf l) ≡ headerOf l .records
   pub stopped : (playedIn l .refusal ≡ 0 → ⊥) → length (runOf l) ≡ suc (playedIn l .number)
-  -- what is printed is what the run answers
+  -- what is printed is what the run answers,
   pub prints : playedIn l .bytes ≡ bytesFrom (answerTo l) 0 (length (runOf l))
+  -- the window of subframe i behind those of the subframes before it,
+  pub window : (i : ℕ) → i < length (runOf l) → causeAt (settingsOf l) (runOf l) i (broughtAt l i) ≡ 0 → hasWindow (settingsOf l .config) (i % 10) ≡ true
+      → take 8 (drop (8 * windowsBefore (settingsOf l .config) i) (playedIn l .bytes)) ≡ bytesOf (i % 10) (answerTo l i)
+  -- and that is what a replay with room enough leaves in its output, and what it tells
+  pub output : (old : List ℕ) → startRefusal l (length old) ≡ 0 → outputOf l old ≡ written (bytesFrom (answerTo l) 0 (length (runOf l))) old
+  pub told : (room : ℕ) → startRefusal l room ≡ 0 → replayOf l room ≡ endedAs (playedIn l)
   -- and demand 3 holds of it, for every schedule that its feeds bring
   pub holds : (sent : ℕ → Send) → Schedule (settingsOf l) sent → BringsSent (settingsOf l) sent (runOf l)
       → HoldsAfter feedbackEngine (settingsOf l) sent (runOf l)

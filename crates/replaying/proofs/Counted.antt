@@ -22,12 +22,13 @@ use Rattle.replaying.proofs.Feeds.{taken-up, grows}
 -- From subframe i on, where `count` more come.
 record CountedFrom (c i count : ℕ) (p : Played) : Type 0 where
   all : p .refusal ≡ 0 → 8 * windowsBefore c i + length (p .bytes) ≡ 8 * windowsBefore c (i + count)
+  stopped : (p .refusal ≡ 0 → ⊥) → 8 * windowsBefore c i + length (p .bytes) ≡ 8 * windowsBefore c (p .number)
   most : 8 * windowsBefore c i + length (p .bytes) ≤ 8 * windowsBefore c (i + count)
 
 counted-from : (xs : List Heard) (h : Handset) (i : ℕ) → h .next ≡ i % 10
     → CountedFrom (h .settings .config) i (length xs) (played h i xs)
 unfolding played
-counted-from [] h i e = record { all = λ z. rw (add-zero i) (omega arith); most = rw (add-zero i) (omega arith) }
+counted-from [] h i e = record { all = λ z. rw (add-zero i) (omega arith); stopped = λ some. absurd (some refl); most = rw (add-zero i) (omega arith) }
 counted-from (x ∷ xs) h i e = go (refusalIn (feedOf h x .answer)) refl (counted-from xs (feedOf h x .handset) (suc i))
   where
     go : (k : ℕ) → refusalIn (feedOf h x .answer) ≡ k
@@ -42,10 +43,11 @@ counted-from (x ∷ xs) h i e = go (refusalIn (feedOf h x .answer)) refl (counte
         let more : i + suc (length xs) ≡ suc i + length xs = omega arith in
         record {
           all = λ z. rw (more, length-append new old) (omega (arith, grows h x t i e, rw (t .settings) at (q .all z)));
+          stopped = λ some. rw (length-append new old) (omega (arith, grows h x t i e, rw (t .settings) at (q .stopped some)));
           most = rw (more, length-append new old) (omega (arith, grows h x t i e, rw (t .settings) at (q .most)));
         }
     go (suc k) some next =
-        record { all = λ z. absurd (omega arith); most = omega (arith, windows-rise (h .settings .config) i (suc (length xs))) }
+        record { all = λ z. absurd (omega arith); stopped = λ some. omega arith; most = omega (arith, windows-rise (h .settings .config) i (suc (length xs))) }
 
 from-start : (s : Settings) (h : Handset) → h ≡ fresh s → (xs : List Heard) → CountedFrom (s .config) 0 (length xs) (played h 0 xs)
 unfolding fresh
@@ -57,4 +59,8 @@ windows-counted l good =
     let counted = from-start (settingsOf l) (makeOf (settingsOf l) .handset) (rw good) (broughtIn l) in
     let size = brought-length l 0 (headerOf l .records) in
     let windows = ap (windowsBefore (settingsOf l .config)) (zero-add (length (broughtIn l)) ∙ size) in
-    record { all = λ z. omega (arith, counted .all z, windows); most = omega (arith, counted .most, windows) }
+    record {
+      all = λ z. omega (arith, counted .all z, windows);
+      stopped = λ some. omega (arith, counted .stopped some);
+      most = omega (arith, counted .most, windows);
+    }

@@ -139,7 +139,7 @@ fn play(trace: &[u8], records: u16, start: Handset, out: &mut [u8]) -> Replayed
 }
 
 // The replay of any bytes into any output.
-// The third promise follows from the first; with it a caller may lend the windows that were written.
+// The third promise follows from the other two; with it a caller may lend the windows that were written.
 pub fn replay(trace: &[u8], out: &mut [u8]) -> Replayed
     ensures { λ r. ⌜ r ≡ replayOf (now (trace .entry)) (length (now (out .entry))) ⌝ }
     ensures { λ _. ⌜ now (out .exit) ≡ outputOf (now (trace .entry)) (now (out .entry)) ⌝ }

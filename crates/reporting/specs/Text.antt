@@ -8,6 +8,7 @@ use Rattle.counting.specs.Windows.{windowsBefore}
 use Rattle.line.specs.Ascii.{bytes}
 use Rattle.line.specs.Decimal.{decimal}
 use Rattle.replaying.specs.declared.Replayed.{Replayed}
+use Rattle.reply.specs.Kinds.{kindBundled}
 use Rattle.replaying.specs.Replay.{replayStopped}
 use Rattle.trace.specs.Trace.{byteAt, numberAt, settingsOf}
 
@@ -16,7 +17,7 @@ unfoldable pub frameOf : ℕ → ℕ → ℕ
 frameOf c w = cond (eqb (windowsBefore c 10) 0) 0 (w / windowsBefore c 10)
 
 abbrev pub kindText : ℕ → List ℕ
-kindText kind = cond (eqb kind 1) (bytes "bundled") (bytes "multiplexed")
+kindText kind = cond (eqb kind kindBundled) (bytes "bundled") (bytes "multiplexed")
 
 -- What was sent: the kind, the resource and the two bits; nothing in a silent window.
 unfoldable pub sentText : ℕ → ℕ → ℕ → ℕ → List ℕ

@@ -11,7 +11,7 @@ use lib.ListN.{length}
 use borrow.Author.Tests.{leb-true, le-leb, eqb-true, eqb-false, eq-eqb}
 use Rattle.frame.specs.Settings.{orElse}
 use Rattle.trace.specs.declared.Header.{Header}
-use Rattle.trace.specs.Exactly.{Apart, PartsFit, RightLength, RefusedExactly}
+use Rattle.trace.specs.Exactly.{Apart, PartsFit, RightLength, KindsKnown, RefusedExactly}
 use Rattle.trace.specs.Trace.{byteAt, headerOf, Part, headerPart, settingsPart, recordsPart, apart, within, settingsFit, recordsFit, lengthRefusal, partsRefusal, placeOf, kindsKnown, traceRefusal}
 use Rattle.trace.proofs.Known.{both, kind-known}
 
@@ -100,6 +100,17 @@ first-met true false c = (λ e. absurd (omega arith), λ e. absurd (false≢true
 first-met true true true = (λ e. absurd (omega arith), λ e. absurd (false≢true (sym e)))
 first-met true true false = (λ e. absurd (omega arith), λ e. absurd (false≢true (sym e)))
 
+later-met : (a b c : Bool) → (tested a b c ≡ 22) ↔ ((a ≡ true) × ((b ≡ true) × (c ≡ true) → ⊥))
+later-met false b c = (λ e. absurd (omega arith), λ e. absurd (false≢true (e .0)))
+later-met true false c = (λ e. (refl, λ f. false≢true (f .0)), λ e. refl)
+later-met true true true = (λ e. absurd (omega arith), λ e. absurd (e .1 (refl, refl)))
+later-met true true false = (λ e. (refl, λ f. false≢true (f .1)), λ e. refl)
+
+parts-met : (a b : Bool) → (_≡_ {A = ℕ} (orElse (cond a 0 21) (cond b 0 22)) 0) ↔ ((a ≡ true) × (b ≡ true))
+parts-met false b = (λ e. absurd (omega arith), λ e. absurd (false≢true (e .0)))
+parts-met true false = (λ e. absurd (omega arith), λ e. absurd (false≢true (e .1)))
+parts-met true true = (λ e. (refl, refl), λ e. refl)
+
 none-met : (a b c : Bool) → (tested a b c ≡ 0) ↔ ((a ≡ true) × (b ≡ true) × (c ≡ true))
 none-met false b c = (λ e. absurd (omega arith), λ e. absurd (false≢true (e .0)))
 none-met true false c = (λ e. absurd (omega arith), λ e. absurd (false≢true (e .1)))
@@ -127,17 +138,25 @@ unfolding traceRefusal partsRefusal lengthRefusal
 exactly l =
     record {
       twentyOne = (λ e r. false≢true (sym (first .0 e) ∙ so-right r), λ h. first .1 (not-so a (λ e. h (right-so e))));
+      twentyTwo = (
+        λ e.
+            let p = later .0 e in
+            (right-so (p .0), λ f. p .1 (so-parts (right-so (p .0)) (f .0), so-kinds (f .1))),
+        λ r. later .1 (so-right (r .0), λ f. r .1 (parts-so (r .0) (f .0), kinds-so (f .1))),
+      );
       none = (
         λ e.
             let p = none .0 e in
-            let r = right-so (p .0) in
-            let f = both (settingsFit (headerOf l)) (recordsFit (headerOf l)) (p .1) in
-            (r, fit-so (headerOf l) (rw (r .1) at (r .0)) (f .0) (f .1), λ i h. leb-true _ 3 (kind-known l (headerOf l .first) (headerOf l .records) i (p .2) h)),
-        λ r.
-            let f = so-fit (headerOf l) (rw (r .0 .1) at (r .0 .0)) (r .1) in
-            none .1 (so-right (r .0), rw (f .0) (f .1), all-known l (headerOf l .first) (headerOf l .records) (r .2)),
+            (right-so (p .0), parts-so (right-so (p .0)) (p .1), kinds-so (p .2)),
+        λ r. none .1 (so-right (r .0), so-parts (r .0) (r .1), so-kinds (r .2)),
       );
       noOther = one-met a b c;
+      parts = (
+        λ e.
+            let p = parts .0 e in
+            (right-so (p .0), parts-so (right-so (p .0)) (p .1)),
+        λ r. parts .1 (so-right (r .0), so-parts (r .0) (r .1)),
+      );
     }
   where
     a : Bool
@@ -154,6 +173,28 @@ exactly l =
 
     none : (tested a b c ≡ 0) ↔ ((a ≡ true) × (b ≡ true) × (c ≡ true))
     none = none-met a b c
+
+    later : (tested a b c ≡ 22) ↔ ((a ≡ true) × ((b ≡ true) × (c ≡ true) → ⊥))
+    later = later-met a b c
+
+    parts : (_≡_ {A = ℕ} (orElse (cond a 0 21) (cond b 0 22)) 0) ↔ ((a ≡ true) × (b ≡ true))
+    parts = parts-met a b
+
+    parts-so : RightLength l → b ≡ true → PartsFit (headerOf l)
+    parts-so r e =
+        let f = both (settingsFit (headerOf l)) (recordsFit (headerOf l)) e in
+        fit-so (headerOf l) (rw (r .1) at (r .0)) (f .0) (f .1)
+
+    so-parts : RightLength l → PartsFit (headerOf l) → b ≡ true
+    so-parts r f =
+        let p = so-fit (headerOf l) (rw (r .1) at (r .0)) f in
+        rw (p .0) (p .1)
+
+    kinds-so : c ≡ true → KindsKnown l
+    kinds-so e i h = leb-true _ 3 (kind-known l (headerOf l .first) (headerOf l .records) i e h)
+
+    so-kinds : KindsKnown l → c ≡ true
+    so-kinds k = all-known l (headerOf l .first) (headerOf l .records) k
 
     right-so : a ≡ true → RightLength l
     right-so e =

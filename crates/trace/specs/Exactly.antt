@@ -6,7 +6,7 @@ use mathlib.Core.Logic.{_⊎_, _↔_}
 use mathlib.Core.Path.{_≡_}
 use lib.ListN.{length}
 use Rattle.trace.specs.declared.Header.{Header}
-use Rattle.trace.specs.Trace.{byteAt, headerOf, Part, headerPart, settingsPart, recordsPart, placeOf, traceRefusal}
+use Rattle.trace.specs.Trace.{byteAt, headerOf, Part, headerPart, settingsPart, recordsPart, placeOf, partsRefusal, traceRefusal}
 
 -- Byte i belongs to a part. No byte belongs to the records where there are none, wherever their offset says they begin.
 abbrev pub Holds : Part → ℕ → Type 0
@@ -40,5 +40,8 @@ KindsKnown l = (i : ℕ) → i < headerOf l .records → byteAt l (placeOf (head
 -- 21 and 22 are given for their causes and no other.
 pub record RefusedExactly (l : List ℕ) : Type 0 where
   pub twentyOne : (traceRefusal l ≡ 21) ↔ (RightLength l → ⊥)
+  pub twentyTwo : (traceRefusal l ≡ 22) ↔ (RightLength l × (PartsFit (headerOf l) × KindsKnown l → ⊥))
   pub none : (traceRefusal l ≡ 0) ↔ (RightLength l × PartsFit (headerOf l) × KindsKnown l)
   pub noOther : (traceRefusal l ≡ 0) ⊎ ((traceRefusal l ≡ 21) ⊎ (traceRefusal l ≡ 22))
+  -- what the reader looks at, whatever the kinds
+  pub parts : (partsRefusal l ≡ 0) ↔ (RightLength l × PartsFit (headerOf l))

@@ -55,7 +55,7 @@ settingsPart h = record { from = h .settings; past = h .settings + 10 }
 abbrev pub recordsPart : Header → Part
 recordsPart h = record { from = h .first; past = h .first + 4 * h .records }
 
--- No byte of one part is a byte of the other, and no byte of a part is past the trace's `size` bytes (proofs/Parts.antt).
+-- No byte of one part is a byte of the other, and no byte of a part is past the trace's `size` bytes (specs/Exactly.antt).
 abbrev pub apart : Part → Part → Bool
 apart p q = leb (p .past) (q .from) || leb (q .past) (p .from)
 
