@@ -1,11 +1,12 @@
 -- The reader's answers: a refusal of the parts, and the records of a trace that is not refused. Assumes nothing.
-use Prim.Native.Nat.{ℕ, zero, suc, _<_}
+use Prim.Native.Nat.{ℕ, zero, suc, _+_, _<_}
 use mathlib.Core.List.{List}
 use mathlib.Core.Path.{_≡_, ap}
+use native.Mathlib.Omega.{arith}
 use borrow.Author.Tests.{lt-ltb}
 use Rattle.reader.specs.declared.Record.{Record}
 use Rattle.reader.specs.declared.Record.the-variants.{Refused, At}
-use Rattle.reader.specs.Reading.{heardOf}
+use Rattle.reader.specs.Reading.{followingOf, heardOf}
 use Rattle.reader.specs.Record.{slotAt, usedIn, broughtBy, recordSlot, broughtAt, readAs, refusedOr, recordOf}
 use Rattle.trace.specs.Trace.{headerOf, traceRefusal}
 use Rattle.trace.proofs.Known.{in-order}
@@ -29,3 +30,8 @@ module _ (l : List ℕ) (accepted : traceRefusal l ≡ 0) (i : ℕ) (inside : i 
   pub record-heard : heardOf (recordOf l i) ≡ broughtAt l i
   unfolding broughtAt broughtBy
   record-heard = ap heardOf record-read
+
+-- The number after one that a trace may have.
+pub next-number : (i : ℕ) → i < 65536 → followingOf i ≡ i + 1
+unfolding followingOf
+next-number i h = rw (lt-ltb i 18446744073709551615 (omega arith))

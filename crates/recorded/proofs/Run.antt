@@ -330,9 +330,9 @@ module _ (l : List ℕ) (good : settingsRefusal (settingsOf l) ≡ 0) where
   windows i h none has =
       let cause : causeIn set (heardInRun set (runOf l)) (0 + i) (getD (broughtIn l) i Nothing) ≡ 0 = rw (zero-add i, records-fed i h) (rw (at i h .count) at none) in
       let taken : refusalIn (answerTo l (0 + i)) ≡ 0 =
-            ap refusalIn (answered i h)
-            ∙ ap (λ (items : List Item). refusalIn (feedOf (handsetAfter feedOf (after set []) (take i items)) (getD (broughtIn l) i Nothing) .answer)) (sym run-is)
-            ∙ at i h .refused ∙ cause in
+      ap refusalIn (answered i h)
+      ∙ ap (λ (items : List Item). refusalIn (feedOf (handsetAfter feedOf (after set []) (take i items)) (getD (broughtIn l) i Nothing) .answer)) (sym run-is)
+      ∙ at i h .refused ∙ cause in
       let q = window-at set good (broughtIn l) [] tt (answerTo l) (λ i h. answered i (rw (← run-is) at h)) i (rw run-is at h) taken (rw (zero-add i) has) in
       let z : 8 * windowsBefore (set .config) i - 0 ≡ 8 * windowsBefore (set .config) i = omega arith in
       rw (zero-add i, z, ← play-is) at q

@@ -2,7 +2,7 @@
 use Prim.Native.Nat.{ℕ, zero, suc, _+_, _-_, _*_, _/_, _%_, _≤_, _<_}
 use mathlib.Core.Bool.{cond}
 use mathlib.Core.List.{List, [], _∷_, _++_, append-assoc, append-nil}
-use mathlib.Core.Path.{_≡_, refl, sym, ap, _∙_}
+use mathlib.Core.Path.{_≡_, refl, sym, ap, subst, _∙_}
 use native.Mathlib.Numerals.{add-one}
 use native.Mathlib.Omega.{arith}
 use lib.Dec.{eqb}
@@ -49,7 +49,7 @@ module _ (l : List ℕ) (records : ℕ) (h₀ : Handset) (old : List ℕ) where
     pub left : after (take at out) (played h i (broughtFrom l i (records - i))) ≡ whole
 
   module _ (ready : Ready l records h₀ old) where
-    pub begins : Playing old h₀ 0 0
+    begins : Playing old h₀ 0 0
     unfolding windowsBefore broughtIn
     begins =
         let all : records - 0 ≡ records = omega arith in
@@ -62,6 +62,9 @@ module _ (l : List ℕ) (records : ℕ) (h₀ : Handset) (old : List ℕ) where
           next = ready .begins;
           left = rw (all, ready .all);
         }
+
+    pub begins-at : (i : ℕ) → i ≡ 0 → Playing old h₀ i 0
+    begins-at i e = subst (λ (k : ℕ). Playing old h₀ k 0) (sym e) begins
 
     module _ (out : List ℕ) (h : Handset) (i at : ℕ) (p : Playing out h i at) where
       -- Where the next window's bytes begin is inside the output, or at its end.

@@ -103,18 +103,19 @@ fn put_answer(out: &mut [u8], at: usize, n: u16, answer: Answer) -> usize
     }
 }
 
-// Feeds the records one by one, from a fresh handset, up to the first refusal. Whatever a record brings, and whatever the trace has
+// Feeds the records one by one, as a reader gives them, from a fresh handset, up to the first refusal. Whatever a record brings, and whatever the trace has
 // become, a subframe writes eight bytes or none by the handset's settings and number alone, so nothing is written outside.
 fn play(trace: &[u8], records: u16, start: Handset, out: &mut [u8]) -> Replayed
     requires { ⌜ Ready (now trace) records start (now out) ⌝ }
     ensures { λ r. ⌜ r ≡ endedAs (played start 0 (broughtIn (now (trace .entry)))) ⌝ }
     ensures { λ _. ⌜ now (out .exit) ≡ written (played start 0 (broughtIn (now (trace .entry))) .bytes) (now (out .entry)) ⌝ }
 {
+    let count = records as usize;
     let mut h = start;
-    let mut i: u16 = 0;
+    let mut i = reader::first_number(trace);
     let mut at: usize = 0;
-    while i < records {
-        let x = reader::heard_at(trace, i as usize);
+    while i < count {
+        let x = reader::heard_at(trace, i);
         let fed = handset::feed(h, x);
         let answer = fed.answer;
         let refusal = refusal_in(answer);
@@ -122,13 +123,13 @@ fn play(trace: &[u8], records: u16, start: Handset, out: &mut [u8]) -> Replayed
             return Replayed {
                 refusal,
                 kind: STOPPED,
-                number: i,
+                number: i as u16,
                 windows: (at / 8) as u16,
             };
         }
         at = put_answer(out, at, h.next, answer);
         h = fed.handset;
-        i += 1;
+        i = reader::number_after(trace, i);
     }
     Replayed {
         refusal: 0,
