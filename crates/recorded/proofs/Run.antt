@@ -171,8 +171,9 @@ module _ (set : Settings) (good : settingsRefusal set ≡ 0) where
       → ((i : ℕ) → i < length (feedsFrom (after set l) xs)
       → answers (length l + i) ≡ feedOf (handsetAfter feedOf (after set l) (take i (feedsFrom (after set l) xs))) (getD xs i Nothing) .answer)
       → (j : ℕ) → j < length (feedsFrom (after set l) xs) → refusalIn (answers (length l + j)) ≡ 0 → hasWindow (set .config) ((length l + j) % 10) ≡ true
-      → take 8 (drop (8 * windowsBefore (set .config) (length l + j) - 8 * windowsBefore (set .config) (length l)) (played (after set l) (length l) xs .bytes))
-      ≡ bytesOf ((length l + j) % 10) (answers (length l + j))
+      → (take 8 (drop (8 * windowsBefore (set .config) (length l + j) - 8 * windowsBefore (set .config) (length l)) (played (after set l) (length l) xs .bytes))
+      ≡ bytesOf ((length l + j) % 10) (answers (length l + j)))
+      × (length (bytesOf ((length l + j) % 10) (answers (length l + j))) ≡ 8)
   window-at [] l valid answers each j h none has = absurd (not-suc-le-zero (rw (feeds-none (after set l)) at h))
   window-at (x ∷ xs) l valid answers each j h none has = go (causeAfter set l x) refl j h none has (window-at xs (x ∷ l))
     where
@@ -182,10 +183,12 @@ module _ (set : Settings) (good : settingsRefusal set ≡ 0) where
           → ((i : ℕ) → i < length (feedsFrom (after set (x ∷ l)) xs)
           → answers (suc (length l) + i) ≡ feedOf (handsetAfter feedOf (after set (x ∷ l)) (take i (feedsFrom (after set (x ∷ l)) xs))) (getD xs i Nothing) .answer)
           → (j : ℕ) → j < length (feedsFrom (after set (x ∷ l)) xs) → refusalIn (answers (suc (length l) + j)) ≡ 0 → hasWindow (set .config) ((suc (length l) + j) % 10) ≡ true
-          → take 8 (drop (8 * windowsBefore (set .config) (suc (length l) + j) - 8 * windowsBefore (set .config) (suc (length l))) (played (after set (x ∷ l)) (suc (length l)) xs .bytes))
+          → (take 8 (drop (8 * windowsBefore (set .config) (suc (length l) + j) - 8 * windowsBefore (set .config) (suc (length l))) (played (after set (x ∷ l)) (suc (length l)) xs .bytes))
           ≡ bytesOf ((suc (length l) + j) % 10) (answers (suc (length l) + j)))
-          → take 8 (drop (8 * windowsBefore (set .config) (length l + j) - 8 * windowsBefore (set .config) (length l)) (played (after set l) (length l) (x ∷ xs) .bytes))
-          ≡ bytesOf ((length l + j) % 10) (answers (length l + j))
+          × (length (bytesOf ((suc (length l) + j) % 10) (answers (suc (length l) + j))) ≡ 8))
+          → (take 8 (drop (8 * windowsBefore (set .config) (length l + j) - 8 * windowsBefore (set .config) (length l)) (played (after set l) (length l) (x ∷ xs) .bytes))
+          ≡ bytesOf ((length l + j) % 10) (answers (length l + j)))
+          × (length (bytesOf ((length l + j) % 10) (answers (length l + j))) ≡ 8)
       go zero e zero h none has next =
           let each′ = rw (feeds-on x xs l valid e) at each in
           let here : answers (length l) ≡ feedOf (after set l) x .answer = ap answers (sym (add-zero (length l))) ∙ each′ 0 (omega arith) in
@@ -194,7 +197,7 @@ module _ (set : Settings) (good : settingsRefusal set ≡ 0) where
           let new : List ℕ = bytesOf (length l % 10) (feedOf (after set l) x .answer) in
           let size : length new ≡ 8 = rw has′ at (t .gives .size) in
           let none′ : 8 * windowsBefore (set .config) (length l) - 8 * windowsBefore (set .config) (length l) ≡ 0 = omega arith in
-          rw (add-zero (length l), none′, plays-on x xs l valid e, here) (take-at new _ 8 size)
+          rw (add-zero (length l), none′, plays-on x xs l valid e, here) (take-at new _ 8 size, size)
       go zero e (suc j) h none has next =
           let each′ = rw (feeds-on x xs l valid e) at each in
           let s : length l + suc j ≡ suc (length l) + j = omega arith in
@@ -325,7 +328,7 @@ module _ (l : List ℕ) (good : settingsRefusal (settingsOf l) ≡ 0) where
   tells room e = rw e
 
   windows : (i : ℕ) → i < length (runOf l) → causeAt set (runOf l) i (broughtAt l i) ≡ 0 → hasWindow (set .config) (i % 10) ≡ true
-      → take 8 (drop (8 * windowsBefore (set .config) i) (playedIn l .bytes)) ≡ bytesOf (i % 10) (answerTo l i)
+      → (take 8 (drop (8 * windowsBefore (set .config) i) (playedIn l .bytes)) ≡ bytesOf (i % 10) (answerTo l i)) × (length (bytesOf (i % 10) (answerTo l i)) ≡ 8)
   unfolding windowsBefore
   windows i h none has =
       let cause : causeIn set (heardInRun set (runOf l)) (0 + i) (getD (broughtIn l) i Nothing) ≡ 0 = rw (zero-add i, records-fed i h) (rw (at i h .count) at none) in

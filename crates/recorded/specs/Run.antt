@@ -57,7 +57,7 @@ pub record IsRun (l : List ℕ) : Type 0 where
   pub prints : playedIn l .bytes ≡ bytesFrom (answerTo l) 0 (length (runOf l))
   -- the window of subframe i behind those of the subframes before it,
   pub window : (i : ℕ) → i < length (runOf l) → causeAt (settingsOf l) (runOf l) i (broughtAt l i) ≡ 0 → hasWindow (settingsOf l .config) (i % 10) ≡ true
-      → take 8 (drop (8 * windowsBefore (settingsOf l .config) i) (playedIn l .bytes)) ≡ bytesOf (i % 10) (answerTo l i)
+      → (take 8 (drop (8 * windowsBefore (settingsOf l .config) i) (playedIn l .bytes)) ≡ bytesOf (i % 10) (answerTo l i)) × (length (bytesOf (i % 10) (answerTo l i)) ≡ 8)
   -- and that is what a replay with room enough leaves in its output, and what it tells
   pub output : (old : List ℕ) → startRefusal l (length old) ≡ 0 → outputOf l old ≡ written (bytesFrom (answerTo l) 0 (length (runOf l))) old
   pub told : (room : ℕ) → startRefusal l room ≡ 0 → replayOf l room ≡ endedAs (playedIn l)

@@ -1,2 +1,3 @@
 pub mod Frame
 pub mod Lines
+pub mod Named
