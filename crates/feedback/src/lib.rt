@@ -43,7 +43,24 @@ pub extern "C" fn feedback_layout_3() -> u16
 pub extern "C" fn feedback_window(settings: Settings, n: u16) -> WindowAnswer
     ensures { λ r. ⌜ r ≡ windowAnswer settings n ⌝ }
 {
-    numbers::window_numbers(settings, n)
+    let refusal = frame::window_refusal(settings, n);
+    if refusal != 0 {
+        return WindowAnswer {
+            refusal,
+            size: 0,
+            k: [0; 9],
+            order: [0; 9],
+        };
+    }
+    let w = frame::window_of(settings.config, n);
+    let k = w.k;
+    let order = w.order;
+    WindowAnswer {
+        refusal: 0,
+        size: w.size,
+        k,
+        order,
+    }
 }
 
 #[no_mangle]

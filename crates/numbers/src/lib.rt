@@ -1,7 +1,6 @@
 // The engine's answers as numbers, as a C caller gets them: the refusal, 0 for none, and the values, which are 0 where they say
 // nothing. The calls themselves are in `feedback`.
 use claims::Checked;
-use frame::Settings;
 use handset::Fed;
 use handset::Handset;
 use heard::Slot;
@@ -13,7 +12,7 @@ use station::Place;
 use station::Reading;
 use station::Told;
 ghost use mathlib.Core.Path.{_≡_};
-ghost use Rattle.numbers.specs.Answers.{windowAnswer, resourceAnswer, inverseAnswer, toldPosition, placeAnswer, readingAnswer, claimsAnswer, noReply, answerNumbers, fedAnswer, noRecord, recordAnswer};
+ghost use Rattle.numbers.specs.Answers.{resourceAnswer, inverseAnswer, toldPosition, placeAnswer, readingAnswer, claimsAnswer, noReply, answerNumbers, fedAnswer, noRecord, recordAnswer};
 
 // The kinds of a reading and of a feed, then those of claims and of a record, as reply/specs/Kinds.antt and specs/Kinds.antt have them.
 const KIND_REFUSED: u16 = 0;
@@ -103,30 +102,6 @@ pub struct RecordAnswer {
     pub refusal: u16,
     pub kind: u16,
     pub slot: Slot,
-}
-
-// The window of uplink subframe n.
-pub fn window_numbers(settings: Settings, n: u16) -> WindowAnswer
-    ensures { λ r. ⌜ r ≡ windowAnswer settings n ⌝ }
-{
-    let refusal = frame::window_refusal(settings, n);
-    if refusal != 0 {
-        return WindowAnswer {
-            refusal,
-            size: 0,
-            k: [0; 9],
-            order: [0; 9],
-        };
-    }
-    let w = frame::window_of(settings.config, n);
-    let k = w.k;
-    let order = w.order;
-    WindowAnswer {
-        refusal: 0,
-        size: w.size,
-        k,
-        order,
-    }
 }
 
 pub fn resource_numbers(x: Mapped) -> ResourceAnswer

@@ -1,13 +1,13 @@
--- `numbers::window_numbers` meets its contract: the refusal, with zeros, or the window of the frame. Assumes nothing.
+-- `feedback::feedback_window` meets its contract: the refusal, with zeros, or the window of the frame. Assumes nothing.
 use Prim.Native.Nat.{ℕ, zero, suc}
 use mathlib.Core.List.{List, []}
 use mathlib.Core.Path.{_≡_, sym, _∙_}
 use borrow.Author.Needs.{needs}
 use Rattle.frame.specs.Coded.{padded}
 use Rattle.numbers.specs.declared.WindowAnswer.{WindowAnswer}
 use Rattle.numbers.specs.Answers.{windowAs, windowAnswer}
-use Rattle.numbers.proofs.window_numbers.Statement.{statement}
-use Rattle.numbers.proofs.window_numbers.Tie as tie
+use Rattle.feedback.proofs.feedback_window.Statement.{statement}
+use Rattle.feedback.proofs.feedback_window.Tie as tie
 
 refused : (r a : ℕ) (ks : List ℕ) → r ≡ a → (r ≡ 0 → ⊥)
     → _≡_ {A = WindowAnswer} (record { refusal = r; size = 0; k = padded 9 []; order = padded 9 [] }) (windowAs a ks)
@@ -32,5 +32,5 @@ returns-2 c =
       c .before .before .window-of .ensures,
     )
 
-pub window-numbers-spec : {M : Type 1} → statement M
-window-numbers-spec = tie.close (tie.spec window-refusal-requires returns window-of-requires returns-2)
+pub feedback-window-spec : {M : Type 1} → statement M
+feedback-window-spec = tie.close (tie.spec window-refusal-requires returns window-of-requires returns-2)
