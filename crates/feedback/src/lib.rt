@@ -18,6 +18,7 @@ use numbers::WindowAnswer;
 use replaying::Replayed;
 use resource::Cce;
 use resource::Resource;
+use spelling::Written;
 ghost use mathlib.Core.Path.{_≡_};
 ghost use Rattle.frame.specs.Distance.{answeredOf};
 ghost use Rattle.resource.specs.Calls.{resourceOf, inverseOf};
@@ -30,6 +31,7 @@ ghost use Rattle.handset.specs.Make.{makeOf};
 ghost use Rattle.heard.specs.declared.Heard.the-variants.{Nothing};
 ghost use Rattle.replaying.specs.Replay.{replayOf, outputOf};
 ghost use Rattle.reader.specs.Record.{recordOf};
+ghost use Rattle.spelling.specs.Writing.{writeOf, spelledInto};
 
 // The number of the structs' layout, which the name carries too: a program that was compiled for another layout does not link.
 #[no_mangle]
@@ -196,4 +198,12 @@ pub extern "C" fn feedback_record(trace: &[u8], next: usize) -> RecordAnswer
     ensures { λ r. ⌜ r ≡ recordAnswer (recordOf (now (trace .entry)) next) ⌝ }
 {
     numbers::record_numbers(reader::read_at(trace, next))
+}
+
+#[no_mangle]
+pub extern "C" fn feedback_trace_write(trace: &[u8], out: &mut [u8]) -> Written
+    ensures { λ r. ⌜ r ≡ writeOf (now (trace .entry)) (length (now (out .entry))) ⌝ }
+    ensures { λ _. ⌜ now (out .exit) ≡ spelledInto (now (trace .entry)) (now (out .entry)) ⌝ }
+{
+    spelling::write(trace, out)
 }

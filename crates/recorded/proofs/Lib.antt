@@ -1,3 +1,4 @@
 pub mod Lines
 pub mod Run
+pub mod Spelled
 pub mod Worked

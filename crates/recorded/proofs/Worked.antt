@@ -18,12 +18,12 @@ use Rattle.recorded.specs.Run.{feedsFrom, runOf}
 use Rattle.recorded.proofs.Run.{is-run}
 
 -- The definitions that a replay computes with, beside those of the handset.
-unfoldable replays : Unit {0}
+unfoldable pub replays : Unit {0}
 unfolding handsets hasWindow windowsBefore numberAt headerOf settingsAt settingsOf settingsFit recordsFit lengthRefusal partsRefusal kindsKnown traceRefusal slotAt usedResults usedIn broughtBy recordSlot broughtAt broughtIn played playedIn outputNeeded startRefusal replayOf outputOf windowBytes feedsFrom runOf
 replays = tt
 
 -- Configuration 1, N_RB 50, mode 0, one block, special configuration 7, normal prefix, N1 10, no scheduled resource.
-abbrev settings : List ℕ
+abbrev pub settings : List ℕ
 settings = 1 ∷ 50 ∷ 0 ∷ 1 ∷ 7 ∷ 0 ∷ 10 ∷ 0 ∷ 255 ∷ 255 ∷ []
 
 -- Eight records at 18, settings at 8, 50 bytes: grants of DAI 1 and 2 with first CCEs 3 and 10, both decoded, then nothing; the bits

@@ -11,7 +11,7 @@ fn main() {
     let replayed = replaying::replay(&input[..n], &mut out);
     let size = 8 * replayed.windows as usize;
     io::write_all(STDOUT_FILENO, &out[..size]);
-    let line = reporting::refusal_line(replayed);
+    let line = reporting::refusal_line(replayed.refusal, replayed.kind, replayed.number);
     let length = line.size;
     let text = line.text;
     io::write_all(STDERR_FILENO, &text[..length]);

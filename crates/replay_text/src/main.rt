@@ -16,7 +16,7 @@ fn main() {
         io::write_all(STDOUT_FILENO, &text[..length]);
         w += 1;
     }
-    let line = reporting::refusal_line(replayed);
+    let line = reporting::refusal_line(replayed.refusal, replayed.kind, replayed.number);
     let length = line.size;
     let text = line.text;
     io::write_all(STDOUT_FILENO, &text[..length]);

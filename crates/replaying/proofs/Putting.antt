@@ -1,11 +1,11 @@
 -- Bytes put at a place of a list: what stands before and after them, and that eight stores put eight bytes. Assumes nothing.
 use Prim.Native.Nat.{ℕ, suc, _+_, _≤_}
-use mathlib.Core.List.{List, [], _∷_, _++_, append-nil}
+use mathlib.Core.List.{List, [], _∷_, _++_, append-assoc, append-nil}
 use mathlib.Core.Path.{_≡_, refl, sym}
 use native.Mathlib.Nat.{add-zero}
 use native.Mathlib.Omega.{arith}
 use lib.ListN.{length, take, drop, set, length-append, length-drop, take-append-drop}
-use lib.Seq.{length-take-le, take-at, drop-at, sets-eq}
+use lib.Seq.{length-take-le, take-at, drop-at, drop-drop, sets-eq}
 use Rattle.reply.specs.declared.Answer.{Answer}
 use Rattle.reply.specs.declared.Answer.the-variants.{Sent}
 use Rattle.reply.specs.declared.Reply.{Reply}
@@ -44,6 +44,13 @@ module _ (l : List ℕ) (at : ℕ) where
     pub length-put : length (putAt at new l) ≡ length l
     length-put =
         rw (length-append (take at l ++ new) (drop (at + length new) l), front, length-drop (at + length new) l) (omega arith)
+
+    -- Bytes put behind them.
+    pub put-more : (more : List ℕ) → at + length new + length more ≤ length l
+        → putAt (at + length new) more (putAt at new l) ≡ putAt at (new ++ more) l
+    put-more more p =
+        let size : at + length new + length more ≡ at + length (new ++ more) = rw (length-append new more) (omega arith) in
+        rw (take-put, append-assoc (take at l) new more, ← drop-drop (length more) (at + length new) (putAt at new l), drop-put, drop-drop (length more) (at + length new) l, size)
 
 -- What an answer puts, from its case: nothing, or a window's eight bytes.
 module _ (answer : Answer) (n at : ℕ) (out : List ℕ) where

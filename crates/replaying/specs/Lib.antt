@@ -1,3 +1,4 @@
+pub mod Accepted
 pub mod Counts
 pub mod Ready
 pub mod Replay

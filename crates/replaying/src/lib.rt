@@ -27,7 +27,7 @@ pub struct Replayed {
 }
 
 // The refusal of an answer, 0 for none.
-fn refusal_in(answer: Answer) -> u16
+pub fn refusal_in(answer: Answer) -> u16
     ensures { λ r. ⌜ r ≡ refusalIn answer ⌝ }
 {
     match answer {

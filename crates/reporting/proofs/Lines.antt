@@ -13,7 +13,6 @@ use Rattle.line.specs.Decimal.{decimal}
 use Rattle.line.specs.Put.{paged, putOf, added}
 use Rattle.line.proofs.Adding.{added-append, added-digits, decimal-most}
 use Rattle.line.proofs.Paged.{alone}
-use Rattle.replaying.specs.declared.Replayed.{Replayed}
 use Rattle.replaying.specs.Replay.{replayStopped}
 use Rattle.reporting.specs.Text.{kindText, sentText, lineText, refusalText}
 
@@ -57,28 +56,28 @@ unfolding added
 put-two p a b e = rw (added-append p a b) (added-append p (a ++ b) (e ∷ []))
 
 -- A refusal's line: no text, or one with a record's number or without.
-module _ (a : Replayed) where
-  refusal-most : length (refusalText a) ≤ 100
+module _ (refusal kind number : ℕ) where
+  refusal-most : length (refusalText refusal kind number) ≤ 100
   unfolding refusalText
-  refusal-most = go (eqb (a .refusal) 0) (eqb (a .kind) replayStopped)
+  refusal-most = go (eqb refusal 0) (eqb kind replayStopped)
     where
-      go : (b c : Bool) → length (cond b [] ((bytes "refused " ++ decimal (a .refusal)) ++ cond c (bytes " at record " ++ decimal (a .number)) [] ++ 10 ∷ [])) ≤ 100
+      go : (b c : Bool) → length (cond b [] ((bytes "refused " ++ decimal refusal) ++ cond c (bytes " at record " ++ decimal number) [] ++ 10 ∷ [])) ≤ 100
       go true c = omega arith
-      go false true = simp length-append (omega (arith, decimal-most (a .refusal), decimal-most (a .number)))
-      go false false = simp length-append (omega (arith, decimal-most (a .refusal)))
+      go false true = simp length-append (omega (arith, decimal-most refusal, decimal-most number))
+      go false false = simp length-append (omega (arith, decimal-most refusal))
 
-  pub no-refusal : (r : Line) → eqb (a .refusal) 0 ≡ true → r ≡ paged [] → (r ≡ paged (refusalText a)) × Counts (r .size) (r .text)
+  pub no-refusal : (r : Line) → eqb refusal 0 ≡ true → r ≡ paged [] → (r ≡ paged (refusalText refusal kind number)) × Counts (r .size) (r .text)
   unfolding refusalText added
-  no-refusal r none e = alone (refusalText a) r refusal-most (rw none e)
+  no-refusal r none e = alone (refusalText refusal kind number) r refusal-most (rw none e)
 
-  module _ (some : eqb (a .refusal) 0 ≡ false) where
-    pub refusal-put : (r : Line) → eqb (a .kind) replayStopped ≡ false → r ≡ putOf (added (paged []) (bytes "refused " ++ decimal (a .refusal))) 10
-        → (r ≡ paged (refusalText a)) × Counts (r .size) (r .text)
+  module _ (some : eqb refusal 0 ≡ false) where
+    pub refusal-put : (r : Line) → eqb kind replayStopped ≡ false → r ≡ putOf (added (paged []) (bytes "refused " ++ decimal refusal)) 10
+        → (r ≡ paged (refusalText refusal kind number)) × Counts (r .size) (r .text)
     unfolding refusalText
-    refusal-put r before e = alone (refusalText a) r refusal-most (rw (some, before) (e ∙ put-one (paged []) _ 10))
+    refusal-put r before e = alone (refusalText refusal kind number) r refusal-most (rw (some, before) (e ∙ put-one (paged []) _ 10))
 
-    pub stop-put : (r : Line) → eqb (a .kind) replayStopped ≡ true
-        → r ≡ putOf (added (added (paged []) (bytes "refused " ++ decimal (a .refusal))) (bytes " at record " ++ decimal (a .number))) 10
-        → (r ≡ paged (refusalText a)) × Counts (r .size) (r .text)
+    pub stop-put : (r : Line) → eqb kind replayStopped ≡ true
+        → r ≡ putOf (added (added (paged []) (bytes "refused " ++ decimal refusal)) (bytes " at record " ++ decimal number)) 10
+        → (r ≡ paged (refusalText refusal kind number)) × Counts (r .size) (r .text)
     unfolding refusalText
-    stop-put r at e = alone (refusalText a) r refusal-most (rw (some, at) (e ∙ put-two (paged []) _ _ 10))
+    stop-put r at e = alone (refusalText refusal kind number) r refusal-most (rw (some, at) (e ∙ put-two (paged []) _ _ 10))

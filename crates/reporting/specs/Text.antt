@@ -1,4 +1,4 @@
--- The text of the programs `replay` and `replay-text`: a line for each window that a replay wrote, and one for its refusal.
+-- The text of the programs over a trace: a line for each window that a replay wrote, and one for a refusal.
 -- Assumes nothing.
 use Prim.Native.Nat.{ℕ, _+_, _*_, _/_}
 use mathlib.Core.Bool.{cond}
@@ -7,7 +7,6 @@ use lib.Dec.{eqb}
 use Rattle.counting.specs.Windows.{windowsBefore}
 use Rattle.line.specs.Ascii.{bytes}
 use Rattle.line.specs.Decimal.{decimal}
-use Rattle.replaying.specs.declared.Replayed.{Replayed}
 use Rattle.reply.specs.Kinds.{kindBundled}
 use Rattle.replaying.specs.Replay.{replayStopped}
 use Rattle.trace.specs.Trace.{byteAt, numberAt, settingsOf}
@@ -36,8 +35,9 @@ windowText l out w =
     lineText (frameOf (settingsOf l .config) w) (byteAt out (8 * w)) (byteAt out (8 * w + 1)) (numberAt out (8 * w + 2))
     (byteAt out (8 * w + 4)) (byteAt out (8 * w + 5))
 
--- The line of a refusal, its newline included; nothing where there is none.
-unfoldable pub refusalText : Replayed → List ℕ
-refusalText r =
-    cond (eqb (r .refusal) 0) []
-    ((bytes "refused " ++ decimal (r .refusal)) ++ cond (eqb (r .kind) replayStopped) (bytes " at record " ++ decimal (r .number)) [] ++ 10 ∷ [])
+-- The line of a refusal, its newline included, from an answer's refusal, kind and record; nothing where there is none. A replay and the
+-- writing of a trace have the same kinds.
+unfoldable pub refusalText : ℕ → ℕ → ℕ → List ℕ
+refusalText refusal kind number =
+    cond (eqb refusal 0) []
+    ((bytes "refused " ++ decimal refusal) ++ cond (eqb kind replayStopped) (bytes " at record " ++ decimal number) [] ++ 10 ∷ [])

@@ -1,16 +1,16 @@
-// The text of the programs `replay` and `replay-text`: a line for each window that a replay wrote, and one for its refusal.
+// The text of the programs over a trace, `replay`, `replay-text` and `spell`: a line for each window that a replay wrote, and one for
+// a refusal.
 use line::Line;
 use line::empty;
 use line::put;
 use line::put_labelled;
 use line::put_text;
-use replaying::Replayed;
 ghost use mathlib.Core.Path.{_≡_};
 ghost use Rattle.io.specs.Counts.{Counts};
 ghost use Rattle.line.specs.Put.{paged, added};
 ghost use Rattle.reporting.specs.Text.{frameOf, kindText, sentText, lineText, windowText, refusalText};
 
-// The kinds of a window's bytes and of a replay's answer that have words of their own.
+// The kinds of a window's bytes and of an answer that have words of their own.
 const SILENT: u8 = 0;
 
 const BUNDLED: u8 = 1;
@@ -83,17 +83,17 @@ pub fn window_line(trace: &[u8], out: &[u8], w: u16) -> Line
     line_of(frame, n, kind, low + 256 * high, b0, b1)
 }
 
-// The line of a replay's refusal, its newline included; no text where there is none.
-pub fn refusal_line(r: Replayed) -> Line
-    ensures { λ p. ⌜ p ≡ paged (refusalText r) ⌝ }
+// The line of a refusal, from an answer's refusal, kind and record, its newline included; no text where there is none.
+pub fn refusal_line(refusal: u16, kind: u16, number: u16) -> Line
+    ensures { λ p. ⌜ p ≡ paged (refusalText refusal kind number) ⌝ }
     ensures { λ p. ⌜ Counts (p .size) (p .text) ⌝ }
 {
-    if r.refusal == 0 {
+    if refusal == 0 {
         return empty();
     }
-    let refused = put_labelled(empty(), b"refused ", r.refusal);
-    if r.kind == STOPPED {
-        return put(put_labelled(refused, b" at record ", r.number), b'\n');
+    let refused = put_labelled(empty(), b"refused ", refusal);
+    if kind == STOPPED {
+        return put(put_labelled(refused, b" at record ", number), b'\n');
     }
     put(refused, b'\n')
 }

@@ -9,7 +9,7 @@ empty-requires : tie.Need-empty-requires
 empty-requires c κs = search needs
 
 returns : tie.Need-returns
-returns c = no-refusal _ _ (eq-eqb _ _ (c .before .if1 .taken)) (c .empty .ensures)
+returns c = no-refusal _ _ _ _ (eq-eqb _ _ (c .before .if1 .taken)) (c .empty .ensures)
 
 empty-requires-2 : tie.Need-empty-requires-2
 empty-requires-2 c κs = search needs
@@ -31,16 +31,16 @@ put-requires c κs = search needs
 
 returns-2 : tie.Need-returns-2
 returns-2 c =
-    stop-put _ (ne-eqb _ _ (c .before .before .before .before .before .before .before .before .if1 .left)) _ (eq-eqb _ _ (c .before .before .before .if2 .taken))
-    (rw (← c .before .before .before .before .before .before .before .empty2 .ensures, ← c .before .before .before .before .before .put-labelled .ensures, ← c .before .put-labelled2 .ensures) (c .put .ensures))
+    stop-put _ _ _ (ne-eqb _ _ (c .before .before .before .before .before .before .before .if1 .left)) _ (eq-eqb _ _ (c .before .before .before .if2 .taken))
+    (rw (← c .before .before .before .before .before .before .empty2 .ensures, ← c .before .before .before .before .put-labelled .ensures, ← c .before .put-labelled2 .ensures) (c .put .ensures))
 
 put-requires-2 : tie.Need-put-requires-2
 put-requires-2 c κs = search needs
 
 returns-3 : tie.Need-returns-3
 returns-3 c =
-    refusal-put _ (ne-eqb _ _ (c .before .before .before .before .before .before .if1 .left)) _ (ne-eqb _ _ (c .before .if2 .left))
-    (rw (← c .before .before .before .before .before .empty2 .ensures, ← c .before .before .before .put-labelled .ensures) (c .put2 .ensures))
+    refusal-put _ _ _ (ne-eqb _ _ (c .before .before .before .before .before .if1 .left)) _ (ne-eqb _ _ (c .before .if2 .left))
+    (rw (← c .before .before .before .before .empty2 .ensures, ← c .before .before .put-labelled .ensures) (c .put2 .ensures))
 
 pub refusal-line-spec : {M : Type 1} → statement M
 refusal-line-spec =
