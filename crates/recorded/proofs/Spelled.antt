@@ -7,7 +7,7 @@ use mathlib.Core.Path.{_≡_, refl, sym, ap, _∙_}
 use native.Mathlib.Omega.{arith}
 use lib.ListN.{replicate, getD}
 use Rattle.trace.specs.Trace.{settingsOf}
-use Rattle.spelling.specs.OneSpelling.{Writes, bytesWritten}
+use Rattle.spelling.specs.OneSpelling.{traceWriter, Writes, bytesWritten}
 use Rattle.spelling.specs.Spelling.{headerBytes, settingsBytes, spellingOf}
 use Rattle.spelling.specs.Used.{SameTrace}
 use Rattle.spelling.specs.Writing.{stopOf, roomRefusal, writeOf, spelledInto}
@@ -22,7 +22,7 @@ spelled-alike l old w =
     (same, rw (same, one-spelling .brought l old w))
 
 -- The definitions that writing computes with, beside those of the replay.
-unfoldable spellings : Unit {0}
+unfoldable pub spellings : Unit {0}
 unfolding replays stopOf roomRefusal writeOf spelledInto headerBytes settingsBytes spellingOf
 spellings = tt
 
@@ -48,15 +48,15 @@ abbrev pub elsewhere : List ℕ
 elsewhere =
     (8 ∷ 0 ∷ 9 ∷ 0 ∷ 41 ∷ 0 ∷ 53 ∷ 0 ∷ []) ++ (7 ∷ []) ++ (1 ∷ 3 ∷ 1 ∷ 233 ∷ 1 ∷ 10 ∷ 2 ∷ 3 ∷ []) ++ (0 ∷ 5 ∷ 6 ∷ 7 ∷ []) ++ replicate 20 0 ++ settings ++ 8 ∷ 8 ∷ []
 
-drive-writes : Writes drive (replicate 50 9)
+drive-writes : Writes traceWriter drive (replicate 50 9)
 unfolding spellings
 drive-writes = refl
 
-elsewhere-writes : Writes elsewhere (replicate 60 5)
+elsewhere-writes : Writes traceWriter elsewhere (replicate 60 5)
 unfolding spellings
 elsewhere-writes = refl
 
-same-bytes : bytesWritten drive (replicate 50 9) ≡ bytesWritten elsewhere (replicate 60 5)
+same-bytes : bytesWritten traceWriter drive (replicate 50 9) ≡ bytesWritten traceWriter elsewhere (replicate 60 5)
 unfolding spellings
 same-bytes = refl
 
@@ -67,11 +67,11 @@ alike = one-spelling .equal drive elsewhere (replicate 50 9) (replicate 60 5) dr
 abbrev pub missed : List ℕ
 missed = (8 ∷ 0 ∷ 18 ∷ 0 ∷ 8 ∷ 0 ∷ 50 ∷ 0 ∷ []) ++ settings ++ (1 ∷ 3 ∷ 1 ∷ 2 ∷ 1 ∷ 10 ∷ 2 ∷ 251 ∷ []) ++ replicate 24 0
 
-missed-writes : Writes missed (replicate 50 9)
+missed-writes : Writes traceWriter missed (replicate 50 9)
 unfolding spellings
 missed-writes = refl
 
-bit-written : (getD (bytesWritten drive (replicate 50 9)) 21 0 ≡ 1) × (getD (bytesWritten missed (replicate 50 9)) 21 0 ≡ 0)
+bit-written : (getD (bytesWritten traceWriter drive (replicate 50 9)) 21 0 ≡ 1) × (getD (bytesWritten traceWriter missed (replicate 50 9)) 21 0 ≡ 0)
 unfolding spellings
 bit-written = (refl, refl)
 

@@ -18,7 +18,7 @@ use Rattle.reader.specs.Record.{broughtAt}
 use Rattle.trace.specs.Trace.{headerOf, settingsOf}
 use Rattle.replaying.specs.Replay.{refusalIn, broughtIn, playedIn, startRefusal, endedAs, replayOf, written, outputOf}
 use Rattle.replaying.specs.Written.{bytesOf}
-use Rattle.spelling.specs.OneSpelling.{Writes, bytesWritten}
+use Rattle.spelling.specs.OneSpelling.{traceWriter, Writes, bytesWritten}
 use Rattle.agreement.specs.Demand3.{feedbackEngine, fedAt, IsFeed, causeAt, HoldsAfter}
 use Rattle.agreement.specs.Run.{Item, feed, subframeAt, Schedule, BringsSent}
 
@@ -68,4 +68,6 @@ pub record IsRun (l : List ℕ) : Type 0 where
 
 -- What is written of a trace (document 02, U4) is the same run, so that demand 3 says the same of both.
 abbrev pub SpelledAlike : List ℕ → List ℕ → Type 0
-SpelledAlike l old = Writes l old → (settingsOf (bytesWritten l old) ≡ settingsOf l) × (runOf (bytesWritten l old) ≡ runOf l)
+SpelledAlike l old =
+    Writes traceWriter l old
+    → (settingsOf (bytesWritten traceWriter l old) ≡ settingsOf l) × (runOf (bytesWritten traceWriter l old) ≡ runOf l)

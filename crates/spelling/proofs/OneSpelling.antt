@@ -18,10 +18,10 @@ use Rattle.trace.proofs.Exactly.{exactly}
 use Rattle.reader.specs.Record.{slotAt, usedIn, recordSlot}
 use Rattle.replaying.specs.Accepted.{AcceptedTrace}
 use Rattle.replaying.specs.Replay.{Played, playedIn, outputNeeded, startRefusal, replayedAs, replayOf, written, outputOf}
-use Rattle.replaying.proofs.Accepting.{roomy, accepted-exactly}
+use Rattle.replaying.proofs.Accepting.{roomy}
 use Rattle.spelling.specs.declared.Stop.{Stop}
 use Rattle.spelling.specs.declared.Written.{Written}
-use Rattle.spelling.specs.OneSpelling.{Writes, bytesWritten, Spells, OneSpelling}
+use Rattle.spelling.specs.OneSpelling.{traceWriter, Writes, bytesWritten, Spells, OneSpelling, LengthEnough}
 use Rattle.spelling.specs.Spelling.{spelledSize, recordsBytes, spellingOf}
 use Rattle.spelling.specs.Used.{SameTrace}
 use Rattle.spelling.specs.Writing.{stopAs, stopOf, roomRefusal, writtenAs, stoppedOr, writeOf, outputAs, spelledInto}
@@ -86,7 +86,7 @@ module _ (l : List ℕ) where
 
   module _ (old : List ℕ) where
     -- It was written: the trace is accepted, and there was room.
-    written-so : Writes l old → AcceptedTrace l × spelledSize (headerOf l .records) ≤ length old
+    written-so : Writes traceWriter l old → AcceptedTrace l × spelledSize (headerOf l .records) ≤ length old
     unfolding writeOf
     written-so e =
         let a = accepted (go (stopOf l .refusal) refl e) in
@@ -101,11 +101,11 @@ module _ (l : List ℕ) where
         there a (yes room) = room
         there a (no none) = absurd (omega (arith, sym (ap (λ (r : Written). r .refusal) (small a (length old) (omega arith))) ∙ e))
 
-    so-written : AcceptedTrace l × spelledSize (headerOf l .records) ≤ length old → Writes l old
+    so-written : AcceptedTrace l × spelledSize (headerOf l .records) ≤ length old → Writes traceWriter l old
     so-written p = ap (λ (r : Written). r .refusal) (done (p .0) (length old) (p .1))
 
     -- Then the spelling was written, and nothing behind it.
-    module _ (w : Writes l old) where
+    module _ (w : Writes traceWriter l old) where
       spelled : spelledInto l old ≡ written (spellingOf l) old
       unfolding spelledInto
       spelled = rw w
@@ -113,13 +113,13 @@ module _ (l : List ℕ) where
       size : writeOf l (length old) .size ≡ length (spellingOf l)
       size = let p = written-so w in ap (λ (r : Written). r .size) (done (p .0) (length old) (p .1)) ∙ sym (spelling-length l)
 
-      bytes : bytesWritten l old ≡ spellingOf l
+      bytes : bytesWritten traceWriter l old ≡ spellingOf l
       bytes = rw spelled (take-at (spellingOf l) (drop (length (spellingOf l)) old) _ (sym size))
 
       kept : drop (writeOf l (length old) .size) (spelledInto l old) ≡ drop (writeOf l (length old) .size) old
       kept = rw (spelled, size) (drop-at (spellingOf l) (drop (length (spellingOf l)) old) _ refl)
 
-    untouched : (Writes l old → ⊥) → spelledInto l old ≡ old
+    untouched : (Writes traceWriter l old → ⊥) → spelledInto l old ≡ old
     unfolding spelledInto
     untouched not = go (writeOf l (length old) .refusal) not
       where
@@ -189,15 +189,13 @@ module _ (l m : List ℕ) where
       }
 
 -- Document 02, U4.
-pub one-spelling : OneSpelling
+pub one-spelling : OneSpelling traceWriter
 one-spelling =
     record {
-      exactly = accepted-exactly;
       writes = λ l old. (written-so l old, so-written l old);
-      enough = λ l a. rw (size-length l (a .trace)) at (size-least l (a .trace));
+      done = done;
       stops = stops;
       small = small;
-      done = done;
       spells = λ l old w. rw (bytes l old w) (spells l (written-so l old w .0));
       kept = kept;
       refused = untouched;
@@ -208,11 +206,13 @@ one-spelling =
       accepted = λ l old w. rw (bytes l old w) (accepted-back l (written-so l old w .0));
       again = λ l old w new room.
           let e = bytes l old w in
-          let size : spelledSize (headerOf (spellingOf l) .records) ≤ length new =
-          omega (arith, room, ap length e, spelling-length l, ap (λ (h : Header). h .records) (header-back l)) in
+          let size : spelledSize (headerOf (spellingOf l) .records) ≤ length new = omega (arith, room, ap length e, spelling-length l, ap (λ (h : Header). h .records) (header-back l)) in
           let twice = so-written (spellingOf l) new (accepted-back l (written-so l old w .0), size) in
           rw e (twice, bytes (spellingOf l) new twice ∙ spelled-again l);
       brought = λ l old w. rw (bytes l old w) (all-brought l);
-      answer = λ l old w room. rw (bytes l old w) (answer-same l (written-so l old w .0) room);
-      output = λ l old w out. rw (bytes l old w) (output-same l (written-so l old w .0) out);
+      replayed = λ l old w room. rw (bytes l old w) (answer-same l (written-so l old w .0) room);
+      printed = λ l old w out. rw (bytes l old w) (output-same l (written-so l old w .0) out);
     }
+
+pub length-enough : (l : List ℕ) → LengthEnough l
+length-enough l a = rw (size-length l (a .trace)) at (size-least l (a .trace))

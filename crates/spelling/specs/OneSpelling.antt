@@ -1,4 +1,4 @@
--- One spelling of a trace, over all traces: document 02, U4, in terms of the call that writes it. A trace is any list of bytes.
+-- One spelling of a trace, over all traces: document 02, U4, of anything that writes traces. A trace is any list of bytes.
 -- Assumes nothing.
 use Prim.Native.Nat.{ℕ, _≤_, _<_}
 use mathlib.Core.List.{List}
@@ -7,53 +7,64 @@ use mathlib.Core.Path.{_≡_}
 use lib.ListN.{length, take, drop}
 use Rattle.trace.specs.Trace.{headerOf}
 use Rattle.reader.specs.Record.{recordSlot}
-use Rattle.replaying.specs.Accepted.{AcceptedTrace, AcceptedExactly}
+use Rattle.replaying.specs.Accepted.{AcceptedTrace}
 use Rattle.replaying.specs.Replay.{broughtIn, outputNeeded, replayRefused, replayDone, replayOf, outputOf}
+use Rattle.spelling.specs.declared.Written.{Written}
 use Rattle.spelling.specs.Spelling.{spelledSize}
 use Rattle.spelling.specs.Used.{SameTrace, RecordBare}
 use Rattle.spelling.specs.Writing.{writeOf, spelledInto}
 
--- The trace l was written into an output whose bytes were `old`.
-abbrev pub Writes : List ℕ → List ℕ → Type 0
-Writes l old = writeOf l (length old) .refusal ≡ 0
+-- Anything that writes traces: its answer to a trace and an output's length, and the output's bytes afterwards.
+pub record Writer : Type 0 where
+  pub answer : List ℕ → ℕ → Written
+  pub output : List ℕ → List ℕ → List ℕ
 
--- The bytes that were written: as many as the answer says.
-abbrev pub bytesWritten : List ℕ → List ℕ → List ℕ
-bytesWritten l old = take (writeOf l (length old) .size) (spelledInto l old)
+-- The writer of this repository: the promise of `spelling::write`, and of `feedback_trace_write`.
+abbrev pub traceWriter : Writer
+traceWriter = record { answer = writeOf; output = spelledInto }
 
--- The bytes w spell the trace l: "settings at 8, records at 18 (also if there are none) and every unused field or bit 0", no byte more,
+-- The writer w wrote the trace l into an output whose bytes were `old`.
+abbrev pub Writes : Writer → List ℕ → List ℕ → Type 0
+Writes w l old = w .answer l (length old) .refusal ≡ 0
+
+-- The bytes that it wrote: as many as the answer says.
+abbrev pub bytesWritten : Writer → List ℕ → List ℕ → List ℕ
+bytesWritten w l old = take (w .answer l (length old) .size) (w .output l old)
+
+-- The bytes b spell the trace l: "settings at 8, records at 18 (also if there are none) and every unused field or bit 0", no byte more,
 -- and what is used is that of l.
-pub record Spells (w l : List ℕ) : Type 0 where
-  pub header : headerOf w ≡ record { records = headerOf l .records; first = 18; settings = 8; size = spelledSize (headerOf l .records) }
-  pub size : length w ≡ spelledSize (headerOf l .records)
-  pub same : SameTrace l w
-  pub bare : (i : ℕ) → i < headerOf w .records → RecordBare (recordSlot w i)
+pub record Spells (b l : List ℕ) : Type 0 where
+  pub header : headerOf b ≡ record { records = headerOf l .records; first = 18; settings = 8; size = spelledSize (headerOf l .records) }
+  pub size : length b ≡ spelledSize (headerOf l .records)
+  pub same : SameTrace l b
+  pub bare : (i : ℕ) → i < headerOf b .records → RecordBare (recordSlot b i)
 
-pub record OneSpelling : Type 0 where
-  -- accepted is what the replay runs to its end, its own 23 left aside
-  pub exactly : (l : List ℕ) → AcceptedExactly l
-  -- "any accepted trace", and an output of 18 bytes and four per record; one as long as the trace is always enough
-  pub writes : (l old : List ℕ) → Writes l old ↔ (AcceptedTrace l × spelledSize (headerOf l .records) ≤ length old)
-  pub enough : (l : List ℕ) → AcceptedTrace l → spelledSize (headerOf l .records) ≤ length l
-  -- all refusals of reading and replay, with the record's number, then 23: what is not accepted is refused as the replay refuses it in
-  -- an output that is large enough for it
-  pub stops : (l : List ℕ) → (AcceptedTrace l → ⊥) → (room out : ℕ) → outputNeeded l ≤ out
-      → writeOf l room ≡ record { refusal = replayOf l out .refusal; kind = replayOf l out .kind; number = replayOf l out .number; size = 0 }
-  pub small : (l : List ℕ) → AcceptedTrace l → (room : ℕ) → room < spelledSize (headerOf l .records)
-      → writeOf l room ≡ record { refusal = 23; kind = replayRefused; number = 0; size = 0 }
+pub record OneSpelling (w : Writer) : Type 0 where
+  -- "any accepted trace", and an output of 18 bytes and four per record
+  pub writes : (l old : List ℕ) → Writes w l old ↔ (AcceptedTrace l × spelledSize (headerOf l .records) ≤ length old)
   pub done : (l : List ℕ) → AcceptedTrace l → (room : ℕ) → spelledSize (headerOf l .records) ≤ room
-      → writeOf l room ≡ record { refusal = 0; kind = replayDone; number = 0; size = spelledSize (headerOf l .records) }
+      → w .answer l room ≡ record { refusal = 0; kind = replayDone; number = 0; size = spelledSize (headerOf l .records) }
+  -- "after all refusals of reading and replay": what is not accepted is refused as the replay refuses it in an output that is large
+  -- enough for it, at the same record; then 23
+  pub stops : (l : List ℕ) → (AcceptedTrace l → ⊥) → (room out : ℕ) → outputNeeded l ≤ out
+      → w .answer l room ≡ record { refusal = replayOf l out .refusal; kind = replayOf l out .kind; number = replayOf l out .number; size = 0 }
+  pub small : (l : List ℕ) → AcceptedTrace l → (room : ℕ) → room < spelledSize (headerOf l .records)
+      → w .answer l room ≡ record { refusal = 23; kind = replayRefused; number = 0; size = 0 }
   -- what is written, and that nothing else of the output moves
-  pub spells : (l old : List ℕ) → Writes l old → Spells (bytesWritten l old) l
-  pub kept : (l old : List ℕ) → Writes l old → drop (writeOf l (length old) .size) (spelledInto l old) ≡ drop (writeOf l (length old) .size) old
-  pub refused : (l old : List ℕ) → (Writes l old → ⊥) → spelledInto l old ≡ old
+  pub spells : (l old : List ℕ) → Writes w l old → Spells (bytesWritten w l old) l
+  pub kept : (l old : List ℕ) → Writes w l old → drop (w .answer l (length old) .size) (w .output l old) ≡ drop (w .answer l (length old) .size) old
+  pub refused : (l old : List ℕ) → (Writes w l old → ⊥) → w .output l old ≡ old
   -- "Two accepted traces give equal bytes exactly when settings, number of records and the records' used fields and bits are equal."
-  pub equal : (l m a b : List ℕ) → Writes l a → Writes m b → (bytesWritten l a ≡ bytesWritten m b) ↔ SameTrace l m
+  pub equal : (l m a b : List ℕ) → Writes w l a → Writes w m b → (bytesWritten w l a ≡ bytesWritten w m b) ↔ SameTrace l m
   -- what is written is accepted; "Writing twice changes nothing"
-  pub accepted : (l old : List ℕ) → Writes l old → AcceptedTrace (bytesWritten l old)
-  pub again : (l old : List ℕ) → Writes l old → (new : List ℕ) → length (bytesWritten l old) ≤ length new
-      → Writes (bytesWritten l old) new × (bytesWritten (bytesWritten l old) new ≡ bytesWritten l old)
+  pub accepted : (l old : List ℕ) → Writes w l old → AcceptedTrace (bytesWritten w l old)
+  pub again : (l old : List ℕ) → Writes w l old → (new : List ℕ) → length (bytesWritten w l old) ≤ length new
+      → Writes w (bytesWritten w l old) new × (bytesWritten w (bytesWritten w l old) new ≡ bytesWritten w l old)
   -- what its records bring is what those of the trace do, and its replay is that of the trace, answer and output, in any output
-  pub brought : (l old : List ℕ) → Writes l old → broughtIn (bytesWritten l old) ≡ broughtIn l
-  pub answer : (l old : List ℕ) → Writes l old → (room : ℕ) → replayOf (bytesWritten l old) room ≡ replayOf l room
-  pub output : (l old : List ℕ) → Writes l old → (out : List ℕ) → outputOf (bytesWritten l old) out ≡ outputOf l out
+  pub brought : (l old : List ℕ) → Writes w l old → broughtIn (bytesWritten w l old) ≡ broughtIn l
+  pub replayed : (l old : List ℕ) → Writes w l old → (room : ℕ) → replayOf (bytesWritten w l old) room ≡ replayOf l room
+  pub printed : (l old : List ℕ) → Writes w l old → (out : List ℕ) → outputOf (bytesWritten w l old) out ≡ outputOf l out
+
+-- An output as long as the trace is always enough.
+abbrev pub LengthEnough : List ℕ → Type 0
+LengthEnough l = AcceptedTrace l → spelledSize (headerOf l .records) ≤ length l

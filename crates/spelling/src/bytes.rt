@@ -28,12 +28,12 @@ fn put_four(out: &mut [u8], at: usize, a: u8, b: u8, c: u8, d: u8)
 }
 
 // Writes two bytes at `at`.
-fn put_two(out: &mut [u8], at: usize, a: u8, b: u8)
+fn put_two(out: &mut [u8], at: usize, first: u8, second: u8)
     requires { ⌜ at + 2 ≤ length (now out) ⌝ }
-    ensures { λ _. ⌜ now (out .exit) ≡ putAt at (a ∷ b ∷ []) (now (out .entry)) ⌝ }
+    ensures { λ _. ⌜ now (out .exit) ≡ putAt at (first ∷ second ∷ []) (now (out .entry)) ⌝ }
 {
-    out[at] = a;
-    out[at + 1] = b;
+    out[at] = first;
+    out[at + 1] = second;
 }
 
 // Writes a number at `at`, the low byte first.
