@@ -6,7 +6,6 @@ use mathlib.Core.List.{List, [], _∷_, _++_}
 use mathlib.Core.Path.{_≡_, refl, sym, ap, _∙_}
 use native.Mathlib.Omega.{arith}
 use lib.ListN.{replicate, getD}
-use Rattle.trace.specs.Trace.{settingsOf}
 use Rattle.spelling.specs.OneSpelling.{traceWriter, Writes, bytesWritten}
 use Rattle.spelling.specs.Spelling.{headerBytes, settingsBytes, spellingOf}
 use Rattle.spelling.specs.Used.{SameTrace}

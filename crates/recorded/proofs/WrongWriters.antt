@@ -37,7 +37,7 @@
 use Prim.Native.Nat.{ℕ, zero, suc, _+_, _%_}
 use mathlib.Core.Bool.{cond}
 use mathlib.Core.List.{List, [], _∷_, _++_}
-use mathlib.Core.Path.{_≡_, refl, sym, ap, _∙_}
+use mathlib.Core.Path.{refl, ap}
 use native.Mathlib.Omega.{arith}
 use lib.Dec.{eqb, ltb, lit<, lit≤}
 use lib.ListN.{length, replicate, getD}
@@ -54,7 +54,6 @@ use Rattle.replaying.specs.Replay.{written}
 use Rattle.spelling.specs.declared.Written.{Written}
 use Rattle.spelling.specs.OneSpelling.{Writer, OneSpelling}
 use Rattle.spelling.specs.Spelling.{numberBytes, spelledSize, headerBytes, settingsBytes, slotBytes, spellingOf}
-use Rattle.spelling.specs.Used.{SameTrace}
 use Rattle.spelling.specs.Writing.{writeOf, outputAs, spelledInto}
 use Rattle.recorded.proofs.Spelled.{spellings, elsewhere, alike, missed, unlike}
 use Rattle.recorded.proofs.Worked.{settings, drive, stopped}

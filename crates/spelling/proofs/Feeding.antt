@@ -1,8 +1,8 @@
 -- The loop over the records without an output: what holds before record i, and what follows where it goes on, stops and ends; and the
 -- refusals before it. Assumes nothing.
 use Prim.Native.Nat.{ℕ, zero, suc, _+_, _-_, _≤_, _<_}
-use mathlib.Core.List.{List, [], _∷_}
-use mathlib.Core.Path.{_≡_, refl, sym, ap, subst, _∙_}
+use mathlib.Core.List.{List, _∷_}
+use mathlib.Core.Path.{_≡_, refl, sym, subst, _∙_}
 use native.Mathlib.Numerals.{add-one}
 use native.Mathlib.Omega.{arith}
 use borrow.Author.Tests.{ne-eqb}
@@ -13,9 +13,7 @@ use Rattle.reader.specs.Reading.{heardOf}
 use Rattle.reader.specs.Record.{broughtAt, recordOf}
 use Rattle.reader.proofs.Given.{record-heard}
 use Rattle.trace.specs.Trace.{headerOf, traceRefusal}
-use Rattle.replaying.specs.Replay.{refusalIn, broughtFrom, broughtIn, Played, after, stopOr, played}
-use Rattle.replaying.specs.Written.{bytesOf}
-use Rattle.spelling.specs.declared.Stop.{Stop}
+use Rattle.replaying.specs.Replay.{refusalIn, broughtFrom, broughtIn, Played, stopOr, played}
 use Rattle.spelling.specs.Writing.{recordStop}
 
 -- A refusal stops; without one, what comes after does.

@@ -1,15 +1,14 @@
 -- One spelling of a trace: specs/OneSpelling.antt, proved. Assumes nothing.
 use Prim.Native.Nat.{ℕ, zero, suc, _+_, _≤_, _<_}
 use mathlib.Core.Bool.{cond}
-use mathlib.Core.List.{List, _++_}
-use mathlib.Core.Path.{_≡_, refl, sym, ap, subst, _∙_}
+use mathlib.Core.List.{List}
+use mathlib.Core.Path.{_≡_, refl, sym, ap, _∙_}
 use native.Mathlib.Decide.{decLe}
 use native.Mathlib.Omega.{arith}
 use lib.Dec.{eqb}
-use lib.ListN.{length, take, drop}
+use lib.ListN.{length, drop}
 use lib.Seq.{take-at, drop-at}
 use borrow.Author.Tests.{lt-ltb, le-ltb}
-use Rattle.frame.specs.declared.Settings.{Settings}
 use Rattle.frame.specs.Settings.{orElse}
 use Rattle.handset.specs.Make.{makeOf}
 use Rattle.trace.specs.declared.Header.{Header}
@@ -19,7 +18,6 @@ use Rattle.reader.specs.Record.{slotAt, usedIn, recordSlot}
 use Rattle.replaying.specs.Accepted.{AcceptedTrace}
 use Rattle.replaying.specs.Replay.{Played, playedIn, outputNeeded, startRefusal, replayedAs, replayOf, written, outputOf}
 use Rattle.replaying.proofs.Accepting.{roomy}
-use Rattle.spelling.specs.declared.Stop.{Stop}
 use Rattle.spelling.specs.declared.Written.{Written}
 use Rattle.spelling.specs.OneSpelling.{traceWriter, Writes, bytesWritten, Spells, OneSpelling, LengthEnough}
 use Rattle.spelling.specs.Spelling.{spelledSize, recordsBytes, spellingOf}

@@ -1,13 +1,12 @@
 -- What is written reads back: the header, the settings, each record, and so what its replay brings. Assumes nothing.
 use Prim.Native.Nat.{ℕ, zero, suc, _+_, _-_, _*_, _/_, _%_, _≤_, _<_}
-use mathlib.Core.List.{List, _∷_, _++_}
+use mathlib.Core.List.{List, _++_}
 use mathlib.Core.Path.{_≡_, refl, sym, ap, subst, _∙_}
-use native.Mathlib.Nat.{add-zero, zero-add, add-suc}
+use native.Mathlib.Nat.{add-zero, zero-add}
 use native.Mathlib.Omega.{arith}
 use lib.ListN.{length, getD, drop}
 use lib.Seq.{getD-drop, drop-drop}
 use Rattle.frame.specs.declared.Settings.{Settings}
-use Rattle.heard.specs.declared.Heard.{Heard}
 use Rattle.heard.specs.declared.Slot.{Slot}
 use Rattle.heard.specs.Memory.{heardIn}
 use Rattle.trace.specs.declared.Header.{Header}
@@ -16,7 +15,6 @@ use Rattle.trace.specs.Trace.{byteAt, numberAt, headerOf, settingsAt, settingsO
 use Rattle.trace.proofs.Exactly.{exactly}
 use Rattle.reader.specs.Record.{slotAt, usedIn, broughtBy, recordSlot, broughtAt}
 use Rattle.replaying.specs.Replay.{broughtFrom, broughtIn, playedIn}
-use Rattle.handset.specs.Make.{makeOf}
 use Rattle.spelling.specs.Spelling.{spelledSize, headerBytes, settingsBytes, slotBytes, recordsBytes, spellingOf}
 use Rattle.spelling.proofs.Answers.{spelling-length}
 use Rattle.spelling.proofs.Using.{used-again, known-kind}

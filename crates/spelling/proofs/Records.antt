@@ -10,7 +10,7 @@ use Rattle.reader.specs.Record.{recordOf}
 use Rattle.reader.proofs.Given.{record-read}
 use Rattle.replaying.specs.Written.{putAt}
 use Rattle.replaying.proofs.Putting.{put-none, put-more, length-put}
-use Rattle.spelling.specs.Spelling.{readBytes, slotBytes, recordsBytes}
+use Rattle.spelling.specs.Spelling.{readBytes, recordsBytes}
 use Rattle.spelling.specs.Writable.{Writable}
 use Rattle.spelling.proofs.Putting.{records-length}
 

@@ -1,5 +1,5 @@
 -- What of a record is used, kind by kind: `usedIn` keeps that, and nothing else. Assumes nothing.
-use Prim.Native.Nat.{ℕ, _+_, _/_, _%_, _≤_, _<_}
+use Prim.Native.Nat.{ℕ, _+_, _%_, _≤_, _<_}
 use mathlib.Core.Path.{_≡_, refl, sym, ap, subst, _∙_}
 use native.Mathlib.Decide.{ℕ-discrete}
 use native.Mathlib.Omega.{arith}
@@ -7,7 +7,7 @@ use borrow.Author.Tests.{eq-eqb, ne-eqb}
 use Rattle.heard.specs.declared.Slot.{Slot}
 use Rattle.heard.specs.Memory.{none}
 use Rattle.reader.specs.Record.{usedResults, usedIn}
-use Rattle.spelling.specs.Used.{bit1, bit2, SameResults, SameRecord, ResultsBare, RecordBare}
+use Rattle.spelling.specs.Used.{bit2, SameResults, SameRecord, ResultsBare, RecordBare}
 
 -- The bits that are used, with two blocks and without.
 with-two : (a : ℕ) → bit2 a ≡ 1 → usedResults a ≡ 4 + a % 4
