@@ -1,5 +1,6 @@
 /*
- * A recorded drive, replayed: the replies that the handset should have sent.
+ * A recorded drive, replayed: the replies that the handset should have sent. And its one spelling,
+ * in which two recordings of a drive can be compared byte by byte.
  *
  *   replay        a small trace, which is made here, and what becomes of it when a record is bad
  *   replay FILE   the trace in a file, such as examples/drive.trace
@@ -54,6 +55,14 @@ static void replay(size_t length)
         puts(feedback_refusal_text(answer.refusal));
 }
 
+/* Writes the trace in its one spelling, for which as many bytes as it has are always enough. */
+static void spell(size_t length)
+{
+    static uint8_t spelled[sizeof trace];
+    struct feedback_write_answer answer = feedback_trace_write(trace, length, spelled, length);
+    printf("%s Bytes: %u.\n", feedback_write_kind_text(answer.kind), answer.bytes);
+}
+
 /*
  * Ten subframes of configuration 1 with 50 resource blocks, bundling, up to two blocks, N1 300 and
  * resource 7 for scheduled blocks. 0 and 1 are answered in 7, and 4 is answered in 8.
@@ -84,11 +93,13 @@ int main(int argc, char **argv)
     }
     show_records(length);
     replay(length);
+    spell(length);
     if (argc > 1)
         return 0;
     puts("\nThe same with a grant in subframe 8, which is uplink:");
     trace[18 + 8 * FEEDBACK_TRACE_RECORD] = FEEDBACK_SLOT_GRANT;
     replay(length);
+    spell(length);
     puts("\nThe same with its last byte cut off:");
     replay(length - 1);
     return 0;

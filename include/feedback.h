@@ -15,11 +15,12 @@
  *   calls of the handset    feedback_make, feedback_feed_nothing,
  *                           feedback_feed_grant, feedback_feed_scheduled,
  *                           feedback_feed_release
- *   calls on a recorded     feedback_replay, feedback_record
- *   drive
+ *   calls on a recorded     feedback_replay, feedback_record,
+ *   drive                   feedback_trace_write
  *
  * feedback_text.h has the refusals and the kinds as sentences for a log.
- * examples/cell.c runs both ends against each other, examples/replay.c replays a drive.
+ * examples/cell.c runs both ends against each other, examples/replay.c replays a drive
+ * and spells it.
  *
  *
  * TERMS
@@ -149,6 +150,16 @@
  * A record completes a window if its subframe is an uplink one that has a window. So a
  * whole frame of configuration 0 to 6 completes 4, 4, 2, 3, 2, 1 and 5 windows.
  *
+ * The same drive may be recorded in different bytes: with its parts in another order, with
+ * other gaps, with other values in what is ignored. feedback_trace_write writes a trace in
+ * one spelling, the same for all of these:
+ *
+ *             spelling, 18 bytes and 4 for each record
+ *             0        header      first is 18, also where there are no records, settings
+ *                                  is 8, and length 18 + 4 * records
+ *             8        settings    as they were
+ *             18       records     each with all that is ignored, fields and bits, at 0
+ *
  *
  * NUMBERS
  *
@@ -183,6 +194,7 @@
  *             feedback_feed_release   2048
  *             feedback_replay         4096
  *             feedback_record         64
+ *             feedback_trace_write    4096
  *
  * Of the C library the calls use memset and nothing else.
  */
@@ -197,8 +209,8 @@
 #include <stdint.h>
 
 /* This header's version: major * 10000 + minor * 100 + patch, and the same as text. */
-#define FEEDBACK_VERSION 30100
-#define FEEDBACK_VERSION_TEXT "3.1.0"
+#define FEEDBACK_VERSION 30200
+#define FEEDBACK_VERSION_TEXT "3.2.0"
 
 #define FEEDBACK_WINDOW_MOST 9     /* the most subframes of a window: M in configuration 5 */
 #define FEEDBACK_MEMORY 13         /* the subframes that a handset remembers: the greatest k */
@@ -211,6 +223,8 @@
 #define FEEDBACK_WINDOW_BYTES 8     /* the bytes that feedback_replay writes for a window */
 #define FEEDBACK_WINDOWS_MOST 8190  /* the most windows of a trace, in configuration 6: 65520
                                        bytes of output */
+#define FEEDBACK_SPELLED_FIRST 18   /* the bytes before the records of a written trace: 8 + 10 */
+#define FEEDBACK_SPELLED_MOST 65534 /* the most bytes of a written trace: 18 + 4 * 16379 */
 
 /*
  * None: as the setting scheduled, that no resource is set for scheduled blocks; as the
@@ -238,12 +252,14 @@ extern "C" {
  * call names the refusals it can give. Where several causes are met, the first in this
  * order is given:
  * 21, 22, 1 to 6, 17, 19, 7, 8, 9, 20, 10, 11, 12, 18, 13, 14, 15, 16; 23 in
- * feedback_replay after 19 and before any record.
+ * feedback_replay after 19 and before any record, in feedback_trace_write last of all.
  * A refused call changes nothing: no buffer is written, no state moves on, nothing is
- * made. Beside a refusal every other number of the answer is 0. There are three
- * exceptions: a feed gives back the handset as it was; 16 comes with an index; and a
- * replay that stops at a record has the kind FEEDBACK_REPLAY_STOPPED, leaves the windows
- * before it in the output, and tells how many they are and the record's number.
+ * made. Beside a refusal every other number of the answer is 0. There are four
+ * exceptions: a feed gives back the handset as it was; 16 comes with an index; a replay
+ * that stops at a record has the kind FEEDBACK_REPLAY_STOPPED, leaves the windows before
+ * it in the output, and tells how many they are and the record's number; and where a
+ * record keeps a trace from being written, the kind is FEEDBACK_WRITE_STOPPED, with the
+ * record's number.
  */
 enum feedback_refusal {
     FEEDBACK_NOT_REFUSED = 0,
@@ -289,8 +305,10 @@ enum feedback_refusal {
     FEEDBACK_REFUSED_TRACE_PARTS = 22,  /* parts of the trace, the header too, that share a byte
                                            or leave the file (where there are no records, their
                                            place is ignored), or a record's kind over 3 */
-    FEEDBACK_REFUSED_OUTPUT = 23        /* output under eight bytes for each window that the
-                                           records of the header complete */
+    FEEDBACK_REFUSED_OUTPUT = 23        /* output too short: in feedback_replay under eight bytes
+                                           for each window that the records of the header
+                                           complete, in feedback_trace_write under 18 bytes and
+                                           four for each record */
 };
 
 /* The kind of a feed's answer, and of a reading (there 0, 1 or 2). */
@@ -323,6 +341,14 @@ enum feedback_record_kind {
     FEEDBACK_RECORD_REFUSED = 0, /* refused; the refusal says why */
     FEEDBACK_RECORD_READ = 1,    /* the record */
     FEEDBACK_RECORD_END = 2      /* the trace has no such record: its number is past the last */
+};
+
+/* The kind of a written trace's answer. */
+enum feedback_write_kind {
+    FEEDBACK_WRITE_REFUSED = 0, /* refused, and by no record: 21, 22, the settings, or 23 */
+    FEEDBACK_WRITE_DONE = 1,    /* the trace was written */
+    FEEDBACK_WRITE_STOPPED = 2  /* a record is refused, the first at which a replay would stop;
+                                   nothing was written */
 };
 
 /* The mode of a handset, as in feedback_settings. */
@@ -501,6 +527,15 @@ struct feedback_record_answer {
     uint16_t kind;             /* one of enum feedback_record_kind */
     struct feedback_slot slot; /* read: the record; fields and bits that its kind does not use
                                   are 0; else 4 zero bytes */
+};
+
+/* The answer of feedback_trace_write. 8 bytes. */
+struct feedback_write_answer {
+    uint16_t refusal; /* 0; by no record 1 to 6, 17, 19 or 21 to 23; by a record 9 to 12, 18 or
+                         20 */
+    uint16_t kind;    /* one of enum feedback_write_kind */
+    uint16_t record;  /* stopped: the number of the refused record, from 0; else 0 */
+    uint16_t bytes;   /* done: the bytes that were written to the output; else 0 */
 };
 
 /*
@@ -842,6 +877,45 @@ FEEDBACK_MUST_USE
 struct feedback_record_answer feedback_record(const uint8_t *trace, size_t length, size_t next);
 
 /*
+ * A trace in its one spelling, so that recordings of a drive can be compared byte by byte.
+ *
+ *   trace      the bytes of the trace, only read; their layout is under TRACES
+ *   length     the number of bytes of the trace
+ *   out        bytes for the spelling, at least FEEDBACK_SPELLED_FIRST and
+ *              FEEDBACK_TRACE_RECORD for each record (as many as length are always
+ *              enough, and never more than FEEDBACK_SPELLED_MOST are written)
+ *   room       the number of bytes lent in out
+ *
+ * A trace is accepted if feedback_replay, given room for its windows, replays it to the
+ * end. Every accepted trace is written, as TRACES tells under spelling: the kind is
+ * FEEDBACK_WRITE_DONE, and bytes how many bytes that are, 18 + 4 * records. Bytes of out
+ * behind these keep their values.
+ *
+ * Two accepted traces are written as the same bytes exactly if their settings, their
+ * numbers of records and the fields and bits that their records use are equal: of a grant
+ * all fields, of a scheduled block results, of a release cce and dai, of nothing none; of
+ * results bits 0 and 2, and bit 1 where bit 2 is set. What was written is an accepted
+ * trace itself: written again it gives the same bytes, and its replay and its records are
+ * those of the trace that it was written from.
+ *
+ * Refuses 21, 22, 1 to 6, 17 and 19 as feedback_replay does, for the kinds of all records
+ * and the settings of the trace. Then, if a replay would stop at a record, the kind is
+ * FEEDBACK_WRITE_STOPPED, the refusal the one that it would stop with, 9, 20, 10, 11, 12
+ * or 18, and record the number of that record, from 0. Last of all comes 23, which here
+ * means that room is below 18 + 4 * records; how many bytes the windows of a replay take
+ * does not matter. If refused, all of out is as it was.
+ *
+ * A length or room of 0 is a trace or output of length 0, and its pointer may then be
+ * NULL, as in feedback_replay. The two must not overlap, so a trace is not spelled in its
+ * own place, and nothing else may write either during the call. Where they overlap all
+ * the same, the answer and the bytes written may be wrong, but nothing is written outside
+ * of out.
+ */
+FEEDBACK_MUST_USE
+struct feedback_write_answer feedback_trace_write(const uint8_t *trace, size_t length, uint8_t *out,
+                                                  size_t room);
+
+/*
  * The number of the layout of the structs above is part of a name in the library,
  * and every object that includes this header refers to that name. So an object that
  * was compiled against another layout does not link: "undefined reference to
@@ -949,6 +1023,11 @@ FEEDBACK_SIZE(feedback_record_answer, 8)
 FEEDBACK_PLACE(feedback_record_answer, refusal, 0)
 FEEDBACK_PLACE(feedback_record_answer, kind, 2)
 FEEDBACK_PLACE(feedback_record_answer, slot, 4)
+FEEDBACK_SIZE(feedback_write_answer, 8)
+FEEDBACK_PLACE(feedback_write_answer, refusal, 0)
+FEEDBACK_PLACE(feedback_write_answer, kind, 2)
+FEEDBACK_PLACE(feedback_write_answer, record, 4)
+FEEDBACK_PLACE(feedback_write_answer, bytes, 6)
 FEEDBACK_HOLDS(feedback_size_t_has_8_bytes, sizeof(size_t) == 8)
 
 #undef FEEDBACK_PLACE

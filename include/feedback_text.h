@@ -11,6 +11,7 @@
  *   feedback_slot_kind_text     the kind of a remembered subframe, or of a record
  *   feedback_replay_kind_text   the kind of a replay's answer
  *   feedback_record_kind_text   the kind of an answer about a record of a trace
+ *   feedback_write_kind_text    the kind of a written trace's answer
  */
 #ifndef FEEDBACK_TEXT_H
 #define FEEDBACK_TEXT_H
@@ -68,7 +69,7 @@ static inline const char *feedback_refusal_text(unsigned refusal)
     case FEEDBACK_REFUSED_TRACE_PARTS:
         return "Refused 22: parts of the trace overlap or leave it, or a record's kind is over 3.";
     case FEEDBACK_REFUSED_OUTPUT:
-        return "Refused 23: the output is under 8 bytes for each window of the records.";
+        return "Refused 23: the output is too short for the windows, or for the written trace.";
     default:
         return "This number is no refusal.";
     }
@@ -154,6 +155,21 @@ static inline const char *feedback_record_kind_text(unsigned kind)
         return "The end: the trace has no record of this number.";
     default:
         return "This number is no kind of an answer about a record.";
+    }
+}
+
+/* What the kind of a written trace's answer says, by enum feedback_write_kind. */
+static inline const char *feedback_write_kind_text(unsigned kind)
+{
+    switch (kind) {
+    case FEEDBACK_WRITE_REFUSED:
+        return "The trace was not written: it, its settings or the output was refused.";
+    case FEEDBACK_WRITE_DONE:
+        return "The trace was written in its one spelling.";
+    case FEEDBACK_WRITE_STOPPED:
+        return "The trace was not written: a record of it was refused.";
+    default:
+        return "This number is no kind of a written trace's answer.";
     }
 }
 

@@ -17,5 +17,6 @@ void drop(struct feedback_settings settings, struct feedback_handset handset)
     feedback_feed_release(handset, 5, 3);
     feedback_replay(NULL, 0, NULL, 0);
     feedback_record(NULL, 0, 0);
+    feedback_trace_write(NULL, 0, NULL, 0);
     feedback_layout_3();
 }

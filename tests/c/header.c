@@ -12,7 +12,7 @@
 #include <stdlib.h>
 #include <string.h>
 
-#if FEEDBACK_VERSION != 30100
+#if FEEDBACK_VERSION != 30200
 #error "FEEDBACK_VERSION is for the preprocessor too"
 #endif
 
@@ -170,6 +170,9 @@ static void numbers(void)
     EQUAL(FEEDBACK_RECORD_REFUSED, 0);
     EQUAL(FEEDBACK_RECORD_READ, 1);
     EQUAL(FEEDBACK_RECORD_END, 2);
+    EQUAL(FEEDBACK_WRITE_REFUSED, 0);
+    EQUAL(FEEDBACK_WRITE_DONE, 1);
+    EQUAL(FEEDBACK_WRITE_STOPPED, 2);
     EQUAL(FEEDBACK_MODE_BUNDLING, 0);
     EQUAL(FEEDBACK_MODE_MULTIPLEXING, 1);
     EQUAL(FEEDBACK_PREFIX_NORMAL, 0);
@@ -190,8 +193,10 @@ static void numbers(void)
     EQUAL(FEEDBACK_RECORDS_MOST, 16379); /* 65535 - 18 is 4 * 16379 + 1 */
     EQUAL(FEEDBACK_WINDOW_BYTES, 8);
     EQUAL(FEEDBACK_WINDOWS_MOST, 8190); /* 5 in each of 1637 frames, 5 in 9 subframes more */
+    EQUAL(FEEDBACK_SPELLED_FIRST, 18);
+    EQUAL(FEEDBACK_SPELLED_MOST, 65534); /* 18 + 4 * 16379 */
     EQUAL(FEEDBACK_NONE, 65535);
-    EQUAL(FEEDBACK_VERSION, 30100);
+    EQUAL(FEEDBACK_VERSION, 30200);
     sprintf(version, "%d.%d.%d", FEEDBACK_VERSION / 10000, FEEDBACK_VERSION / 100 % 100,
             FEEDBACK_VERSION % 100);
     SAME(FEEDBACK_VERSION_TEXT, version);
@@ -271,6 +276,11 @@ static void layout(void)
     PLACE(feedback_record_answer, refusal, 0);
     PLACE(feedback_record_answer, kind, 2);
     PLACE(feedback_record_answer, slot, 4);
+    SIZE(feedback_write_answer, 8);
+    PLACE(feedback_write_answer, refusal, 0);
+    PLACE(feedback_write_answer, kind, 2);
+    PLACE(feedback_write_answer, record, 4);
+    PLACE(feedback_write_answer, bytes, 6);
 }
 
 /* ---- settings ---- */
@@ -427,7 +437,8 @@ static void order(void)
 {
     HOLDS(strstr(text,
                  " 21, 22, 1 to 6, 17, 19, 7, 8, 9, 20, 10, 11, 12, 18, 13, 14, 15, 16; 23 in\n"
-                 " * feedback_replay after 19 and before any record.\n") != NULL);
+                 " * feedback_replay after 19 and before any record, in feedback_trace_write last"
+                 " of all.\n") != NULL);
 }
 
 /* ---- windows ---- */
@@ -1271,6 +1282,9 @@ static void tables_of_traces(void)
     EQUAL(place_of("settings", "scheduled"), 8);
     EQUAL(place_of("record", "results"), 3);
     EQUAL(place_of("window", "zero"), 6);
+    EQUAL(strtoul(heading("spelling"), NULL, 10), FEEDBACK_SPELLED_FIRST);
+    EQUAL(place_of("spelling", "settings"), FEEDBACK_TRACE_HEADER);
+    EQUAL(place_of("spelling", "records"), FEEDBACK_SPELLED_FIRST);
 }
 
 /* The answer of a replay, and the output's first byte that was not written. */
@@ -1475,22 +1489,149 @@ static void records(void)
     EQUAL(feedback_record(trace, length, 10).refusal, FEEDBACK_REFUSED_TRACE_PARTS);
 }
 
+/* The drive of drive_of_2 in its one spelling: its parts where the header's table has them. */
+static struct drive spelling_of_2(void)
+{
+    struct drive drive = drive_of_2(), spelled;
+    memset(&spelled, 0, sizeof spelled);
+    spelled.count = drive.count;
+    spelled.settings = place_of("spelling", "settings") & 65535u;
+    spelled.first = place_of("spelling", "records") & 65535u;
+    spelled.length = spelled.first + spelled.count * FEEDBACK_TRACE_RECORD;
+    put_header(&spelled);
+    memcpy(spelled.bytes + spelled.settings, drive.bytes + drive.settings, FEEDBACK_TRACE_SETTINGS);
+    put_record(&spelled, 0, FEEDBACK_SLOT_GRANT, 3, 1, 7);
+    put_record(&spelled, 1, FEEDBACK_SLOT_RELEASE, 4, 2, 0);
+    put_record(&spelled, 3, FEEDBACK_SLOT_SCHEDULED, 0, 0, 6);
+    put_record(&spelled, 8, FEEDBACK_SLOT_GRANT, 5, 1, FEEDBACK_FIRST_DECODED);
+    return spelled;
+}
+
+/* The answer of writing a trace, and the output's first byte that was not written. */
+static void wrote(int line, const struct drive *drive, uint8_t *out, size_t room, unsigned refusal,
+                  unsigned kind, unsigned record, unsigned bytes)
+{
+    struct feedback_write_answer answer;
+    memset(out, 99, room);
+    answer = feedback_trace_write(drive->bytes, drive->length, out, room);
+    equal(line, "refusal", answer.refusal, refusal);
+    equal(line, "kind", answer.kind, kind);
+    equal(line, "record", answer.record, record);
+    equal(line, "bytes", answer.bytes, bytes);
+    if (bytes < room)
+        equal(line, "the rest", out[bytes], 99);
+}
+
+#define WROTE(drive, room, refusal, kind, record, bytes) \
+    wrote(__LINE__, &(drive), out, room, refusal, kind, record, bytes)
+
+static void writing(void)
+{
+    struct drive drive = drive_of_2(), spelled = spelling_of_2();
+    const uint8_t *trace = drive.bytes;
+    uint8_t out[64], before[64];
+    size_t length = drive.length, room = 60;
+    struct feedback_write_answer answer;
+    memset(out, 99, sizeof out);
+    memcpy(before, out, sizeof out);
+    answer = CALL(feedback_trace_write, (trace, length, out, room));
+    EQUAL(answer.refusal, 0);
+    EQUAL(answer.kind, FEEDBACK_WRITE_DONE);
+    EQUAL(answer.record, 0);
+    EQUAL(answer.bytes, 58); /* 18 + 4 * 10 */
+    BYTES(out, spelled.bytes, 58);
+    BYTES(out + 58, before, 6);
+    WROTE(spelled, 58, 0, FEEDBACK_WRITE_DONE, 0, 58); /* written twice */
+    BYTES(out, spelled.bytes, 58);
+    memcpy(out, before, sizeof out);
+    answer = feedback_trace_write(trace, length, out, 57);
+    EQUAL(answer.refusal, FEEDBACK_REFUSED_OUTPUT);
+    EQUAL(answer.kind, FEEDBACK_WRITE_REFUSED);
+    EQUAL(answer.record, 0);
+    EQUAL(answer.bytes, 0);
+    answer = feedback_trace_write(trace, length - 1, out, 58);
+    EQUAL(answer.refusal, FEEDBACK_REFUSED_TRACE_LENGTH);
+    EQUAL(answer.kind, FEEDBACK_WRITE_REFUSED);
+    answer = feedback_trace_write(NULL, 0, NULL, 0);
+    EQUAL(answer.refusal, FEEDBACK_REFUSED_TRACE_LENGTH);
+    answer = feedback_trace_write(trace, length, NULL, 0);
+    EQUAL(answer.refusal, FEEDBACK_REFUSED_OUTPUT);
+    put_record(&drive, 7, FEEDBACK_SLOT_RELEASE, 61, 5, 7); /* in an uplink subframe */
+    answer = feedback_trace_write(trace, length, out, 57);
+    EQUAL(answer.refusal, FEEDBACK_REFUSED_UPLINK);
+    EQUAL(answer.kind, FEEDBACK_WRITE_STOPPED);
+    EQUAL(answer.record, 7);
+    EQUAL(answer.bytes, 0);
+    BYTES(out, before, sizeof out);
+}
+
+/* The order of the refusals, from the last one to the first. */
+static void writing_refused(void)
+{
+    struct drive drive = drive_of_2();
+    uint8_t out[64];
+    WROTE(drive, 57, FEEDBACK_REFUSED_OUTPUT, FEEDBACK_WRITE_REFUSED, 0, 0);
+    put_record(&drive, 8, FEEDBACK_SLOT_GRANT, 60, 5, 0);
+    WROTE(drive, 57, FEEDBACK_REFUSED_DAI, FEEDBACK_WRITE_STOPPED, 8, 0);
+    put_record(&drive, 8, FEEDBACK_SLOT_GRANT, 61, 5, 0);
+    WROTE(drive, 57, FEEDBACK_REFUSED_CCE, FEEDBACK_WRITE_STOPPED, 8, 0);
+    put_record(&drive, 5, FEEDBACK_SLOT_RELEASE, 61, 1, 0);
+    WROTE(drive, 57, FEEDBACK_REFUSED_CCE, FEEDBACK_WRITE_STOPPED, 5, 0);
+    put_record(&drive, 0, FEEDBACK_SLOT_SCHEDULED, 255, 255, 0);
+    WROTE(drive, 58, FEEDBACK_REFUSED_SCHEDULED, FEEDBACK_WRITE_STOPPED, 3, 0);
+    put_record(&drive, 1, FEEDBACK_SLOT_GRANT, 61, 5, 7); /* too short for data */
+    WROTE(drive, 58, FEEDBACK_REFUSED_SHORT, FEEDBACK_WRITE_STOPPED, 1, 0);
+    put_settings(&drive, with_special(with_scheduled(settings_of(2, 0, 1), 6), 0, 5));
+    put_record(&drive, 0, FEEDBACK_SLOT_SCHEDULED, 255, 255, 4);
+    WROTE(drive, 58, FEEDBACK_REFUSED_CARRIED, FEEDBACK_WRITE_STOPPED, 0, 0);
+    put_settings(&drive, with_special(settings_of(2, 0, 1), 2, 0));
+    WROTE(drive, 0, FEEDBACK_REFUSED_SPECIAL, FEEDBACK_WRITE_REFUSED, 0, 0);
+    put_settings(&drive, with_special(with_scheduled(settings_of(2, 0, 1), 10), 2, 0));
+    WROTE(drive, 0, FEEDBACK_REFUSED_SCHEDULED_RESOURCE, FEEDBACK_WRITE_REFUSED, 0, 0);
+    put_settings(&drive, FEEDBACK_SETTINGS(5, 50, 300, 0, 3));
+    WROTE(drive, 0, FEEDBACK_REFUSED_BLOCKS, FEEDBACK_WRITE_REFUSED, 0, 0);
+    put_settings(&drive, FEEDBACK_SETTINGS(5, 50, 300, 1, 3));
+    WROTE(drive, 0, FEEDBACK_REFUSED_MULTIPLEXING, FEEDBACK_WRITE_REFUSED, 0, 0);
+    put_settings(&drive, FEEDBACK_SETTINGS(5, 50, 300, 2, 3));
+    WROTE(drive, 0, FEEDBACK_REFUSED_MODE, FEEDBACK_WRITE_REFUSED, 0, 0);
+    put_settings(&drive, FEEDBACK_SETTINGS(5, 50, 2048, 2, 3));
+    WROTE(drive, 0, FEEDBACK_REFUSED_N1, FEEDBACK_WRITE_REFUSED, 0, 0);
+    put_settings(&drive, FEEDBACK_SETTINGS(5, 5, 2048, 2, 3));
+    WROTE(drive, 0, FEEDBACK_REFUSED_BANDWIDTH, FEEDBACK_WRITE_REFUSED, 0, 0);
+    put_settings(&drive, FEEDBACK_SETTINGS(7, 5, 2048, 2, 3));
+    WROTE(drive, 0, FEEDBACK_REFUSED_CONFIGURATION, FEEDBACK_WRITE_REFUSED, 0, 0);
+    put_record(&drive, 9, 4, 0, 0, 0);
+    WROTE(drive, 58, FEEDBACK_REFUSED_TRACE_PARTS, FEEDBACK_WRITE_REFUSED, 0, 0);
+    drive.first--; /* a byte of the settings */
+    put_header(&drive);
+    WROTE(drive, 58, FEEDBACK_REFUSED_TRACE_PARTS, FEEDBACK_WRITE_REFUSED, 0, 0);
+    drive.length--;
+    WROTE(drive, 58, FEEDBACK_REFUSED_TRACE_LENGTH, FEEDBACK_WRITE_REFUSED, 0, 0);
+}
+
 /* The most records of a trace and the most windows of these; what a whole frame completes. */
 static void largest(void)
 {
-    static uint8_t trace[65535], out[FEEDBACK_WINDOWS_MOST * FEEDBACK_WINDOW_BYTES];
+    static uint8_t trace[65535], out[FEEDBACK_SPELLED_MOST];
     static const unsigned in_a_frame[7] = {4, 4, 2, 3, 2, 1, 5};
     struct drive drive = drive_of(settings_of(6, 0, 1), 0);
     struct feedback_replay_answer answer;
     struct feedback_record_answer read;
+    struct feedback_write_answer spelled;
     uint16_t config, n;
     drive.count = FEEDBACK_RECORDS_MOST;
     drive.length = 65535;
     put_header(&drive);
     memcpy(trace, drive.bytes, drive.first);
-    answer = feedback_replay(trace, sizeof trace, out, sizeof out - 1);
+    spelled = feedback_trace_write(trace, sizeof trace, out, sizeof out - 1);
+    EQUAL(spelled.refusal, FEEDBACK_REFUSED_OUTPUT);
+    spelled = feedback_trace_write(trace, sizeof trace, out, sizeof out);
+    EQUAL(spelled.kind, FEEDBACK_WRITE_DONE);
+    EQUAL(spelled.bytes, FEEDBACK_SPELLED_MOST);
+    EQUAL(sizeof trace, FEEDBACK_SPELLED_MOST + 1); /* the gap before the settings is gone */
+    answer = feedback_replay(trace, sizeof trace, out, 65519);
     EQUAL(answer.refusal, FEEDBACK_REFUSED_OUTPUT);
-    answer = feedback_replay(trace, sizeof trace, out, sizeof out);
+    answer = feedback_replay(trace, sizeof trace, out, 65520);
     EQUAL(answer.kind, FEEDBACK_REPLAY_DONE);
     EQUAL(answer.windows, FEEDBACK_WINDOWS_MOST);
     read = feedback_record(trace, sizeof trace, FEEDBACK_RECORDS_MOST - 1);
@@ -1545,19 +1686,22 @@ static void all_texts(void)
         "20: a grant or scheduled block in a special subframe",
         "21: the trace is below 8 bytes, or not of the length in its header",
         "22: parts of the trace overlap or leave it, or a record's kind",
-        "23: the output"};
+        "23: the output is too short for the windows, or for the written trace"};
     static const char *const kinds[] = {"refused", "bundled reply", "multiplexed reply",
                                         "Silent",  "downlink",      "uplink"};
     static const char *const claims_kinds[] = {"refused", "clean", "clash"};
     static const char *const slot_kinds[] = {"nothing", "grant", "scheduled block", "release"};
     static const char *const replay_kinds[] = {"refused before any record", "done", "stopped"};
     static const char *const record_kinds[] = {"refused", "read", "end"};
+    static const char *const write_kinds[] = {"not written: it, its settings or the output",
+                                              "was written", "not written: a record"};
     texts(feedback_refusal_text, refusals, 24);
     texts(feedback_kind_text, kinds, 6);
     texts(feedback_claims_kind_text, claims_kinds, 3);
     texts(feedback_slot_kind_text, slot_kinds, 4);
     texts(feedback_replay_kind_text, replay_kinds, 3);
     texts(feedback_record_kind_text, record_kinds, 3);
+    texts(feedback_write_kind_text, write_kinds, 3);
 }
 
 int main(int argc, char **argv)
@@ -1600,6 +1744,8 @@ int main(int argc, char **argv)
     replay_multiplexed();
     replay_refused();
     records();
+    writing();
+    writing_refused();
     largest();
     all_texts();
     if (failures == 0)

@@ -85,7 +85,7 @@ LOOP(feed_scheduled, feedback_fed,
 LOOP(feed_release, feedback_fed, (struct feedback_handset handset, uint16_t cce, uint16_t dai),
      EACH(i, HANDSETS) EACH(d, 3) sink += call(handsets[i], 3, (uint16_t)d).kind;)
 
-static uint8_t output[FEEDBACK_WINDOWS_MOST * FEEDBACK_WINDOW_BYTES];
+static uint8_t output[FEEDBACK_SPELLED_MOST]; /* the windows of a replay take less */
 static uint8_t longest[FIRST + FEEDBACK_RECORDS_MOST * FEEDBACK_TRACE_RECORD];
 LOOP(replay, feedback_replay_answer,
      (const uint8_t *trace, size_t length, uint8_t *out, size_t room),
@@ -96,6 +96,13 @@ LOOP(replay, feedback_replay_answer,
 
 LOOP(record, feedback_record_answer, (const uint8_t *trace, size_t length, size_t next),
      EACH(i, RUNS) EACH(j, FEEDS + 2) sink += call(traces[i], sizeof traces[i], j).slot.cce;)
+
+LOOP(trace_write, feedback_write_answer,
+     (const uint8_t *trace, size_t length, uint8_t *out, size_t room),
+     EACH(i, RUNS) EACH(j, 3)
+         sink += call(traces[i], sizeof traces[i] - (j == 1), output, j == 2 ? 0 : sizeof output)
+                     .bytes;
+     sink += call(longest, sizeof longest, output, sizeof output).bytes;)
 
 /* ---- inputs ---- */
 
@@ -270,5 +277,6 @@ int main(int argc, char **argv)
     all &= HELD(feed_release, 72);
     all &= HELD(replay, 0);
     all &= HELD(record, 0);
+    all &= HELD(trace_write, 0);
     return !all;
 }

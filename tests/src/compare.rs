@@ -6,12 +6,13 @@ use crate::model::Model;
 use crate::plain::{
     plain_answered, plain_claims, plain_feed_grant, plain_feed_nothing, plain_feed_release,
     plain_feed_scheduled, plain_inverse, plain_make, plain_reading, plain_record, plain_replay,
-    plain_resource, plain_window,
+    plain_resource, plain_trace_write, plain_window,
 };
+use crate::random::Random;
 use crate::{
-    answered, claims, feed, inverse, make, reading, record, replay, resource, window, Block,
-    ClaimsAnswer, Fed, Grant, Handset, Heard, ReadingAnswer, RecordAnswer, Release, ReplayAnswer,
-    Settings,
+    answered, claims, feed, inverse, make, reading, record, replay, resource, trace_write, window,
+    Block, ClaimsAnswer, Fed, Grant, Handset, Heard, ReadingAnswer, RecordAnswer, Release,
+    ReplayAnswer, Settings, WriteAnswer,
 };
 use std::fmt;
 use std::hint::black_box;
@@ -195,33 +196,35 @@ impl<'a> Comparison<'a> {
     /// Two comparisons: trace and output lie flush with a guard, once at their start
     /// and once at their end. Every byte of both is compared. Shows the answer.
     pub fn replay(&mut self, lent: &mut LentTrace, trace: &[u8], output: &[u8]) -> ReplayAnswer {
-        let (due, left) = self.model.replay(trace, output);
-        let mut plain_left = output.to_vec();
-        let plain = plain_replay_on(trace, &mut plain_left);
+        let due = self.model.replay(trace, output);
+        let mut left = output.to_vec();
+        let plain = (plain_replay_on(trace, &mut left), left);
         for flush in BOTH {
-            let (given, given_left) = lent.replay(trace, output, flush);
-            assert!(
-                given == due && plain == due,
-                "feedback_replay({}, room {}), flush at the {flush:?}: the engine gives \
-                 {given:?}, the model {due:?}, the plain implementation {plain:?}",
-                Shown(trace),
-                output.len()
-            );
-            assert!(
-                given_left == left && plain_left == left,
-                "feedback_replay({}, room {}), flush at the {flush:?}: the output was {}; the \
-                 engine leaves {}, the model {}, the plain implementation {}",
-                Shown(trace),
-                output.len(),
-                Shown(output),
-                Shown(given_left),
-                Shown(&left),
-                Shown(&plain_left)
-            );
-            self.counts[usize::from(due.refusal)] += 1;
-            self.kinds[usize::from(due.kind)] += 1;
+            let given = lent.replay(trace, output, flush);
+            hold("feedback_replay", trace, output, flush, given, &due, &plain);
+            self.counts[usize::from(due.0.refusal)] += 1;
+            self.kinds[usize::from(due.0.kind)] += 1;
         }
-        due
+        due.0
+    }
+
+    /// The same for the writing of a trace.
+    pub fn trace_write(
+        &mut self,
+        lent: &mut LentTrace,
+        trace: &[u8],
+        output: &[u8],
+    ) -> WriteAnswer {
+        let due = self.model.trace_write(trace, output);
+        let mut left = output.to_vec();
+        let plain = (plain_trace_write_on(trace, &mut left), left);
+        for flush in BOTH {
+            let given = lent.trace_write(trace, output, flush);
+            hold("feedback_trace_write", trace, output, flush, given, &due, &plain);
+            self.counts[usize::from(due.0.refusal)] += 1;
+            self.kinds[usize::from(due.0.kind)] += 1;
+        }
+        due.0
     }
 
     /// Two comparisons: the trace lies flush with a guard, once at its start and once at
@@ -278,6 +281,37 @@ impl<'a> Comparison<'a> {
     }
 }
 
+/// Holds a call on a trace and an output to the model, and the plain implementation too:
+/// the answer, and every byte of the output afterwards.
+fn hold<A: fmt::Debug + PartialEq>(
+    call: &str,
+    trace: &[u8],
+    output: &[u8],
+    flush: Flush,
+    (given, given_left): (A, &[u8]),
+    (due, left): &(A, Vec<u8>),
+    (plain, plain_left): &(A, Vec<u8>),
+) {
+    assert!(
+        given == *due && plain == due,
+        "{call}({}, room {}), flush at the {flush:?}: the engine gives {given:?}, the model \
+         {due:?}, the plain implementation {plain:?}",
+        Shown(trace),
+        output.len()
+    );
+    assert!(
+        given_left == left && plain_left == left,
+        "{call}({}, room {}), flush at the {flush:?}: the output was {}; the engine leaves {}, \
+         the model {}, the plain implementation {}",
+        Shown(trace),
+        output.len(),
+        Shown(output),
+        Shown(given_left),
+        Shown(left),
+        Shown(plain_left)
+    );
+}
+
 /// The memory that is lent for claims.
 pub struct Lent {
     pub list: Guarded,
@@ -306,51 +340,125 @@ impl Lent {
     }
 }
 
-/// The memory that is lent for a replay: the trace, which is only read, and the output.
+/// The memory that is lent for a call on a trace: the trace, which is only read, and the
+/// output.
 pub struct LentTrace {
     pub trace: Guarded,
     pub output: Guarded,
 }
 
 impl LentTrace {
-    /// For every trace, and for a file that is twice as long.
+    /// For every trace, and for a file or an output that is twice as long.
     pub fn new() -> Self {
-        Self { trace: Guarded::new(131_072), output: Guarded::new(65536) }
+        Self { trace: Guarded::new(131_072), output: Guarded::new(131_072) }
     }
 
-    /// Calls the engine on copies of trace and output, flush with a guard, and shows
-    /// what it left of the output. It leaves the trace as it was.
+    /// Replays a copy of a trace into a copy of an output, both flush with a guard, and
+    /// shows what the engine left of the output. It leaves the trace as it was.
     pub fn replay(&mut self, trace: &[u8], output: &[u8], flush: Flush) -> (ReplayAnswer, &[u8]) {
-        let left = self.output.bytes(output, flush);
-        let read: &[u8] = self.trace.bytes(trace, flush);
-        let answer = replay(read, left);
-        assert!(black_box(read) == trace, "feedback_replay({}) wrote the trace", Shown(trace));
-        (answer, left)
+        self.call(trace, output, flush, replay)
     }
 
-    /// The same for a record.
-    pub fn record(&mut self, trace: &[u8], next: usize, flush: Flush) -> RecordAnswer {
-        let read: &[u8] = self.trace.bytes(trace, flush);
-        let answer = record(read, next);
-        assert!(black_box(read) == trace, "feedback_record({}) wrote the trace", Shown(trace));
-        answer
-    }
-
-    /// The same two calls on a trace in memory that ends the test when it is written.
-    pub fn read_only(
+    /// The same for the writing of a trace.
+    pub fn trace_write(
         &mut self,
         trace: &[u8],
         output: &[u8],
-        next: usize,
         flush: Flush,
-    ) -> (ReplayAnswer, RecordAnswer) {
+    ) -> (WriteAnswer, &[u8]) {
+        self.call(trace, output, flush, trace_write)
+    }
+
+    /// The same for a record, without an output.
+    pub fn record(&mut self, trace: &[u8], next: usize, flush: Flush) -> RecordAnswer {
+        self.call(trace, &[], flush, |read, _| record(read, next)).0
+    }
+
+    fn call<A>(
+        &mut self,
+        trace: &[u8],
+        output: &[u8],
+        flush: Flush,
+        call: impl Fn(&[u8], &mut [u8]) -> A,
+    ) -> (A, &[u8]) {
         let left = self.output.bytes(output, flush);
-        let read = self.trace.bytes_to_read(trace, flush);
-        (replay(read, left), record(read, next))
+        let read: &[u8] = self.trace.bytes(trace, flush);
+        let answer = call(read, left);
+        assert!(black_box(read) == trace, "a call wrote the trace {}", Shown(trace));
+        (answer, left)
+    }
+
+    /// The answer of calls on a trace in memory that ends the test when it is written.
+    pub fn read_only<A>(
+        &mut self,
+        trace: &[u8],
+        output: &[u8],
+        flush: Flush,
+        call: impl Fn(&[u8], &mut [u8]) -> A,
+    ) -> A {
+        let left = self.output.bytes(output, flush);
+        call(self.trace.bytes_to_read(trace, flush), left)
     }
 }
 
 impl Default for LentTrace {
+    fn default() -> Self {
+        Self::new()
+    }
+}
+
+/// A C call that reads a trace and writes an output.
+type OnTrace<A> = unsafe extern "C" fn(*const u8, usize, *mut u8, usize) -> A;
+
+/// Memory in which a trace and an output are lent that overlap.
+pub struct Overlapping(Guarded);
+
+impl Overlapping {
+    pub fn new() -> Self {
+        Self(Guarded::new(1))
+    }
+
+    /// Makes a call on a trace and an output that share at least a byte, and says whether
+    /// it wrote. It writes nothing outside of the output. Both lie in a stretch that is
+    /// flush with a guard: the trace at its start, its end or in between, the output
+    /// anywhere.
+    pub fn call<A>(
+        &mut self,
+        trace: &[u8],
+        room: usize,
+        random: &mut Random,
+        call: OnTrace<A>,
+    ) -> bool {
+        let Self(memory) = self;
+        let stretch = trace.len() + room - 1;
+        let start = match random.one_of(&BOTH) {
+            Flush::Start => 0,
+            Flush::End => memory.all().len() - stretch,
+        };
+        let trace_at = start + random.one_of(&[0, room - 1, (room - 1) / 2]);
+        let out_at = start + random.below(trace.len());
+        let all = memory.all();
+        all[trace_at..][..trace.len()].copy_from_slice(trace);
+        let before = all.to_vec();
+        let memory_start = all.as_mut_ptr();
+        // SAFETY: both lie within the memory, which nothing else uses meanwhile.
+        unsafe {
+            let (file, out) = (memory_start.add(trace_at), memory_start.add(out_at));
+            call(file, trace.len(), out, room);
+        }
+        let all = memory.all();
+        let may_change = out_at..out_at + room;
+        assert!(
+            all[..may_change.start] == before[..may_change.start]
+                && all[may_change.end..] == before[may_change.end..],
+            "a call on {} bytes at {trace_at} with {room} at {out_at} wrote beyond {may_change:?}",
+            trace.len()
+        );
+        all[may_change.clone()] != before[may_change]
+    }
+}
+
+impl Default for Overlapping {
     fn default() -> Self {
         Self::new()
     }
@@ -362,6 +470,14 @@ pub fn plain_replay_on(trace: &[u8], output: &mut [u8]) -> ReplayAnswer {
     // SAFETY: each slice is lent with its own length, and by their types the two
     // do not overlap.
     unsafe { plain_replay(trace.as_ptr(), trace.len(), out, room) }
+}
+
+/// The plain implementation's writing of a trace, with what it leaves in the output.
+pub fn plain_trace_write_on(trace: &[u8], output: &mut [u8]) -> WriteAnswer {
+    let (out, room) = (output.as_mut_ptr(), output.len());
+    // SAFETY: each slice is lent with its own length, and by their types the two
+    // do not overlap.
+    unsafe { plain_trace_write(trace.as_ptr(), trace.len(), out, room) }
 }
 
 /// The plain implementation's answer about a record.

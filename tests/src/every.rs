@@ -1,7 +1,7 @@
 //! Inputs in every combination of some values.
 
 use crate::model::{Model, Window};
-use crate::Settings;
+use crate::{Settings, NONE};
 
 /// The four ways to set mode and blocks; one of the modes is not for configuration 5.
 pub const MODE_AND_BLOCKS: [(u16, u16); 4] = [(0, 1), (0, 2), (1, 1), (1, 2)];
@@ -37,6 +37,22 @@ pub fn cell(nrb: u16, n1: u16, scheduled: u16) -> impl Iterator<Item = Settings>
         [1, 2]
             .map(|blocks| Settings::plain(config, nrb, n1, mode, blocks).with_scheduled(scheduled))
     })
+}
+
+/// The 13 ways to set configuration and mode. Bandwidth, blocks, prefix and special
+/// configuration differ, and in most a scheduled resource is set.
+pub fn mixed_cells() -> Vec<Settings> {
+    let blocks = |cell: &Settings| cell.blocks == 1 + (cell.config + cell.mode) % 2;
+    let mut cells: Vec<Settings> = cell(50, 300, 299).filter(blocks).collect();
+    for (at, cell) in cells.iter_mut().enumerate() {
+        let (prefix, special) = SPECIALS[5 * at % 16];
+        *cell = Settings { nrb: [6, 50, 110][at % 3], ..cell.with_special(prefix, special) };
+        if at % 5 == 4 {
+            cell.scheduled = NONE;
+        }
+    }
+    assert_eq!(cells.len(), 13);
+    cells
 }
 
 /// Every window, with all settings of these values.

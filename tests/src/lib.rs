@@ -22,14 +22,14 @@ pub mod vectors;
 pub use types::{
     AnsweredAnswer, Block, ClaimsAnswer, Fed, Grant, Handset, Heard, InverseAnswer, Made,
     ReadingAnswer, RecordAnswer, Release, ReplayAnswer, ResourceAnswer, Settings, Slot,
-    WindowAnswer, NONE, NOT_TOLD,
+    WindowAnswer, WriteAnswer, NONE, NOT_TOLD,
 };
 
 /// The engine's calls under their C names.
 pub mod c {
     use super::{
         AnsweredAnswer, ClaimsAnswer, Fed, Handset, InverseAnswer, Made, ReadingAnswer,
-        RecordAnswer, ReplayAnswer, ResourceAnswer, Settings, WindowAnswer,
+        RecordAnswer, ReplayAnswer, ResourceAnswer, Settings, WindowAnswer, WriteAnswer,
     };
 
     extern "C" {
@@ -96,6 +96,13 @@ pub mod c {
         ) -> ReplayAnswer;
 
         pub fn feedback_record(trace: *const u8, length: usize, next: usize) -> RecordAnswer;
+
+        pub fn feedback_trace_write(
+            trace: *const u8,
+            length: usize,
+            out: *mut u8,
+            room: usize,
+        ) -> WriteAnswer;
     }
 }
 
@@ -209,4 +216,14 @@ pub fn replay(trace: &[u8], output: &mut [u8]) -> ReplayAnswer {
 pub fn record(trace: &[u8], next: usize) -> RecordAnswer {
     // SAFETY: the trace is lent with its length, to be read.
     unsafe { c::feedback_record(trace.as_ptr(), trace.len(), next) }
+}
+
+/// The engine's answer to writing a trace in its one spelling, with what it leaves in the
+/// output.
+pub fn trace_write(trace: &[u8], output: &mut [u8]) -> WriteAnswer {
+    let (file, length) = (trace.as_ptr(), trace.len());
+    let (out, room) = (output.as_mut_ptr(), output.len());
+    // SAFETY: each slice is lent with its own length, the trace to be read and the
+    // output to be written, and by their types the two do not overlap.
+    unsafe { c::feedback_trace_write(file, length, out, room) }
 }

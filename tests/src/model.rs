@@ -10,6 +10,7 @@ mod handset;
 mod programs;
 mod replay;
 mod replies;
+mod spelling;
 mod station;
 
 pub use replies::{Row, Symbol};
@@ -43,7 +44,8 @@ const SPECIALS: [(u16, [u16; 2]); 2] = [(8, [0, 5]), (6, [0, 4])];
 /// The order in which the causes of a refusal are tried. 01's numbers rise, and a
 /// number that came later stands directly behind the one that it is said to be
 /// after: 17 after 6, 18 after 12, 19 after 17, 20 after 9. Those of a trace are tried
-/// where it is opened: 21 and 22 before all of these, 23 behind those of the settings.
+/// where it is opened: 21 and 22 before all of these, 23 behind those of the settings; where
+/// it is written 23 is tried last.
 const ORDER: [u16; 20] = [1, 2, 3, 4, 5, 6, 17, 19, 7, 8, 9, 20, 10, 11, 12, 18, 13, 14, 15, 16];
 
 /// The window of one uplink subframe of one configuration.

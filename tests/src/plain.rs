@@ -1,11 +1,12 @@
 //! The calls as one would write them in plain Rust with speed in mind: table
 //! lookup, the formula, a loop over the regions, a closed form for the inverse,
 //! one pass over a window, a match for the symbols, a replay that looks back into the
-//! trace. The benchmark measures the engine against these, and the fuzzing compares
-//! with them.
+//! trace, records that are spelled by a mask. The benchmark measures the engine against
+//! these, and the fuzzing compares with them.
 
 mod handset;
 mod replay;
+mod spelling;
 mod station;
 mod window;
 
@@ -13,6 +14,7 @@ pub use handset::{
     plain_feed_grant, plain_feed_nothing, plain_feed_release, plain_feed_scheduled, plain_make,
 };
 pub use replay::{plain_record, plain_replay};
+pub use spelling::plain_trace_write;
 pub use station::{plain_claims, plain_reading};
 pub use window::{plain_answered, plain_window};
 

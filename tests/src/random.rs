@@ -1,8 +1,8 @@
 //! Pseudo-random inputs from fixed seeds, the same in every run.
 
-use crate::every::SPECIALS;
+use crate::every::{mixed_cells, SPECIALS};
 use crate::model::{edge, Model, Window, NRB};
-use crate::trace::{record_of, Trace};
+use crate::trace::{put_number, record_of, Trace, FIRST_AT};
 use crate::{Block, Grant, Handset, Heard, Release, Settings, Slot, NONE};
 
 /// Numbers that are a limit somewhere, lie beside one, or would be allowed if
@@ -10,6 +10,14 @@ use crate::{Block, Grant, Handset, Heard, Release, Settings, Slot, NONE};
 const LIMITS: [u16; 32] = [
     0, 1, 2, 3, 4, 5, 6, 7, 8, 9, 10, 13, 14, 50, 110, 111, 133, 134, 135, 255, 256, 257, 258, 306,
     1206, 2046, 2047, 2048, 3252, 3253, 32768, 65535,
+];
+
+/// Ways in which a trace lies in its file: whether the records come first, and the gaps.
+const ARRANGEMENTS: [(bool, [&[u8]; 3]); 4] = [
+    (false, [&[], &[], &[]]),
+    (true, [&[], &[], &[]]),
+    (false, [&[9], &[255, 4], &[0, 1, 2]]),
+    (true, [&[3, 3, 3], &[], &[200]]),
 ];
 
 /// A xorshift generator.
@@ -98,6 +106,14 @@ impl Random {
     pub fn scheduled_settings(&mut self) -> Settings {
         let (prefix, special) = self.one_of(&SPECIALS);
         self.plain_scheduled_settings().with_special(prefix, special)
+    }
+
+    /// Settings that are allowed, mostly with a scheduled resource.
+    pub fn mixed_settings(&mut self) -> Settings {
+        match self.once_in(3) {
+            true => self.settings(),
+            false => self.scheduled_settings(),
+        }
     }
 
     /// Settings of which each number is once in `times` any number. Every other time
@@ -277,6 +293,31 @@ impl Random {
         });
         let trace = if self.once_in(2) { trace.records_first() } else { trace };
         trace.with_gaps(gaps.each_ref().map(Vec::as_slice))
+    }
+
+    /// A trace of up to so many records that a replay takes to the end, arranged in any
+    /// way. Where there are no records, their offset is any number.
+    pub fn accepted_trace(&mut self, model: &Model, most: usize) -> Vec<u8> {
+        let settings = self.mixed_settings();
+        let number = self.below(most + 1);
+        let records = self.records(model, settings, number);
+        let mut trace = self.arranged(Trace::new(settings, &records)).bytes();
+        if number == 0 {
+            put_number(&mut trace, FIRST_AT, self.any().into());
+        }
+        trace
+    }
+
+    /// A trace of each of the mixed cells that a replay takes to the end, of so many
+    /// records or up to nine more. They are arranged in some ways in turn.
+    pub fn good_traces(&mut self, model: &Model, records: usize) -> Vec<Vec<u8>> {
+        let trace = |(at, settings): (usize, Settings)| {
+            let records = self.records(model, settings, records + 7 * at % 10);
+            let (records_first, gaps) = ARRANGEMENTS[at % 4];
+            let trace = Trace::new(settings, &records).with_gaps(gaps);
+            if records_first { trace.records_first() } else { trace }.bytes()
+        };
+        mixed_cells().into_iter().enumerate().map(trace).collect()
     }
 
     /// One to three fields of a handset get other values.

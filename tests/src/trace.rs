@@ -19,6 +19,11 @@ pub const LONGEST: usize = 65535;
 pub const MOST_RECORDS: usize = 16379;
 pub const MOST_WINDOWS: usize = 8190;
 
+/// Where the records of a trace in its one spelling begin, and the most bytes that it
+/// has.
+pub const SPELLED_FIRST: usize = 18;
+pub const LONGEST_SPELLED: usize = 65534;
+
 /// Where the numbers of the header stand.
 pub const RECORDS_AT: usize = 0;
 pub const FIRST_AT: usize = 2;
@@ -117,6 +122,37 @@ pub fn put_number(trace: &mut [u8], at: usize, number: usize) {
 /// Gives the header the length that the trace has now.
 pub fn put_length(trace: &mut [u8]) {
     put_number(trace, LENGTH_AT, trace.len());
+}
+
+/// The bytes of a trace of so many records in its one spelling.
+pub fn spelled_length(records: usize) -> usize {
+    SPELLED_FIRST + RECORD * records
+}
+
+/// What a trace says whose parts lie in it: the bytes of its settings, and of each record
+/// its kind and what that kind uses.
+pub fn said(trace: &[u8]) -> (&[u8], Vec<Vec<u8>>) {
+    let settings = &trace[number_at(trace, SETTINGS_AT)..][..SETTINGS];
+    let first = number_at(trace, FIRST_AT);
+    let record = |number: usize| said_by(&trace[first + RECORD * number..][..RECORD]);
+    (settings, (0..number_at(trace, RECORDS_AT)).map(record).collect())
+}
+
+/// Kind 1 uses CCE, DAI and results, 2 the results, 3 CCE and DAI. The results are one for
+/// each block that was carried: bit 2 tells of a second one, and without it bit 1 is not
+/// used.
+fn said_by(record: &[u8]) -> Vec<u8> {
+    let (kind, pdcch, results) = (record[0], &record[1..3], record[3]);
+    let of_blocks: &[u8] = match results & Slot::TWO {
+        0 => &[results & Slot::FIRST],
+        _ => &[results & Slot::FIRST, results & Slot::SECOND],
+    };
+    match kind {
+        Slot::GRANT => [&[kind], pdcch, of_blocks].concat(),
+        Slot::BLOCK => [&[kind], of_blocks].concat(),
+        Slot::RELEASE => [&[kind], pdcch].concat(),
+        _ => vec![kind],
+    }
 }
 
 fn number_bytes(number: usize) -> [u8; 2] {

@@ -164,6 +164,18 @@ pub struct ReplayAnswer {
     pub windows: u16,
 }
 
+/// The answer of writing a trace: refused, and by no record (kind 0), done (1), or
+/// stopped by the record at which a replay would stop (2), with that record's number; and
+/// how many bytes were written.
+#[repr(C)]
+#[derive(Clone, Copy, Debug, PartialEq, Eq)]
+pub struct WriteAnswer {
+    pub refusal: u16,
+    pub kind: u16,
+    pub record: u16,
+    pub bytes: u16,
+}
+
 /// The answer about a record of a trace: refused (kind 0), the record (1), in which
 /// what its kind does not use is 0, or no such record (2).
 #[repr(C)]
@@ -311,6 +323,24 @@ impl ReplayAnswer {
 
     pub fn stopped(refusal: u16, record: usize, windows: usize) -> Self {
         Self { refusal, kind: Self::STOPPED, record: record as u16, windows: windows as u16 }
+    }
+}
+
+impl WriteAnswer {
+    pub const REFUSED: u16 = 0;
+    pub const DONE: u16 = 1;
+    pub const STOPPED: u16 = 2;
+
+    pub fn refused(refusal: u16) -> Self {
+        Self { refusal, kind: Self::REFUSED, record: 0, bytes: 0 }
+    }
+
+    pub fn done(bytes: usize) -> Self {
+        Self { refusal: 0, kind: Self::DONE, record: 0, bytes: bytes as u16 }
+    }
+
+    pub fn stopped(refusal: u16, record: usize) -> Self {
+        Self { refusal, kind: Self::STOPPED, record: record as u16, bytes: 0 }
     }
 }
 

@@ -7,8 +7,8 @@
 //! a number, as many times more are made, from further seeds.
 
 use feedback_tests::compare::{
-    plain_claims_on, plain_feed, plain_record_of, plain_replay_on, Comparison, Lent, LentTrace,
-    Shown,
+    plain_claims_on, plain_feed, plain_record_of, plain_replay_on, plain_trace_write_on,
+    Comparison, Lent, LentTrace, Shown,
 };
 use feedback_tests::guarded::BOTH;
 use feedback_tests::model::{edge, is_short, is_uplink, Model, NRB};
@@ -16,10 +16,12 @@ use feedback_tests::plain::{
     plain_answered, plain_inverse, plain_make, plain_reading, plain_resource, plain_window,
 };
 use feedback_tests::random::Random;
-use feedback_tests::trace::{number_at, record_of, Trace, RECORDS_AT, SETTINGS_AT, WINDOW};
+use feedback_tests::trace::{
+    number_at, record_of, spelled_length, Trace, RECORDS_AT, SETTINGS_AT, WINDOW,
+};
 use feedback_tests::{
     answered, feed, inverse, make, reading, resource, window, Fed, Handset, Heard, Settings, Slot,
-    NOT_TOLD,
+    WriteAnswer, NOT_TOLD,
 };
 use std::env;
 
@@ -33,6 +35,7 @@ const FEED_CALLS: u64 = 8_000_000;
 const CLAIMS_CALLS: u64 = 2_000_000;
 const REPLAY_CALLS: u64 = 1_024_000;
 const RECORD_CALLS: u64 = 1_024_000;
+const WRITE_CALLS: u64 = 512_000;
 
 const _: () = assert!(
     WINDOW_CALLS
@@ -45,6 +48,7 @@ const _: () = assert!(
         + CLAIMS_CALLS
         + REPLAY_CALLS
         + RECORD_CALLS
+        + WRITE_CALLS
         >= 10_000_000
 );
 
@@ -453,6 +457,16 @@ fn count_windows(output: &[u8], counts: &mut [u64; 3]) {
     output.chunks(WINDOW).for_each(|window| counts[usize::from(window[1])] += 1);
 }
 
+/// The room of an output that needs so much: mostly enough.
+fn room_near(need: usize, random: &mut Random) -> usize {
+    match random.below(16) {
+        0 => random.below(need + 64),
+        1 => need.saturating_sub(1),
+        2..=8 => need,
+        _ => need + random.below(64),
+    }
+}
+
 #[test]
 fn replays() {
     let model = Model::new();
@@ -461,13 +475,7 @@ fn replays() {
     let mut windows = [0; 3];
     let calls = fuzz(9, REPLAY_CALLS, |random, ask_model| {
         let trace = trace(random);
-        let need = need(&model, &trace);
-        let room = match random.below(16) {
-            0 => random.below(need + 64),
-            1 => need.saturating_sub(1),
-            2..=8 => need,
-            _ => need + random.below(64),
-        };
+        let room = room_near(need(&model, &trace), random);
         let output = random.bytes(room);
         let mut plain_left = output.clone();
         let plain = plain_replay_on(&trace, &mut plain_left);
@@ -528,4 +536,44 @@ fn records_of_traces() {
     });
     assert_eq!(calls, RECORD_CALLS * times());
     comparison.finish_with(calls / 2 / SAMPLE * 2, &[0, 21, 22], &[0, 1, 2]);
+}
+
+#[test]
+fn writings_of_traces() {
+    let model = Model::new();
+    let mut comparison = Comparison::with(&model);
+    let mut lent = LentTrace::new();
+    let (mut done, mut bytes) = (0, 0);
+    let calls = fuzz(11, WRITE_CALLS, |random, ask_model| {
+        let trace = trace(random);
+        let records = if trace.len() < 8 { 0 } else { number_at(&trace, RECORDS_AT).min(1000) };
+        let room = room_near(spelled_length(records), random);
+        let output = random.bytes(room);
+        let mut plain_left = output.clone();
+        let plain = plain_trace_write_on(&trace, &mut plain_left);
+        for flush in BOTH {
+            let (given, left) = lent.trace_write(&trace, &output, flush);
+            assert!(
+                given == plain && left == plain_left,
+                "feedback_trace_write({}, room {room}), flush at the {flush:?}: the output was \
+                 {}; the engine gives {given:?} and leaves {}, the plain implementation \
+                 {plain:?} and {}",
+                Shown(&trace),
+                Shown(&output),
+                Shown(left),
+                Shown(&plain_left)
+            );
+        }
+        done += u64::from(plain.kind == WriteAnswer::DONE);
+        bytes += u64::from(plain.bytes);
+        if ask_model {
+            comparison.trace_write(&mut lent, &trace, &output);
+        }
+        2
+    });
+    assert_eq!(calls, WRITE_CALLS * times());
+    println!("{done} traces written, {bytes} bytes");
+    let refusals = [0, 1, 2, 3, 4, 5, 6, 9, 10, 11, 12, 17, 18, 19, 20, 21, 22, 23];
+    comparison.finish_with(calls / 2 / SAMPLE * 2, &refusals, &[0, 1, 2]);
+    assert!(done > 50_000 && bytes > 1_000_000);
 }

@@ -2,10 +2,10 @@
 
 use feedback_tests::trace::Trace;
 use feedback_tests::{
-    answered, claims, feed, inverse, layout_3, make, reading, record, replay, resource, window,
-    AnsweredAnswer, Block, ClaimsAnswer, Fed, Grant, Handset, Heard, InverseAnswer, Made,
-    ReadingAnswer, RecordAnswer, Release, ReplayAnswer, ResourceAnswer, Settings, Slot,
-    WindowAnswer, NOT_TOLD,
+    answered, claims, feed, inverse, layout_3, make, reading, record, replay, resource,
+    trace_write, window, AnsweredAnswer, Block, ClaimsAnswer, Fed, Grant, Handset, Heard,
+    InverseAnswer, Made, ReadingAnswer, RecordAnswer, Release, ReplayAnswer, ResourceAnswer,
+    Settings, Slot, WindowAnswer, WriteAnswer, NOT_TOLD,
 };
 use std::mem::{align_of, offset_of, size_of};
 
@@ -130,9 +130,18 @@ fn a_record_answer_is_two_16_bit_numbers_and_a_slot() {
     assert_eq!(offset_of!(RecordAnswer, slot), 4);
 }
 
-/// Every field of these two answers, each with a value of its own. In configuration 1
+#[test]
+fn a_write_answer_is_four_16_bit_numbers() {
+    assert_eq!((size_of::<WriteAnswer>(), align_of::<WriteAnswer>()), (8, 2));
+    assert_eq!(offset_of!(WriteAnswer, refusal), 0);
+    assert_eq!(offset_of!(WriteAnswer, kind), 2);
+    assert_eq!(offset_of!(WriteAnswer, record), 4);
+    assert_eq!(offset_of!(WriteAnswer, bytes), 6);
+}
+
+/// Every field of these three answers, each with a value of its own. In configuration 1
 /// the windows of 2, 3, 7 and 8 are complete before the bad CCE of record 1015; numbers
-/// above 255 come back whole.
+/// above 255 come back whole. Without it the trace is written: 18 + 4 * 1015 bytes.
 #[test]
 fn every_field_of_a_replay_comes_back() {
     let mut records = [Slot::NOTHING; 1016];
@@ -144,6 +153,11 @@ fn every_field_of_a_replay_comes_back() {
     let slot = Slot { kind: 1, cce: 60, dai: 3, results: 5 };
     assert_eq!(record(&trace, 1014), RecordAnswer { refusal: 0, kind: 1, slot });
     assert_eq!(record(&trace[1..], 1014).refusal, 21);
+    let stopped = WriteAnswer { refusal: 11, kind: 2, record: 1015, bytes: 0 };
+    assert_eq!(trace_write(&trace, &mut [9; 4082]), stopped);
+    let trace = Trace::new(Settings::plain(1, 50, 10, 0, 2), &records[..1015]).bytes();
+    let done = WriteAnswer { refusal: 0, kind: 1, record: 0, bytes: 4078 };
+    assert_eq!(trace_write(&trace, &mut [9; 4078]), done);
 }
 
 /// Every byte of a handset that is not refused comes back where it was, each

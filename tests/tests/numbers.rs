@@ -4,9 +4,9 @@
 use feedback_tests::trace::{put_number, Trace, LENGTH_AT, SETTINGS_AT};
 use feedback_tests::{
     answered, claims, feed_grant, feed_nothing, feed_release, feed_scheduled, inverse, make,
-    reading, record, replay, resource, window, AnsweredAnswer, Block, ClaimsAnswer, Fed, Grant,
-    Handset, InverseAnswer, Made, ReadingAnswer, RecordAnswer, Release, ReplayAnswer,
-    ResourceAnswer, Settings, Slot, WindowAnswer, NONE, NOT_TOLD,
+    reading, record, replay, resource, trace_write, window, AnsweredAnswer, Block, ClaimsAnswer,
+    Fed, Grant, Handset, InverseAnswer, Made, ReadingAnswer, RecordAnswer, Release, ReplayAnswer,
+    ResourceAnswer, Settings, Slot, WindowAnswer, WriteAnswer, NONE, NOT_TOLD,
 };
 use std::fmt::Debug;
 
@@ -122,13 +122,25 @@ impl Count {
         self.due(number, (given, output), due);
     }
 
-    /// A replay that stops at its last record, after one silent window, that of 2.
+    /// The output is left as it was.
+    fn trace_write(&mut self, due: WriteAnswer, trace: &[u8], room: usize) {
+        let mut output = vec![5; room];
+        let given = trace_write(trace, &mut output);
+        self.due(due.refusal, (given, output), (due, vec![5; room]));
+    }
+
+    /// A replay that stops at its last record, after one silent window, that of 2. The
+    /// trace is not written, with room for it or without.
     fn stopped(&mut self, number: u16, settings: Settings, records: &[Slot]) {
+        let trace = Trace::new(settings, records).bytes();
         let mut output = [5; 17];
-        let given = replay(&Trace::new(settings, records).bytes(), &mut output);
+        let given = replay(&trace, &mut output);
         let due = ReplayAnswer::stopped(number, records.len() - 1, 1);
         let left = [&[2, 0, 0, 0, 0, 0, 0, 0][..], &[5; 9]].concat();
         self.due(number, (given, output.to_vec()), (due, left));
+        for room in [0, trace.len()] {
+            self.trace_write(WriteAnswer::stopped(number, records.len() - 1), &trace, room);
+        }
     }
 
     fn record(&mut self, number: u16, trace: &[u8], next: usize) {
@@ -257,40 +269,43 @@ fn every_number_occurs() {
 
     println!("refusals by number: {:?}", count.0);
     let of_settings = |causes: u64| 7 * causes;
+    // A replay and a writing, and where a record is refused a writing with room too.
+    let on_traces = |causes: u64| 2 * causes;
+    let at_records = |causes: u64| 3 * causes;
     let states = 7 * (21 + 9 * 7 + 4 + 3) + 1;
     let shorts = 4;
     let counts = [
         0,
-        of_settings(1) + 1,
-        of_settings(2) + 2,
-        of_settings(1) + 1,
-        of_settings(1) + 1,
-        of_settings(1) + 1,
-        of_settings(3) + 2,
+        of_settings(1) + on_traces(1),
+        of_settings(2) + on_traces(2),
+        of_settings(1) + on_traces(1),
+        of_settings(1) + on_traces(1),
+        of_settings(1) + on_traces(1),
+        of_settings(3) + on_traces(2),
         5 * 5 + 7 + 1 + shorts,
         states + 7 * (9 * 6 + 4 * 2 + 2) + 2 + shorts * 7 * 3 * 2,
-        2 + 4 + shorts * 3 + 3,
-        2 + 3 + 2,
-        3 + 2 + 5 + shorts * (2 + 2) + 2,
-        2 + 2 + shorts * 2 + 2,
+        2 + 4 + shorts * 3 + at_records(3),
+        2 + 3 + at_records(2),
+        3 + 2 + 5 + shorts * (2 + 2) + at_records(2),
+        2 + 2 + shorts * 2 + at_records(2),
         8 + 2,
         7 + 3,
         3,
         3,
-        of_settings(4) + 4,
-        3 + 4 + shorts * 2 + 2,
-        of_settings(8) + 4,
-        shorts * (2 * 6 + 2 * 4) + shorts * 2,
-        2 * 4,
-        2 * 2 + 1,
-        2,
+        of_settings(4) + on_traces(4),
+        3 + 4 + shorts * 2 + at_records(2),
+        of_settings(8) + on_traces(4),
+        shorts * (2 * 6 + 2 * 4) + at_records(shorts * 2),
+        3 * 4,
+        3 * 2 + 2,
+        on_traces(2),
     ];
     assert_eq!(count.0, counts);
     assert!(count.0[1..].iter().all(|number| *number > 0));
 }
 
-/// What a replay refuses before any record. Of the settings above those count whose
-/// numbers fit in the bytes of a trace.
+/// What a replay refuses before any record, and the writing of a trace too. Of the
+/// settings above those count whose numbers fit in the bytes of a trace.
 fn replays(count: &mut Count) {
     let good = Trace::new(CELL, &[Slot::NOTHING; 4]).bytes();
     assert_eq!(replay(&good, &mut [5; 16]), ReplayAnswer::done(2));
@@ -300,24 +315,32 @@ fn replays(count: &mut Count) {
     for trace in [&[][..], &good[..7], &good[..good.len() - 1], &told_longer] {
         count.replay(21, trace, 16);
         count.record(21, trace, 0);
+        count.trace_write(WriteAnswer::refused(21), trace, 34);
     }
     for settings_at in [7, good.len() - 9] {
         let mut bad = good.clone();
         put_number(&mut bad, SETTINGS_AT, settings_at);
         count.replay(22, &bad, 16);
         count.record(22, &bad, 0);
+        count.trace_write(WriteAnswer::refused(22), &bad, 34);
     }
     let mut kind = good.clone();
     kind[good.len() - 4] = 4;
     count.replay(22, &kind, 0);
+    count.trace_write(WriteAnswer::refused(22), &kind, 0);
     for (number, settings) in REFUSED {
         let Settings { mode, blocks, prefix, special, .. } = settings;
         if [mode, blocks, prefix, special].into_iter().all(|number| number < 256) {
-            count.replay(number, &Trace::new(settings, &[Slot::NOTHING; 4]).bytes(), 0);
+            let trace = Trace::new(settings, &[Slot::NOTHING; 4]).bytes();
+            count.replay(number, &trace, 0);
+            count.trace_write(WriteAnswer::refused(number), &trace, 0);
         }
     }
     count.replay(23, &good, 15);
     count.replay(23, &good, 0);
+    count.trace_write(WriteAnswer::refused(23), &good, 33);
+    count.trace_write(WriteAnswer::refused(23), &good, 0);
+    assert_eq!(trace_write(&good, &mut [5; 34]), WriteAnswer::done(34));
 }
 
 /// What a replay stops at. In configuration 1 subframe 3 is uplink and has a window, as

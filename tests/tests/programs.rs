@@ -1,4 +1,4 @@
-//! The programs `replay` and `replay_text`, which the engine's build leaves in
+//! The programs `replay`, `replay_text` and `spell`, which the engine's build leaves in
 //! `../target/bin`: traces by a pipe on standard input, and all that they print beside
 //! what the model prints. Where a program is missing the tests fail.
 
@@ -13,6 +13,8 @@ use std::io::{ErrorKind, Write};
 use std::path::PathBuf;
 use std::process::{Child, Command, Stdio};
 use std::thread;
+
+const PROGRAMS: [&str; 3] = ["replay", "replay_text", "spell"];
 
 /// What a program printed: standard output, standard error.
 type Printed = (Vec<u8>, Vec<u8>);
@@ -50,13 +52,12 @@ fn run(program: &str, pieces: Vec<Vec<u8>>) -> Printed {
 
 /// What the model prints for a program.
 fn due(model: &Model, program: &str, input: &[u8]) -> Printed {
-    match program {
-        "replay" => {
-            let (windows, refusal) = model.replay_program(input);
-            (windows, refusal.into_bytes())
-        }
-        _ => (model.replay_text(input).into_bytes(), Vec::new()),
-    }
+    let (output, error) = match program {
+        "replay" => model.replay_program(input),
+        "spell" => model.spell_program(input),
+        _ => (model.replay_text(input).into_bytes(), String::new()),
+    };
+    (output, error.into_bytes())
 }
 
 fn compare(model: &Model, program: &str, input: &[u8]) {
@@ -77,28 +78,32 @@ fn compare(model: &Model, program: &str, input: &[u8]) {
     );
 }
 
-/// The traces of the conformance vectors, each once.
-fn vectors() -> BTreeSet<Vec<u8>> {
-    let text = include_str!("../data/u03-replay.csv");
-    cases("u03-replay.csv", text).iter().map(|case| case.bytes("trace")).collect()
-}
-
-fn compare_vectors(program: &str) {
+/// Runs a program on the traces of a file of conformance vectors, each once.
+fn compare_vectors(program: &str, file: &str, text: &str, number: usize) {
     let model = Model::new();
-    let traces = vectors();
+    let traces: BTreeSet<Vec<u8>> =
+        cases(file, text).iter().map(|case| case.bytes("trace")).collect();
     traces.iter().for_each(|trace| compare(&model, program, trace));
     println!("{} traces", traces.len());
-    assert_eq!(traces.len(), 926);
+    assert_eq!(traces.len(), number);
 }
 
 #[test]
 fn replay_on_the_vectors() {
-    compare_vectors("replay");
+    let text = include_str!("../data/u03-replay.csv");
+    compare_vectors("replay", "u03-replay.csv", text, 926);
 }
 
 #[test]
 fn replay_text_on_the_vectors() {
-    compare_vectors("replay_text");
+    let text = include_str!("../data/u03-replay.csv");
+    compare_vectors("replay_text", "u03-replay.csv", text, 926);
+}
+
+#[test]
+fn spell_on_the_vectors() {
+    let text = include_str!("../data/u04-writing.csv");
+    compare_vectors("spell", "u04-writing.csv", text, 938);
 }
 
 /// A good trace of 65,535 bytes, and one that is refused at its last record.
@@ -126,7 +131,7 @@ fn the_largest_traces() {
     let model = Model::new();
     for trace in largest(&model) {
         assert_eq!(trace.len(), LONGEST);
-        for program in ["replay", "replay_text"] {
+        for program in PROGRAMS {
             compare(&model, program, &trace);
         }
     }
@@ -147,9 +152,9 @@ fn inputs_that_are_no_trace() {
         inputs.push(input);
     }
     for input in inputs {
-        for program in ["replay", "replay_text"] {
+        for program in PROGRAMS {
             compare(&model, program, &input);
-            assert_eq!(due(&model, program, &input).0.is_empty(), program == "replay");
+            assert_eq!(due(&model, program, &input).0.is_empty(), program != "replay_text");
         }
     }
 }
@@ -165,22 +170,53 @@ fn input_in_pieces() {
     put_length(&mut trace);
     let largest = largest(&model).swap_remove(1);
     for (input, piece) in [(&trace, 1), (&trace, 7), (&largest, 1000), (&largest, 8191)] {
-        for program in ["replay", "replay_text"] {
+        for program in PROGRAMS {
             let pieces = input.chunks(piece).map(<[u8]>::to_vec).collect();
             assert!(run(program, pieces) == due(&model, program, input), "{program}, {piece}");
         }
     }
 }
 
-/// The example, from its file.
+/// What a program prints for a file of the examples; nothing on standard error.
+fn on_example(program: &str, name: &str) -> Vec<u8> {
+    let path = PathBuf::from(env!("CARGO_MANIFEST_DIR")).join("../examples").join(name);
+    let file = File::open(&path).unwrap_or_else(|error| panic!("{}: {error}", path.display()));
+    let (output, error) = printed(program, start(program, file.into()));
+    assert_eq!(error, [], "{program} on {name}");
+    output
+}
+
+/// The example, from its file, and the same drive as another lab recorded it: both have
+/// the same replies and one spelling, which is spelled as it is.
 #[test]
 fn the_recorded_drive() {
-    let file = || {
-        let path = concat!(env!("CARGO_MANIFEST_DIR"), "/../examples/drive.trace");
-        Stdio::from(File::open(path).expect("the recorded drive"))
-    };
-    let windows = include_bytes!("../../examples/drive.windows").to_vec();
-    assert_eq!(printed("replay", start("replay", file())), (windows, Vec::new()));
-    let text = include_bytes!("../../examples/drive.txt").to_vec();
-    assert_eq!(printed("replay_text", start("replay_text", file())), (text, Vec::new()));
+    for name in ["drive.trace", "drive_other.trace", "drive.spelled"] {
+        let windows = include_bytes!("../../examples/drive.windows");
+        assert_eq!(on_example("replay", name), windows, "{name}");
+        let text = include_bytes!("../../examples/drive.txt");
+        assert_eq!(on_example("replay_text", name), text, "{name}");
+        let spelled = include_bytes!("../../examples/drive.spelled");
+        assert_eq!(on_example("spell", name), spelled, "{name}");
+    }
+}
+
+/// What `spell` says of traces that are not accepted, worked out by hand; it writes
+/// nothing then. Subframe 2 is uplink.
+#[test]
+fn what_spell_refuses() {
+    let settings = Settings::plain(1, 50, 300, 0, 2);
+    let nothing = Slot::NOTHING;
+    let uplink = Trace::new(settings, &[nothing, nothing, Slot::grant(5, 1, 1), nothing]).bytes();
+    let mode = Trace::new(Settings { mode: 2, ..settings }, &[nothing; 3]).bytes();
+    let kind = Trace::new(settings, &[nothing, Slot { kind: 4, ..nothing }]).bytes();
+    let refused = [
+        (&uplink[..7], "refused 21\n"),
+        (&uplink[..33], "refused 21\n"),
+        (&kind, "refused 22\n"),
+        (&mode, "refused 4\n"),
+        (&uplink, "refused 9 at record 2\n"),
+    ];
+    for (input, line) in refused {
+        assert_eq!(run("spell", vec![input.to_vec()]), (Vec::new(), line.as_bytes().to_vec()));
+    }
 }

@@ -2,59 +2,23 @@
 //! every byte replaced, cut, lengthened, their parts moved about; every room of the
 //! output; the largest traces. Trace and output lie flush with pages that are not
 //! mapped. The order of the refusals is written out by hand. Where the header is at
-//! stake feedback_record is asked too.
+//! stake feedback_record and feedback_trace_write are asked too.
 
 use feedback_tests::c::feedback_replay;
-use feedback_tests::compare::{Comparison, LentTrace};
-use feedback_tests::every;
-use feedback_tests::guarded::{Flush, Guarded, BOTH};
+use feedback_tests::compare::{Comparison, LentTrace, Overlapping};
+use feedback_tests::every::mixed_cells;
+use feedback_tests::guarded::BOTH;
 use feedback_tests::model::Model;
 use feedback_tests::random::Random;
 use feedback_tests::trace::{
     number_at, put_length, put_number, Trace, FIRST_AT, HEADER, LENGTH_AT, LONGEST, MOST_RECORDS,
     MOST_WINDOWS, RECORD, RECORDS_AT, SETTINGS, SETTINGS_AT, WINDOW,
 };
-use feedback_tests::{replay, ReplayAnswer, Settings, Slot, NONE};
+use feedback_tests::{record, replay, ReplayAnswer, Settings, Slot, WriteAnswer, NONE};
 use std::ptr::{null, null_mut};
-
-/// The ways in which a trace lies in its file: the order of the parts, and the gaps.
-const ARRANGEMENTS: [(bool, [&[u8]; 3]); 4] = [
-    (false, [&[], &[], &[]]),
-    (true, [&[], &[], &[]]),
-    (false, [&[9], &[255, 4], &[0, 1, 2]]),
-    (true, [&[3, 3, 3], &[], &[200]]),
-];
 
 /// How many windows a frame has, by configuration.
 const IN_A_FRAME: [usize; 7] = [4, 4, 2, 3, 2, 1, 5];
-
-/// The 13 cells of every configuration and mode. Bandwidth, blocks, prefix and special
-/// configuration differ, and in most a scheduled resource is set.
-fn cells() -> Vec<Settings> {
-    let blocks = |cell: &Settings| cell.blocks == 1 + (cell.config + cell.mode) % 2;
-    let mut cells: Vec<Settings> = every::cell(50, 300, 299).filter(blocks).collect();
-    for (at, cell) in cells.iter_mut().enumerate() {
-        let (prefix, special) = every::SPECIALS[5 * at % 16];
-        *cell = Settings { nrb: [6, 50, 110][at % 3], ..cell.with_special(prefix, special) };
-        if at % 5 == 4 {
-            cell.scheduled = NONE;
-        }
-    }
-    assert_eq!(cells.len(), 13);
-    cells
-}
-
-/// A good trace of each cell, of so many records or up to nine more, arranged in each
-/// way in turn.
-fn good_traces(model: &Model, records: usize, random: &mut Random) -> Vec<Vec<u8>> {
-    let trace = |(at, settings): (usize, Settings)| {
-        let records = random.records(model, settings, records + 7 * at % 10);
-        let (records_first, gaps) = ARRANGEMENTS[at % 4];
-        let trace = Trace::new(settings, &records).with_gaps(gaps);
-        if records_first { trace.records_first() } else { trace }.bytes()
-    };
-    cells().into_iter().enumerate().map(trace).collect()
-}
 
 /// An output for the windows of a good trace and three bytes more, all of one value.
 fn output_for(model: &Model, trace: &[u8]) -> Vec<u8> {
@@ -63,14 +27,16 @@ fn output_for(model: &Model, trace: &[u8]) -> Vec<u8> {
     vec![77; WINDOW * windows + 3]
 }
 
-/// How many records `ask_records` asks for.
-const ASKED: u64 = 3;
+/// How many calls `ask_others` makes.
+const ASKED: u64 = 4;
 
-/// The first record, one in the middle and the end of a trace that had so many.
-fn ask_records(comparison: &mut Comparison, lent: &mut LentTrace, trace: &[u8], count: usize) {
+/// The first record, one in the middle and the end of a trace that had so many, and its
+/// writing, for which there is room if they are few.
+fn ask_others(comparison: &mut Comparison, lent: &mut LentTrace, trace: &[u8], count: usize) {
     for next in [0, count / 2, count] {
         comparison.record(lent, trace, next);
     }
+    comparison.trace_write(lent, trace, &[77; 150]);
 }
 
 /// Every byte of good traces, the header too, with every value.
@@ -80,7 +46,7 @@ fn every_byte_replaced() {
     let mut comparison = Comparison::with(&model);
     let mut lent = LentTrace::new();
     let mut compared = 0;
-    for mut trace in good_traces(&model, 20, &mut Random::new(1)) {
+    for mut trace in Random::new(1).good_traces(&model, 20) {
         let output = output_for(&model, &trace);
         let count = number_at(&trace, RECORDS_AT);
         for at in 0..trace.len() {
@@ -91,7 +57,7 @@ fn every_byte_replaced() {
                 assert!(value != good || answer.kind == ReplayAnswer::DONE, "{answer:?}");
                 compared += 2;
                 if at < HEADER {
-                    ask_records(&mut comparison, &mut lent, &trace, count);
+                    ask_others(&mut comparison, &mut lent, &trace, count);
                     compared += 2 * ASKED;
                 }
             }
@@ -112,7 +78,7 @@ fn cut_and_lengthened() {
     let mut lent = LentTrace::new();
     let mut random = Random::new(2);
     let (mut compared, mut not_21) = (0, 0);
-    for trace in good_traces(&model, 20, &mut random) {
+    for trace in random.good_traces(&model, 20) {
         let output = output_for(&model, &trace);
         let count = number_at(&trace, RECORDS_AT);
         for length in (0..trace.len()).chain(trace.len() + 1..trace.len() + 20) {
@@ -120,12 +86,12 @@ fn cut_and_lengthened() {
             file.truncate(length);
             file.extend(random.bytes(length - file.len()));
             assert_eq!(comparison.replay(&mut lent, &file, &output).refusal, 21);
-            ask_records(&mut comparison, &mut lent, &file, count);
+            ask_others(&mut comparison, &mut lent, &file, count);
             compared += 2 * (1 + ASKED);
             if length >= HEADER {
                 put_length(&mut file);
                 assert_ne!(comparison.replay(&mut lent, &file, &output).refusal, 21);
-                ask_records(&mut comparison, &mut lent, &file, count);
+                ask_others(&mut comparison, &mut lent, &file, count);
                 compared += 2 * (1 + ASKED);
                 not_21 += 2 * (1 + ASKED);
             }
@@ -146,7 +112,7 @@ fn too_short_for_a_header() {
         for value in 0..=255 {
             let file = vec![value; length];
             comparison.replay(&mut lent, &file, &[5; 8]);
-            ask_records(&mut comparison, &mut lent, &file, 1);
+            ask_others(&mut comparison, &mut lent, &file, 1);
         }
     }
     comparison.finish(8 * 256 * 2 * (1 + ASKED), 0);
@@ -160,14 +126,14 @@ fn too_long_for_a_header() {
     let model = Model::new();
     let mut comparison = Comparison::with(&model);
     let mut lent = LentTrace::new();
-    for good in good_traces(&model, 20, &mut Random::new(3)) {
+    for good in Random::new(3).good_traces(&model, 20) {
         let output = output_for(&model, &good);
         for more in [65_536, 65_536 - good.len()] {
             let mut file = good.clone();
             file.resize(good.len() + more, 0);
             put_number(&mut file, LENGTH_AT, (good.len() + more) % 65_536);
             comparison.replay(&mut lent, &file, &output);
-            ask_records(&mut comparison, &mut lent, &file, 1);
+            ask_others(&mut comparison, &mut lent, &file, 1);
         }
     }
     comparison.finish(13 * 2 * 2 * (1 + ASKED), 0);
@@ -193,7 +159,7 @@ fn parts_at_every_place() {
             for settings in &places {
                 put_number(&mut file, SETTINGS_AT, *settings);
                 comparison.replay(&mut lent, &file, &[5; 16]);
-                ask_records(&mut comparison, &mut lent, &file, records);
+                ask_others(&mut comparison, &mut lent, &file, records);
             }
         }
     }
@@ -234,16 +200,16 @@ fn sums_past_sixteen_bits() {
                 for settings in places.iter().chain(&wrapped) {
                     put_number(&mut file, SETTINGS_AT, *settings);
                     comparison.replay(&mut lent, &file, &[5; 8]);
-                    ask_records(&mut comparison, &mut lent, &file, records);
+                    ask_others(&mut comparison, &mut lent, &file, records);
                     compared += 2 * (1 + ASKED);
                 }
             }
         }
     }
-    // Where the parts fit, the settings are of zeros: N_RB 0 is refused, and the records
-    // are to be had.
+    // Where the parts fit, the settings are of zeros: N_RB 0 is refused by the replay and
+    // the writing, and the three records are to be had.
     comparison.finish_with(compared, &[0, 2, 22], &[0, 1, 2]);
-    assert_eq!(comparison.refused(2) * ASKED, comparison.refused(0));
+    assert_eq!(comparison.refused(2) * 3, comparison.refused(0) * 2);
 }
 
 /// Where there are no records, their offset may be any number.
@@ -327,7 +293,7 @@ fn largest_traces() {
     let mut comparison = Comparison::with(&model);
     let mut lent = LentTrace::new();
     let mut random = Random::new(5);
-    for settings in cells() {
+    for settings in mixed_cells() {
         let mut records = random.records(&model, settings, MOST_RECORDS);
         let gap = random.bytes(LONGEST - HEADER - SETTINGS - RECORD * MOST_RECORDS);
         let windows = model.windows_among(settings.config, MOST_RECORDS);
@@ -456,18 +422,22 @@ fn settings_at_their_limits() {
                         put(&mut trace, second, *other);
                         comparison.replay(&mut lent, &trace, &[9; 20]);
                         comparison.replay(&mut lent, &trace, &[9; 7]);
+                        comparison.trace_write(&mut lent, &trace, &[9; 34]);
+                        comparison.trace_write(&mut lent, &trace, &[9; 33]);
                         let last = trace.len() - RECORD;
                         trace[last] = 4;
                         let answer = comparison.replay(&mut lent, &trace, &[9; 20]);
                         assert_eq!(answer, ReplayAnswer::refused(22));
+                        let answer = comparison.trace_write(&mut lent, &trace, &[9; 34]);
+                        assert_eq!(answer, WriteAnswer::refused(22));
                         pairs += 1;
                     }
                 }
             }
         }
     }
-    comparison.finish_with(pairs * 3 * 2, &[0, 1, 2, 3, 4, 5, 6, 17, 19, 22, 23], &[0, 1]);
-    assert_eq!(comparison.refused(22), pairs * 2);
+    comparison.finish_with(pairs * 6 * 2, &[0, 1, 2, 3, 4, 5, 6, 17, 19, 22, 23], &[0, 1]);
+    assert_eq!(comparison.refused(22), pairs * 2 * 2);
 }
 
 /// The trace is only read, also where nothing would change in it: a write ends the test.
@@ -478,7 +448,7 @@ fn the_trace_is_only_read() {
     let mut random = Random::new(7);
     let mut kinds = [0; 3];
     for _ in 0..20 {
-        for mut trace in good_traces(&model, 30, &mut random) {
+        for mut trace in random.good_traces(&model, 30) {
             let output = output_for(&model, &trace);
             let room = output.len() - 4 * random.below(2);
             if random.once_in(2) {
@@ -487,7 +457,8 @@ fn the_trace_is_only_read() {
             }
             for flush in BOTH {
                 let next = random.below(50);
-                let (answer, read) = lent.read_only(&trace, &output[..room], next, flush);
+                let both = |read: &[u8], left: &mut [u8]| (replay(read, left), record(read, next));
+                let (answer, read) = lent.read_only(&trace, &output[..room], flush, both);
                 assert_eq!(answer, model.replay(&trace, &output[..room]).0);
                 assert_eq!(read, model.record(&trace, next));
                 kinds[usize::from(answer.kind)] += 1;
@@ -527,42 +498,13 @@ fn nothing_lent() {
 fn overlapping_trace_and_output() {
     let model = Model::new();
     let mut random = Random::new(6);
-    let mut memory = Guarded::new(65_536);
-    let length = memory.all().len();
-    let traces: Vec<Vec<u8>> = (0..8).flat_map(|_| good_traces(&model, 40, &mut random)).collect();
+    let mut lent = Overlapping::new();
+    let traces: Vec<Vec<u8>> = (0..8).flat_map(|_| random.good_traces(&model, 40)).collect();
     let (mut calls, mut written) = (0, 0);
     for trace in traces.iter().cycle().take(40_000) {
         let room = output_for(&model, trace).len() + random.below(40);
-        // A stretch flush with a guard. The trace lies at its start or end, and the
-        // output anywhere that leaves it a byte of the trace.
-        let stretch = trace.len() + room - 1;
-        let start = match random.one_of(&BOTH) {
-            Flush::Start => 0,
-            Flush::End => length - stretch,
-        };
-        let trace_at = start + random.one_of(&[0, room - 1, (room - 1) / 2]);
-        let out_at = start + random.below(trace.len());
-        let all = memory.all();
-        all[trace_at..][..trace.len()].copy_from_slice(trace);
-        let before = all.to_vec();
-        let memory_start = all.as_mut_ptr();
-        // SAFETY: both lie within the memory, which nothing else uses meanwhile.
-        unsafe {
-            let (file, out) = (memory_start.add(trace_at), memory_start.add(out_at));
-            feedback_replay(file, trace.len(), out, room);
-        }
-
-        let all = memory.all();
-        let may_change = out_at..out_at + room;
-        assert!(
-            all[..may_change.start] == before[..may_change.start]
-                && all[may_change.end..] == before[may_change.end..],
-            "feedback_replay of {} bytes at {trace_at} into {room} at {out_at} wrote beyond \
-             {may_change:?}",
-            trace.len()
-        );
         calls += 1;
-        written += u64::from(all[may_change.clone()] != before[may_change]);
+        written += u64::from(lent.call(trace, room, &mut random, feedback_replay));
     }
     println!("{calls} calls, {written} of them wrote");
     assert_eq!(calls, 40_000);

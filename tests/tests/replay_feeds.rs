@@ -67,14 +67,6 @@ fn one_by_one(settings: Settings, trace: &[u8]) -> (ReplayAnswer, Vec<u8>) {
     panic!("the records have no end")
 }
 
-/// Settings that are allowed, mostly with a scheduled resource.
-fn settings(random: &mut Random) -> Settings {
-    match random.once_in(3) {
-        true => random.settings(),
-        false => random.scheduled_settings(),
-    }
-}
-
 /// A record that is once in a while refused: a good one with a byte changed.
 fn spoilt(record: Slot, settings: Settings, random: &mut Random) -> Slot {
     match random.below(6) {
@@ -95,7 +87,7 @@ fn equals_the_feeds_one_by_one() {
     let mut random = Random::new(1);
     let (mut kinds, mut refusals, mut windows) = ([0; 3], [0; 24], 0);
     for _ in 0..12_000 {
-        let settings = settings(&mut random);
+        let settings = random.mixed_settings();
         let number = random.below(60);
         let mut records = random.records(&model, settings, number);
         let times = random.one_of(&[5, 20, 100_000]);
@@ -162,7 +154,7 @@ fn records_by_their_numbers() {
     let mut random = Random::new(3);
     let (mut asked, mut bad) = (0, 0);
     for count in (0..40).cycle().take(400) {
-        let settings = settings(&mut random);
+        let settings = random.mixed_settings();
         let records = random.records(&model, settings, count);
         let mut bytes = random.arranged(Trace::new(settings, &records)).bytes();
         if random.once_in(2) {

@@ -2,13 +2,15 @@
 //! model and the plain implementation are held to them too. Each test knows how
 //! many lines its file has, and how many of them this layout cannot hold.
 
-use feedback_tests::compare::{plain_claims_on, plain_feed, plain_record_of, plain_replay_on};
+use feedback_tests::compare::{
+    plain_claims_on, plain_feed, plain_record_of, plain_replay_on, plain_trace_write_on,
+};
 use feedback_tests::model::Model;
 use feedback_tests::plain::{plain_inverse, plain_make, plain_reading, plain_resource};
 use feedback_tests::vectors::{cases, heard, Case};
 use feedback_tests::{
-    claims, feed, inverse, make, reading, record, replay, resource, Fed, Handset, Heard,
-    ReadingAnswer, RecordAnswer, ReplayAnswer, Settings, Slot, NOT_TOLD,
+    claims, feed, inverse, make, reading, record, replay, resource, trace_write, Fed, Handset,
+    Heard, ReadingAnswer, RecordAnswer, ReplayAnswer, Settings, Slot, WriteAnswer, NOT_TOLD,
 };
 use std::fmt::Debug;
 
@@ -100,6 +102,16 @@ impl Who<'_> {
             Self::Engine => record(trace, next),
             Self::Model(model) => model.record(trace, next),
             Self::Plain => plain_record_of(trace, next),
+        }
+    }
+
+    /// The answer of writing a trace, and the output afterwards.
+    fn trace_write(&self, trace: &[u8], lent: &[u8]) -> (WriteAnswer, Vec<u8>) {
+        let mut output = lent.to_vec();
+        match self {
+            Self::Engine => (trace_write(trace, &mut output), output),
+            Self::Model(model) => model.trace_write(trace, lent),
+            Self::Plain => (plain_trace_write_on(trace, &mut output), output),
         }
     }
 }
@@ -269,6 +281,31 @@ fn reader_line(case: &Case, who: &Who) -> (RecordAnswer, RecordAnswer) {
     (who.record(&case.bytes("trace"), case.number("next").into()), due)
 }
 
+/// A trace written in its one spelling into a lent output. A refusal with a record's
+/// number is that of the record, one without is that of the whole trace or of the output.
+fn writing_line(case: &Case, who: &Who) -> ((WriteAnswer, Vec<u8>), (WriteAnswer, Vec<u8>)) {
+    let (refusal, bytes) = (case.number("refusal"), case.number("bytes"));
+    let answer = match (refusal, case.number("record")) {
+        (0, NO_RECORD) => WriteAnswer::done(bytes.into()),
+        (_, NO_RECORD) => WriteAnswer { bytes, ..WriteAnswer::refused(refusal) },
+        (_, record) => WriteAnswer { bytes, ..WriteAnswer::stopped(refusal, record.into()) },
+    };
+    let given = who.trace_write(&case.bytes("trace"), &case.bytes("lent"));
+    (given, (answer, case.bytes("output")))
+}
+
+/// Two accepted traces, and whether they are written as the same bytes.
+fn pair_line(case: &Case, who: &Who) -> (u16, u16) {
+    let [one, other] = ["first", "second"].map(|name| {
+        let trace = case.bytes(name);
+        let (answer, mut output) = who.trace_write(&trace, &vec![7; trace.len()]);
+        assert_eq!(answer.kind, WriteAnswer::DONE, "{case}: {} on the {name}", who.name());
+        output.truncate(answer.bytes.into());
+        output
+    });
+    (u16::from(one == other), case.number("equal"))
+}
+
 #[test]
 fn u01_settings() {
     let text = include_str!("../data/u01-settings.csv");
@@ -338,4 +375,18 @@ fn u03_reader() {
     let text = include_str!("../data/u03-reader.csv");
     let tally = Tally::of("u03-reader.csv", text, |case, who| Some(reader_line(case, who)));
     tally.finish(371, 0);
+}
+
+#[test]
+fn u04_writing() {
+    let text = include_str!("../data/u04-writing.csv");
+    let tally = Tally::of("u04-writing.csv", text, |case, who| Some(writing_line(case, who)));
+    tally.finish(1160, 0);
+}
+
+#[test]
+fn u04_pairs() {
+    let text = include_str!("../data/u04-pairs.csv");
+    let tally = Tally::of("u04-pairs.csv", text, |case, who| Some(pair_line(case, who)));
+    tally.finish(367, 0);
 }

@@ -11,12 +11,12 @@ use Rattle.spelling.specs.Spelling.{headerBytes, settingsBytes, spellingOf}
 use Rattle.spelling.specs.Used.{SameTrace}
 use Rattle.spelling.specs.Writing.{stopOf, roomRefusal, writeOf, spelledInto}
 use Rattle.spelling.proofs.OneSpelling.{one-spelling}
-use Rattle.recorded.specs.Run.{runOf, SpelledAlike}
+use Rattle.recorded.specs.Run.{runOf, SpelledSameRun}
 use Rattle.recorded.proofs.Worked.{replays, settings, drive, stopped}
 
-pub spelled-alike : (l old : List ℕ) → SpelledAlike l old
+pub spelled-same-run : (l old : List ℕ) → SpelledSameRun l old
 unfolding runOf
-spelled-alike l old w =
+spelled-same-run l old w =
     let same = sym (one-spelling .spells l old w .same .settings) in
     (same, rw (same, one-spelling .brought l old w))
 

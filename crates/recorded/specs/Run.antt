@@ -67,7 +67,7 @@ pub record IsRun (l : List ℕ) : Type 0 where
       → HoldsAfter feedbackEngine (settingsOf l) sent (runOf l)
 
 -- What is written of a trace (document 02, U4) is the same run, so that demand 3 says the same of both.
-abbrev pub SpelledAlike : List ℕ → List ℕ → Type 0
-SpelledAlike l old =
+abbrev pub SpelledSameRun : List ℕ → List ℕ → Type 0
+SpelledSameRun l old =
     Writes traceWriter l old
     → (settingsOf (bytesWritten traceWriter l old) ≡ settingsOf l) × (runOf (bytesWritten traceWriter l old) ≡ runOf l)

@@ -5,4 +5,5 @@ pub mod Putting
 pub mod ReadBack
 pub mod Records
 pub mod Size
+pub mod Small
 pub mod Using

@@ -10,6 +10,7 @@ use lib.ListN.{length, drop}
 use lib.Seq.{take-at, drop-at}
 use borrow.Author.Tests.{lt-ltb, le-ltb}
 use Rattle.frame.specs.Settings.{orElse}
+use Rattle.heard.specs.declared.Slot.{Slot}
 use Rattle.handset.specs.Make.{makeOf}
 use Rattle.trace.specs.declared.Header.{Header}
 use Rattle.trace.specs.Trace.{headerOf, settingsOf, traceRefusal}
@@ -19,13 +20,14 @@ use Rattle.replaying.specs.Accepted.{AcceptedTrace}
 use Rattle.replaying.specs.Replay.{Played, playedIn, outputNeeded, startRefusal, replayedAs, replayOf, written, outputOf}
 use Rattle.replaying.proofs.Accepting.{roomy}
 use Rattle.spelling.specs.declared.Written.{Written}
-use Rattle.spelling.specs.OneSpelling.{traceWriter, Writes, bytesWritten, Spells, OneSpelling, LengthEnough}
+use Rattle.spelling.specs.OneSpelling.{traceWriter, Writes, bytesWritten, Spells, OneSpelling, LengthEnough, UsedExactly}
 use Rattle.spelling.specs.Spelling.{spelledSize, recordsBytes, spellingOf}
 use Rattle.spelling.specs.Used.{SameTrace}
 use Rattle.spelling.specs.Writing.{stopAs, stopOf, roomRefusal, writtenAs, stoppedOr, writeOf, outputAs, spelledInto}
 use Rattle.spelling.proofs.Answers.{nothing-before, spelling-length}
-use Rattle.spelling.proofs.ReadBack.{header-back, settings-back, record-back, trace-back, all-brought, played-back, spelled-again}
+use Rattle.spelling.proofs.ReadBack.{header-back, settings-back, record-back, trace-back, read-back, all-brought, played-back, spelled-again}
 use Rattle.spelling.proofs.Size.{size-least, size-length}
+use Rattle.spelling.proofs.Small.{spelled-bytes}
 use Rattle.spelling.proofs.Using.{used-again, known-kind, used-bare, record-same, same-record}
 
 -- Nothing stops an accepted trace, and what nothing stops is accepted.
@@ -195,6 +197,7 @@ one-spelling =
       stops = stops;
       small = small;
       spells = λ l old w. rw (bytes l old w) (spells l (written-so l old w .0));
+      bytes = λ l old b w. rw (bytes l old w) (spelled-bytes l b (written-so l old w .0));
       kept = kept;
       refused = untouched;
       equal = λ l m a b v w. (
@@ -207,6 +210,7 @@ one-spelling =
           let size : spelledSize (headerOf (spellingOf l) .records) ≤ length new = omega (arith, room, ap length e, spelling-length l, ap (λ (h : Header). h .records) (header-back l)) in
           let twice = so-written (spellingOf l) new (accepted-back l (written-so l old w .0), size) in
           rw e (twice, bytes (spellingOf l) new twice ∙ spelled-again l);
+      read = λ l old w i. rw (bytes l old w) (read-back l (written-so l old w .0 .trace) i);
       brought = λ l old w. rw (bytes l old w) (all-brought l);
       replayed = λ l old w room. rw (bytes l old w) (answer-same l (written-so l old w .0) room);
       printed = λ l old w out. rw (bytes l old w) (output-same l (written-so l old w .0) out);
@@ -214,3 +218,6 @@ one-spelling =
 
 pub length-enough : (l : List ℕ) → LengthEnough l
 length-enough l a = rw (size-length l (a .trace)) at (size-least l (a .trace))
+
+pub used-exactly : (a b : Slot) → UsedExactly a b
+used-exactly a b ka kb = (same-record a b ka kb, record-same a b)

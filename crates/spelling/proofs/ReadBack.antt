@@ -3,17 +3,22 @@ use Prim.Native.Nat.{ℕ, zero, suc, _+_, _-_, _*_, _/_, _%_, _≤_, _<_}
 use mathlib.Core.List.{List, _++_}
 use mathlib.Core.Path.{_≡_, refl, sym, ap, subst, _∙_}
 use native.Mathlib.Nat.{add-zero, zero-add}
+use native.Mathlib.Decide.{decLe}
 use native.Mathlib.Omega.{arith}
 use lib.ListN.{length, getD, drop}
 use lib.Seq.{getD-drop, drop-drop}
+use borrow.Author.Tests.{le-ltb}
 use Rattle.frame.specs.declared.Settings.{Settings}
+use Rattle.frame.proofs.Accepted.{neither}
 use Rattle.heard.specs.declared.Slot.{Slot}
 use Rattle.heard.specs.Memory.{heardIn}
 use Rattle.trace.specs.declared.Header.{Header}
 use Rattle.trace.specs.Exactly.{PartsFit}
-use Rattle.trace.specs.Trace.{byteAt, numberAt, headerOf, settingsAt, settingsOf, placeOf, traceRefusal}
+use Rattle.trace.specs.Trace.{byteAt, numberAt, headerOf, settingsAt, settingsOf, partsRefusal, placeOf, traceRefusal}
 use Rattle.trace.proofs.Exactly.{exactly}
-use Rattle.reader.specs.Record.{slotAt, usedIn, broughtBy, recordSlot, broughtAt}
+use Rattle.reader.specs.declared.Record.the-variants.{At}
+use Rattle.reader.specs.Record.{slotAt, usedIn, broughtBy, recordSlot, broughtAt, recordOf}
+use Rattle.reader.proofs.Given.{record-read}
 use Rattle.replaying.specs.Replay.{broughtFrom, broughtIn, playedIn}
 use Rattle.spelling.specs.Spelling.{spelledSize, headerBytes, settingsBytes, slotBytes, recordsBytes, spellingOf}
 use Rattle.spelling.proofs.Answers.{spelling-length}
@@ -48,6 +53,11 @@ records-drop l (suc j) i count =
     let more : suc j + count ≡ suc (j + count) = omega arith in
     let place : i + suc j ≡ suc i + j = omega arith in
     rw (four, more, place) (records-drop l j (suc i) count)
+
+-- A trace that is not refused is in order in its parts.
+traced : (l : List ℕ) → traceRefusal l ≡ 0 → partsRefusal l ≡ 0
+unfolding traceRefusal
+traced l good = neither (partsRefusal l) _ good .0
 
 module _ (l : List ℕ) where
   abbrev w : List ℕ
@@ -104,6 +114,25 @@ module _ (l : List ℕ) where
 
       kinds : (i : ℕ) → i < headerOf w .records → byteAt w (placeOf (headerOf w .first) i) ≤ 3
       kinds i h = kind-back i (rw header-back at h)
+
+  -- A reader gives the same records, and the end after the last.
+  module _ (good : traceRefusal l ≡ 0) where
+    read-same : (i : ℕ) → i < r → recordOf w i ≡ recordOf l i
+    read-same i h =
+        let there : i < headerOf w .records = rw header-back h in
+        let same : usedIn (recordSlot w i) ≡ usedIn (recordSlot l i) = ap usedIn (record-back i h) ∙ used-again (recordSlot l i) in
+        record-read w trace-back i there ∙ ap At same ∙ sym (record-read l good i h)
+
+    end-same : (i : ℕ) → r ≤ i → recordOf w i ≡ recordOf l i
+    unfolding recordOf
+    end-same i h = rw (traced w trace-back, traced l good, header-back, le-ltb i r h)
+
+    pub read-back : (i : ℕ) → recordOf w i ≡ recordOf l i
+    read-back i = go (decLe (suc i) r)
+      where
+        go : Dec (suc i ≤ r) → recordOf w i ≡ recordOf l i
+        go (yes h) = read-same i h
+        go (no h) = end-same i (omega arith)
 
   -- What its records bring is what those of the trace do.
   brought-back : (i : ℕ) → i < r → broughtAt w i ≡ broughtAt l i

@@ -158,6 +158,19 @@ module _ (t : Slot) where
             release = λ z. absurd (omega arith);
           })
 
+  -- What goes into bytes stays so.
+  pub used-small : t .cce < 256 → t .dai < 256 → (usedIn t .cce < 256) × (usedIn t .dai < 256) × (usedIn t .results < 256)
+  used-small cce dai = go (ℕ-discrete (t .kind) 1) (ℕ-discrete (t .kind) 2) (ℕ-discrete (t .kind) 3)
+    where
+      bits : usedResults (t .results) < 256
+      bits = omega (arith, results-bare (t .results) .above)
+
+      go : Dec (t .kind ≡ 1) → Dec (t .kind ≡ 2) → Dec (t .kind ≡ 3) → (usedIn t .cce < 256) × (usedIn t .dai < 256) × (usedIn t .results < 256)
+      go (yes e) b c = rw (grant-used e) (cce, dai, bits)
+      go (no a) (yes e) c = rw (scheduled-used e) (omega arith, omega arith, bits)
+      go (no a) (no b) (yes e) = rw (release-used e) (cce, dai, omega arith)
+      go (no a) (no b) (no c) = rw (nothing-used a b c) (omega arith, omega arith, omega arith)
+
 -- Records that are alike in what is used are written alike, whatever else is in them.
 module _ (a b : Slot) where
   pub record-same : SameRecord a b → usedIn a ≡ usedIn b

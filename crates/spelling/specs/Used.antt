@@ -1,5 +1,5 @@
--- What of a trace is used, kind by kind, and when two traces are alike in it. Said by itself, with no word of how a record is read or
--- written: document 02, U3 for what is used, U4 for alike.
+-- What of a trace is used, kind by kind, and when two traces are alike in it: document 02, U3 for what is used, U4 for alike. It cites
+-- neither the reader's `usedIn` nor anything of the writer.
 -- Assumes nothing.
 use Prim.Native.Nat.{ℕ, _/_, _%_, _<_}
 use mathlib.Core.List.{List}

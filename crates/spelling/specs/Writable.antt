@@ -1,4 +1,5 @@
--- What the functions that write ask: a trace that is accepted, its own count of records, and room for its spelling.
+-- What the functions that write ask: a trace whose parts, kinds and settings are not refused, its own count of records, a size that 16
+-- bits hold, and room for it.
 -- Assumes nothing.
 use Prim.Native.Nat.{ℕ, _≤_}
 use mathlib.Core.List.{List}

@@ -55,7 +55,7 @@ fn put_header(out: &mut [u8], records: u16)
     put_number(out, 6, 18 + 4 * records);
 }
 
-// Writes the settings, at 8. Accepted ones go into their bytes.
+// Writes the settings, at 8. Accepted settings fit their bytes.
 fn put_settings(out: &mut [u8], s: Settings)
     requires { ⌜ (settingsRefusal s ≡ 0) × (18 ≤ length (now out)) ⌝ }
     ensures { λ _. ⌜ now (out .exit) ≡ putAt 8 (settingsBytes s) (now (out .entry)) ⌝ }
@@ -85,8 +85,8 @@ fn put_record(out: &mut [u8], at: usize, r: Record)
     }
 }
 
-// Writes the records, from 18 on, as a reader gives them. Whatever the trace has become, nothing is written outside: a record's place
-// is made of its number alone.
+// Writes the records, from 18 on, as a reader gives them. Should a C caller's output overlap the trace, nothing is written outside: a
+// record's place is made of its number alone.
 fn put_records(trace: &[u8], records: u16, out: &mut [u8])
     requires { ⌜ Writable (now trace) records (now out) ⌝ }
     ensures { λ _. ⌜ now (out .exit) ≡ putAt 18 (recordsBytes (now (trace .entry)) 0 records) (now (out .entry)) ⌝ }
@@ -109,7 +109,7 @@ fn put_trace(trace: &[u8], records: u16, out: &mut [u8])
     put_records(trace, records, out);
 }
 
-// Writes any bytes that are an accepted trace into any output with room for it.
+// Writes any bytes that are an accepted trace into any output with room for it; else refuses, and leaves the output as it was.
 // The third promise follows from the other two; with it a caller may lend the bytes that were written.
 pub fn write(trace: &[u8], out: &mut [u8]) -> Written
     ensures { λ r. ⌜ r ≡ writeOf (now (trace .entry)) (length (now (out .entry))) ⌝ }

@@ -1,5 +1,5 @@
 // One spelling of a trace (document 02, U4): any trace that a replay would run to its end, written with its settings at 8, its records
-// at 18 and every unused field and bit 0, so that two traces are alike exactly if their bytes are.
+// at 18 and every unused field and bit 0, so that two traces are alike exactly if what is written of them is equal.
 mod bytes;
 mod stops;
 

@@ -9,7 +9,7 @@ ghost use Rattle.trace.specs.Trace.{headerOf, traceRefusal};
 ghost use Rattle.replaying.specs.Replay.{broughtIn, played};
 ghost use Rattle.spelling.specs.Writing.{recordStop, stopOf};
 
-// The first record that a fresh handset refuses.
+// The first record that is refused where `start` is fed all of them in turn.
 fn first_refused(trace: &[u8], records: u16, start: Handset) -> Stop
     requires { ⌜ (traceRefusal (now trace) ≡ 0) × (records ≡ headerOf (now trace) .records) ⌝ }
     ensures { λ r. ⌜ r ≡ recordStop (played start 0 (broughtIn (now (trace .entry)))) ⌝ }

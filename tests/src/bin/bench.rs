@@ -9,20 +9,20 @@
 use feedback_tests::c::{
     feedback_answered, feedback_claims, feedback_feed_grant, feedback_feed_nothing,
     feedback_feed_release, feedback_feed_scheduled, feedback_inverse, feedback_make,
-    feedback_reading, feedback_replay, feedback_resource, feedback_window,
+    feedback_reading, feedback_replay, feedback_resource, feedback_trace_write, feedback_window,
 };
 use feedback_tests::compare::plain_feed;
 use feedback_tests::every;
 use feedback_tests::model::{bundles, edge, is_short, is_uplink, Model, Window};
 use feedback_tests::plain::{
     plain_answered, plain_claims, plain_inverse, plain_make, plain_reading, plain_replay,
-    plain_resource, plain_window,
+    plain_resource, plain_trace_write, plain_window,
 };
 use feedback_tests::random::Random;
-use feedback_tests::trace::{Trace, MOST_WINDOWS, WINDOW};
+use feedback_tests::trace::{Trace, LONGEST, WINDOW};
 use feedback_tests::{
     AnsweredAnswer, Block, ClaimsAnswer, Fed, Grant, Handset, Heard, ReadingAnswer, Release,
-    ReplayAnswer, Settings, WindowAnswer, NOT_TOLD,
+    ReplayAnswer, Settings, WindowAnswer, WriteAnswer, NOT_TOLD,
 };
 use std::hint::black_box;
 use std::time::Instant;
@@ -78,7 +78,7 @@ fn main() {
         "# Performance
 
 The C calls beside the same calls in plain Rust, in nanoseconds for one call, for
-the claims for one claim, and for a replay for one record. Printed by `cargo run --release --offline --locked
+the claims for one claim, and for calls on a trace for one record. Printed by `cargo run --release --offline --locked
 --bin bench` in `tests`. Both sides are `extern \"C\"` functions of one signature
 and are not inlined; they get the same inputs, in batches that alternate, and the
 median of {BATCHES} batches counts. The figures depend on the machine; the ratios
@@ -94,7 +94,9 @@ called short: there they bring nothing or a release.
 
 The traces are of configuration 2 with two blocks and a schedule, with grants, scheduled
 blocks, releases and nothing in the downlink, and good to the end. In plain Rust a
-replay keeps no state: it checks the settings once and looks back into the trace.
+replay keeps no state: it checks the settings once and looks back into the trace. A
+trace is written when all its records have been checked as in a replay, and in plain
+Rust that check makes no reply.
 
 | call | ours, ns | plain Rust, ns | ratio |
 |---|---:|---:|---:|"
@@ -107,6 +109,7 @@ replay keeps no state: it checks the settings once and looks back into the trace
     schedule(&model, &mut Random::new(1));
     short_specials(&model, &mut Random::new(2));
     replays(&model, &mut Random::new(3));
+    writings(&model, &mut Random::new(4));
 }
 
 fn numbers(model: &Model, random: &mut Random) {
@@ -377,31 +380,54 @@ fn claims_row(name: &str, lists: &[List]) {
     );
 }
 
-/// Traces of several lengths; of the short ones so many that a batch has thousands of
-/// records.
+/// How many records the measured traces have, in words too, and how many traces a batch
+/// has: of the short ones so many that it has thousands of records.
+const TRACES: [(&str, usize, usize); 3] =
+    [("1,000", 1_000, 8), ("4,000", 4_000, 2), ("16,379", 16_379, 1)];
+
 fn replays(model: &Model, random: &mut Random) {
     for (name, mode) in [("bundled", 0), ("multiplexed", 1)] {
-        let settings = Settings::plain(2, 50, 10, mode, 2).with_scheduled(7);
-        for (length, records, traces) in
-            [("1,000", 1_000, 8), ("4,000", 4_000, 2), ("16,379", 16_379, 1)]
-        {
-            let mut trace = || Trace::new(settings, &random.records(model, settings, records));
-            let inputs: Vec<Vec<u8>> = (0..traces).map(|_| trace().bytes()).collect();
+        for (length, records, traces) in TRACES {
             let name = format!("replay, {name} cell, {length} records");
-            let (mut our_output, mut plain_output) = (vec![0; ROOM], vec![0; ROOM]);
-            row(
-                &name,
-                &inputs,
-                traces * records,
-                |trace| engine_replay(trace, &mut our_output),
-                |trace| plain_rust_replay(trace, &mut plain_output),
-            );
+            let inputs = traces_of(model, mode, records, traces, random);
+            trace_row(&name, &inputs, records, engine_replay, plain_rust_replay);
         }
     }
 }
 
-/// Room for every trace.
-const ROOM: usize = WINDOW * MOST_WINDOWS;
+fn writings(model: &Model, random: &mut Random) {
+    for (length, records, traces) in TRACES {
+        let name = format!("trace_write, {length} records");
+        let inputs = traces_of(model, 0, records, traces, random);
+        trace_row(&name, &inputs, records, engine_trace_write, plain_rust_trace_write);
+    }
+}
+
+fn traces_of(
+    model: &Model,
+    mode: u16,
+    records: usize,
+    traces: usize,
+    random: &mut Random,
+) -> Vec<Vec<u8>> {
+    let settings = Settings::plain(2, 50, 10, mode, 2).with_scheduled(7);
+    let mut trace = || Trace::new(settings, &random.records(model, settings, records));
+    (0..traces).map(|_| trace().bytes()).collect()
+}
+
+/// A call that reads a trace and writes an output, which has room for every trace.
+type OnTrace = fn(&[u8], &mut [u8]) -> u64;
+
+fn trace_row(name: &str, inputs: &[Vec<u8>], records: usize, ours: OnTrace, plain: OnTrace) {
+    let (mut our_output, mut plain_output) = (vec![0; LONGEST], vec![0; LONGEST]);
+    row(
+        name,
+        inputs,
+        inputs.len() * records,
+        |trace| ours(trace, &mut our_output),
+        |trace| plain(trace, &mut plain_output),
+    );
+}
 
 /// Measures two implementations whose batches alternate, each over all inputs,
 /// and prints the nanoseconds of one of the `number` things that are in them.
@@ -616,4 +642,25 @@ fn last_window(answer: ReplayAnswer, output: &[u8]) -> u64 {
     let last = &black_box(output)[WINDOW * windows.max(1) - WINDOW..][..WINDOW];
     let resource = u64::from(last[3]) << 8 | u64::from(last[2]);
     u64::from(answer.kind) << 48 | (windows as u64) << 16 | resource
+}
+
+fn engine_trace_write(trace: &[u8], output: &mut [u8]) -> u64 {
+    let (out, room) = (output.as_mut_ptr(), output.len());
+    // SAFETY: trace and output are lent with their lengths and do not overlap.
+    let answer = unsafe { feedback_trace_write(trace.as_ptr(), trace.len(), out, room) };
+    last_bytes(answer, output)
+}
+
+fn plain_rust_trace_write(trace: &[u8], output: &mut [u8]) -> u64 {
+    let (out, room) = (output.as_mut_ptr(), output.len());
+    // SAFETY: trace and output are lent with their lengths and do not overlap.
+    let answer = unsafe { plain_trace_write(trace.as_ptr(), trace.len(), out, room) };
+    last_bytes(answer, output)
+}
+
+/// How many bytes were written, and the last four of them.
+fn last_bytes(answer: WriteAnswer, output: &[u8]) -> u64 {
+    let written = &black_box(output)[..answer.bytes.into()];
+    let last = written.last_chunk().map_or(0, |last| u32::from_le_bytes(*last));
+    u64::from(answer.kind) << 48 | u64::from(answer.bytes) << 32 | u64::from(last)
 }

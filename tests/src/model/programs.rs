@@ -1,4 +1,4 @@
-//! What the programs `replay` and `replay_text` print for their input.
+//! What the programs `replay`, `replay_text` and `spell` print for their input.
 
 use super::replay::Played;
 use super::Model;
@@ -10,7 +10,7 @@ impl Model {
     /// Standard output and standard error of `replay`.
     pub fn replay_program(&self, input: &[u8]) -> (Vec<u8>, String) {
         match self.play(input, ROOM) {
-            Err(refusal) => (Vec::new(), format!("refused {refusal}\n")),
+            Err(refusal) => (Vec::new(), refused_line(refusal)),
             Ok(Played { windows, stopped }) => {
                 let bytes = windows.into_iter().flat_map(|(_, window)| window).collect();
                 (bytes, stopped.map(stopped_line).unwrap_or_default())
@@ -21,13 +21,26 @@ impl Model {
     /// Standard output of `replay_text`; it prints nothing else.
     pub fn replay_text(&self, input: &[u8]) -> String {
         match self.play(input, ROOM) {
-            Err(refusal) => format!("refused {refusal}\n"),
+            Err(refusal) => refused_line(refusal),
             Ok(Played { windows, stopped }) => {
                 let lines = windows.into_iter().map(window_line);
                 lines.chain(stopped.map(stopped_line)).collect()
             }
         }
     }
+
+    /// Standard output and standard error of `spell`.
+    pub fn spell_program(&self, input: &[u8]) -> (Vec<u8>, String) {
+        match self.spelling(input) {
+            Ok(spelled) => (spelled, String::new()),
+            Err((refusal, None)) => (Vec::new(), refused_line(refusal)),
+            Err((refusal, Some(record))) => (Vec::new(), stopped_line((refusal, record))),
+        }
+    }
+}
+
+fn refused_line(refusal: u16) -> String {
+    format!("refused {refusal}\n")
 }
 
 fn stopped_line((refusal, record): (u16, usize)) -> String {

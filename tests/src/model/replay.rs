@@ -8,9 +8,9 @@ use super::Model;
 use crate::{Block, Fed, Grant, Heard, RecordAnswer, Release, ReplayAnswer, Settings, Slot};
 
 /// The parts of a trace that lie in it, apart from each other.
-struct Parts<'a> {
-    settings: &'a [u8],
-    records: Vec<Slot>,
+pub(super) struct Parts<'a> {
+    pub settings: &'a [u8],
+    pub records: Vec<Slot>,
 }
 
 /// A replay that got to its first record: the windows, each with the number of the
@@ -83,7 +83,7 @@ impl Model {
 }
 
 /// The parts of a trace, or 21 or 22.
-fn parts(file: &[u8]) -> Result<Parts<'_>, u16> {
+pub(super) fn parts(file: &[u8]) -> Result<Parts<'_>, u16> {
     let header: Vec<usize> = file.chunks_exact(2).take(4).map(number).collect();
     let [records, first, settings, length] = header[..] else {
         return Err(21);
@@ -132,7 +132,7 @@ fn record_in(bytes: &[u8]) -> Slot {
 
 /// What the kind of a record uses: 1 all, 2 the results, 3 CCE and DAI; of the results
 /// three bits, bit 1 only with bit 2. The rest is ignored, and 0 here.
-fn used(record: Slot) -> Slot {
+pub(super) fn used(record: Slot) -> Slot {
     let Slot { kind, cce, dai, results } = record;
     let has = |bit: u8| results & bit != 0;
     let bits: [(u8, bool); 3] = [(1, has(1)), (2, has(2) && has(4)), (4, has(4))];

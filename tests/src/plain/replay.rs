@@ -8,10 +8,16 @@ use super::{check, K, SIZES};
 use crate::{RecordAnswer, ReplayAnswer, Settings, Slot};
 use std::slice;
 
-const HEADER: usize = 8;
-const SETTINGS: usize = 10;
-const RECORD: usize = 4;
+pub(super) const HEADER: usize = 8;
+pub(super) const SETTINGS: usize = 10;
+pub(super) const RECORD: usize = 4;
 const WINDOW: usize = 8;
+
+/// The parts of a trace that lie in it, of any values.
+pub(super) struct Parts<'a> {
+    pub settings: &'a [u8; SETTINGS],
+    pub records: &'a [[u8; RECORD]],
+}
 
 /// How many windows the first subframes of a frame complete, by configuration and their
 /// number; last those of a whole frame.
@@ -47,7 +53,7 @@ pub unsafe extern "C" fn plain_replay(
     // SAFETY: the caller lends both for as long as the call lasts.
     let (file, out) =
         unsafe { (slice::from_raw_parts(trace, length), slice::from_raw_parts_mut(out, room)) };
-    match open(file, room) {
+    match open_into(file, room) {
         Ok((settings, records)) => play(&settings, records, out),
         Err(refusal) => ReplayAnswer::refused(refusal),
     }
@@ -67,7 +73,7 @@ pub unsafe extern "C" fn plain_record(
     // SAFETY: the caller lends the trace for as long as the call lasts.
     match parts(unsafe { slice::from_raw_parts(trace, length) }) {
         Err(refusal) => RecordAnswer::refused(refusal),
-        Ok((_, records)) => match records.get(next) {
+        Ok(Parts { records, .. }) => match records.get(next) {
             None => RecordAnswer::END,
             Some([kind, ..]) if *kind > 3 => RecordAnswer::refused(22),
             Some(record) => RecordAnswer::read(used(slot(record))),
@@ -76,12 +82,8 @@ pub unsafe extern "C" fn plain_record(
 }
 
 /// The settings and the records of a trace that can be replayed into so many bytes.
-fn open(file: &[u8], room: usize) -> Result<(Settings, &[[u8; RECORD]]), u16> {
-    let (settings, records) = parts(file)?;
-    if records.iter().any(|[kind, ..]| *kind > 3) {
-        return Err(22);
-    }
-    check(&settings)?;
+fn open_into(file: &[u8], room: usize) -> Result<(Settings, &[[u8; RECORD]]), u16> {
+    let (settings, Parts { records, .. }) = open(file)?;
     let of_config = &WINDOWS[usize::from(settings.config)];
     let windows = records.len() / 10 * usize::from(of_config[10])
         + usize::from(of_config[records.len() % 10]);
@@ -91,38 +93,49 @@ fn open(file: &[u8], room: usize) -> Result<(Settings, &[[u8; RECORD]]), u16> {
     Ok((settings, records))
 }
 
-/// The settings, which have not been checked, and the records, of any kinds.
-fn parts(file: &[u8]) -> Result<(Settings, &[[u8; RECORD]]), u16> {
+/// The settings of a trace, which have been checked, and its parts, with records of
+/// existing kinds.
+pub(super) fn open(file: &[u8]) -> Result<(Settings, Parts<'_>), u16> {
+    let parts = parts(file)?;
+    if parts.records.iter().any(|[kind, ..]| *kind > 3) {
+        return Err(22);
+    }
+    let settings = settings_in(parts.settings);
+    check(&settings)?;
+    Ok((settings, parts))
+}
+
+fn parts(file: &[u8]) -> Result<Parts<'_>, u16> {
     let header = file.first_chunk::<HEADER>().ok_or(21u16)?;
     let [records, first, settings, length] =
         [0, 2, 4, 6].map(|at| usize::from(u16::from_le_bytes([header[at], header[at + 1]])));
     if length != file.len() {
         return Err(21);
     }
-    let settings = settings..settings + SETTINGS;
+    let settings_end = settings + SETTINGS;
     let records = match records {
         0 => HEADER..HEADER,
         _ => first..first + RECORD * records,
     };
-    let fits = settings.start >= HEADER && settings.end <= length;
+    let fits = settings >= HEADER && settings_end <= length;
     let records_fit = records.start >= HEADER && records.end <= length;
-    let apart =
-        records.is_empty() || records.end <= settings.start || settings.end <= records.start;
+    let apart = records.is_empty() || records.end <= settings || settings_end <= records.start;
     if !(fits && records_fit && apart) {
         return Err(22);
     }
+    let settings = file[settings..].first_chunk().ok_or(22u16)?;
     let (records, _) = file[records].as_chunks();
-    Ok((settings_in(&file[settings]), records))
+    Ok(Parts { settings, records })
 }
 
-fn settings_in(bytes: &[u8]) -> Settings {
+fn settings_in(bytes: &[u8; SETTINGS]) -> Settings {
     let byte = |at: usize| u16::from(bytes[at]);
     let wide = |at: usize| u16::from_le_bytes([bytes[at], bytes[at + 1]]);
     let settings = Settings::plain(byte(0), byte(1), wide(6), byte(2), byte(3));
     settings.with_scheduled(wide(8)).with_special(byte(5), byte(4))
 }
 
-fn slot(record: &[u8; RECORD]) -> Slot {
+pub(super) fn slot(record: &[u8; RECORD]) -> Slot {
     let [kind, cce, dai, results] = *record;
     Slot { kind, cce, dai, results }
 }
