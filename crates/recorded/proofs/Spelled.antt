@@ -84,3 +84,20 @@ unlike s =
 pub stopped-answer : writeOf stopped 10 ≡ record { refusal = 9; kind = 2; number = 3; size = 0 }
 unfolding spellings
 stopped-answer = refl
+
+-- No records, at an offset that is ignored: in the spelling it is 18.
+abbrev pub empty : List ℕ
+empty = (0 ∷ 0 ∷ 255 ∷ 255 ∷ 10 ∷ 0 ∷ 21 ∷ 0 ∷ []) ++ (7 ∷ 7 ∷ []) ++ settings ++ 7 ∷ []
+
+pub empty-spelled : spelledInto empty (replicate 19 9) ≡ (0 ∷ 0 ∷ 18 ∷ 0 ∷ 8 ∷ 0 ∷ 18 ∷ 0 ∷ []) ++ settings ++ 9 ∷ []
+unfolding spellings
+empty-spelled = refl
+
+-- A grant of two blocks, the second decoded, with every bit above bit 2 set: bits 1 and 2 stay. The cell has two blocks.
+abbrev pub twoBlocks : List ℕ
+twoBlocks = (1 ∷ 0 ∷ 18 ∷ 0 ∷ 8 ∷ 0 ∷ 22 ∷ 0 ∷ []) ++ (1 ∷ 50 ∷ 0 ∷ 2 ∷ 7 ∷ 0 ∷ 10 ∷ 0 ∷ 255 ∷ 255 ∷ []) ++ 1 ∷ 3 ∷ 1 ∷ 254 ∷ []
+
+pub two-blocks-spelled : spelledInto twoBlocks (replicate 22 9)
+    ≡ (1 ∷ 0 ∷ 18 ∷ 0 ∷ 8 ∷ 0 ∷ 22 ∷ 0 ∷ []) ++ (1 ∷ 50 ∷ 0 ∷ 2 ∷ 7 ∷ 0 ∷ 10 ∷ 0 ∷ 255 ∷ 255 ∷ []) ++ 1 ∷ 3 ∷ 1 ∷ 6 ∷ []
+unfolding spellings
+two-blocks-spelled = refl

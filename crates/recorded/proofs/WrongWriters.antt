@@ -1,5 +1,5 @@
 -- What the statement of spelling/specs/OneSpelling.antt shuts out, field by field. For each field there is the writer of this repository
--- with one fault, and a proof that the statement does not hold of it. The proof asks the statement for this field; without the field it
+-- with a fault, and a proof that the statement does not hold of it. The proof asks the statement for this field; without the field it
 -- no longer checks.
 --
 -- OneSpelling
@@ -12,18 +12,21 @@
 --              a record's refusal told as one of the trace                      not-as-trace
 --   small      21 for 23                                                        not-twenty-one
 --   spells     by its fields, below
+--   bytes      N1 300 as one number, and 0                                      not-unbyted
 --   kept       the output behind the bytes is cleared                           not-clears-behind
 --   refused    the header is written before a record is refused                 not-header-first
 --   equal      bit 1 kept without bit 2: the same trace, other bytes            not-keeps-second-equal
 --              nothing of a record kept: another trace, the same bytes          not-forgets-equal
 --   accepted   the offsets exchanged                                            not-exchanges-accepted
 --   again      the records backwards                                            not-backwards-again
+--   read       the records backwards                                            not-backwards-read
 --   brought    the records backwards                                            not-backwards-brought
 --   replayed   the last record left out                                         not-leaves-out-replayed
 --   printed    the first CCE left out                                           not-without-cce-printed
 -- Spells
 --   header     the offsets exchanged                                            not-exchanges
 --              the length of the source                                         not-source-length
+--              the records' offset 0 where there are none                       not-nowhere
 --   size       the last record left out                                         not-leaves-out
 --   same       settings: the special configuration left out                     not-without-special
 --              count: the last record left out                                  not-leaves-out-count
@@ -34,28 +37,32 @@
 --              scheduled: its DAI kept                                          not-keeps-dai
 --              release: a record copied as it is                                not-copies-release
 -- Assumes nothing.
-use Prim.Native.Nat.{ℕ, zero, suc, _+_, _%_}
-use mathlib.Core.Bool.{cond}
+use Prim.Native.Nat.{ℕ, zero, suc, _+_, _-_, _%_}
+use mathlib.Core.Bool.{Bool, true, cond, _&&_}
 use mathlib.Core.List.{List, [], _∷_, _++_}
-use mathlib.Core.Path.{refl, ap}
+use mathlib.Core.Path.{_≡_, refl, ap}
 use native.Mathlib.Omega.{arith}
 use lib.Dec.{eqb, ltb, lit<, lit≤}
 use lib.ListN.{length, replicate, getD}
+use borrow.Author.Tests.{ltb-true}
 use Rattle.frame.specs.declared.Settings.{Settings}
 use Rattle.heard.specs.declared.Heard.{Heard}
 use Rattle.heard.specs.declared.Slot.{Slot}
 use Rattle.heard.specs.Memory.{slotOf, none}
 use Rattle.trace.specs.declared.Header.{Header}
 use Rattle.trace.specs.Trace.{headerOf, settingsOf}
-use Rattle.reader.specs.Record.{usedIn, recordSlot}
+use Rattle.trace.proofs.Known.{both}
+use Rattle.reader.specs.declared.Record.{Record}
+use Rattle.reader.specs.declared.Record.the-variants.{Refused, At, End}
+use Rattle.reader.specs.Record.{usedIn, recordSlot, readAs, recordOf}
 use Rattle.replaying.specs.Accepted.{AcceptedTrace}
 use Rattle.replaying.specs.declared.Replayed.{Replayed}
 use Rattle.replaying.specs.Replay.{written}
 use Rattle.spelling.specs.declared.Written.{Written}
-use Rattle.spelling.specs.OneSpelling.{Writer, OneSpelling}
+use Rattle.spelling.specs.OneSpelling.{Writer, Bytes, OneSpelling}
 use Rattle.spelling.specs.Spelling.{numberBytes, spelledSize, headerBytes, settingsBytes, slotBytes, spellingOf}
 use Rattle.spelling.specs.Writing.{writeOf, outputAs, spelledInto}
-use Rattle.recorded.proofs.Spelled.{spellings, elsewhere, alike, missed, unlike}
+use Rattle.recorded.proofs.Spelled.{spellings, elsewhere, alike, missed, unlike, empty}
 use Rattle.recorded.proofs.Worked.{settings, drive, stopped}
 
 -- Writers with other answers, and with other bytes.
@@ -115,7 +122,13 @@ not-room-first s = omega (arith, ap (λ (r : Written). r .refusal) (s .stops sto
 
 -- The number of the record after.
 abbrev nextRecord : List ℕ → ℕ → Written
-nextRecord l room = record { refusal = writeOf l room .refusal; kind = writeOf l room .kind; number = writeOf l room .number + 1; size = writeOf l room .size }
+nextRecord l room =
+    record {
+      refusal = writeOf l room .refusal;
+      kind = writeOf l room .kind;
+      number = cond (eqb (writeOf l room .kind) 2) (writeOf l room .number + 1) 0;
+      size = writeOf l room .size;
+    }
 
 pub not-next-record : OneSpelling (answering nextRecord) → ⊥
 unfolding spellings
@@ -139,7 +152,11 @@ not-twenty-one s = omega (arith, ap (λ (r : Written). r .refusal) (s .small dri
 
 -- The output behind the bytes is cleared.
 abbrev clearsBehind : Writer
-clearsBehind = record { answer = writeOf; output = λ l old. outputAs (writeOf l (length old) .refusal) (spellingOf l ++ replicate 2 0) old }
+clearsBehind =
+    record {
+      answer = writeOf;
+      output = λ l old. outputAs (writeOf l (length old) .refusal) (spellingOf l ++ replicate (length old - spelledSize (headerOf l .records)) 0) old;
+    }
 
 pub not-clears-behind : OneSpelling clearsBehind → ⊥
 unfolding spellings
@@ -204,6 +221,18 @@ not-copies-release s = omega (arith, s .spells release (replicate 22 9) refl .ba
 abbrev block : List ℕ
 block = (1 ∷ 0 ∷ 18 ∷ 0 ∷ 8 ∷ 0 ∷ 22 ∷ 0 ∷ []) ++ (1 ∷ 50 ∷ 0 ∷ 1 ∷ 7 ∷ 0 ∷ 44 ∷ 1 ∷ 7 ∷ 0 ∷ []) ++ 2 ∷ 99 ∷ 88 ∷ 1 ∷ []
 
+abbrev under : List ℕ → Bool
+under [] = true
+under (x ∷ l) = ltb x 256 && under l
+
+under-bytes : (l : List ℕ) → under l ≡ true → Bytes l
+under-bytes [] e i = lit< tt
+under-bytes (x ∷ l) e zero = ltb-true x 256 (both (ltb x 256) (under l) e .0)
+under-bytes (x ∷ l) e (suc i) = under-bytes l (both (ltb x 256) (under l) e .1) i
+
+block-bytes : Bytes block
+block-bytes = under-bytes block refl
+
 -- Its DAI kept.
 abbrev keepsDai : Slot → Slot
 keepsDai t = record { kind = usedIn t .kind; cce = usedIn t .cce; dai = cond (eqb (t .kind) 2) (t .dai) (usedIn t .dai); results = usedIn t .results }
@@ -236,6 +265,32 @@ not-exchanges s = omega (arith, ap (λ (h : Header). h .settings) (s .spells dri
 pub not-exchanges-accepted : OneSpelling (writing exchanges) → ⊥
 unfolding spellings
 not-exchanges-accepted s = omega (arith, s .accepted drive (replicate 50 9) refl .trace)
+
+-- The records' offset 0 where there are none.
+abbrev nowhere : List ℕ → List ℕ
+nowhere l =
+    headed
+    (numberBytes (headerOf l .records)
+    ++ (numberBytes (cond (eqb (headerOf l .records) 0) 0 18) ++ (numberBytes 8 ++ numberBytes (spelledSize (headerOf l .records)))))
+    l
+
+pub not-nowhere : OneSpelling (writing nowhere) → ⊥
+unfolding spellings
+not-nowhere s = omega (arith, ap (λ (h : Header). h .first) (s .spells empty (replicate 18 9) refl .header))
+
+-- A number as one that no byte holds, and 0.
+abbrev inOne : ℕ → List ℕ
+inOne n = n ∷ 0 ∷ []
+
+abbrev unbyted : List ℕ → List ℕ
+unbyted l =
+    headerBytes (headerOf l .records)
+    ++ ((settingsOf l .config ∷ settingsOf l .nrb ∷ settingsOf l .mode ∷ settingsOf l .blocks ∷ settingsOf l .special ∷ settingsOf l .prefix ∷ [])
+    ++ (inOne (settingsOf l .n1) ++ (inOne (settingsOf l .scheduled) ++ recordsBy usedIn l 0 (headerOf l .records))))
+
+pub not-unbyted : OneSpelling (writing unbyted) → ⊥
+unfolding spellings
+not-unbyted s = omega (arith, s .bytes block (replicate 22 9) block-bytes refl 14)
 
 -- The length of the source.
 abbrev sourceLength : List ℕ → List ℕ
@@ -313,6 +368,15 @@ pub not-backwards-again : OneSpelling (writing turned) → ⊥
 unfolding spellings
 not-backwards-again s =
     omega (arith, ap (λ (l : List ℕ). getD l 18 0) (s .again pair (replicate 26 9) refl (replicate 26 9) (lit≤ tt) .1))
+
+pub not-backwards-read : OneSpelling (writing turned) → ⊥
+unfolding spellings readAs recordOf
+not-backwards-read s = omega (arith, ap kindRead (s .read pair (replicate 26 9) refl 0))
+  where
+    kindRead : Record → ℕ
+    kindRead (Refused k) = 9
+    kindRead (At t) = t .kind
+    kindRead End = 9
 
 pub not-backwards-brought : OneSpelling (writing turned) → ⊥
 unfolding spellings
