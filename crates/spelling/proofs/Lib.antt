@@ -1,6 +1,7 @@
 pub mod Answers
 pub mod Feeding
 pub mod OneSpelling
+pub mod Only
 pub mod Putting
 pub mod ReadBack
 pub mod Records

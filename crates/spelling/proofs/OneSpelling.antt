@@ -80,7 +80,7 @@ module _ (l : List ℕ) where
       (λ z. not (record { trace = z .0; settings = z .1; records = z .2 })))
 
   -- A kind of an accepted trace is known.
-  kinds : traceRefusal l ≡ 0 → (i : ℕ) → i < headerOf l .records → recordSlot l i .kind ≤ 3
+  pub kinds : traceRefusal l ≡ 0 → (i : ℕ) → i < headerOf l .records → recordSlot l i .kind ≤ 3
   unfolding recordSlot slotAt
   kinds good i h = exactly l .none .0 good .2 i h
 

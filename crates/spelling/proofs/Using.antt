@@ -7,7 +7,7 @@ use borrow.Author.Tests.{eq-eqb, ne-eqb}
 use Rattle.heard.specs.declared.Slot.{Slot}
 use Rattle.heard.specs.Memory.{none}
 use Rattle.reader.specs.Record.{usedResults, usedIn}
-use Rattle.spelling.specs.Used.{bit2, SameResults, SameRecord, ResultsBare, RecordBare}
+use Rattle.spelling.specs.Used.{bit1, bit2, SameResults, SameRecord, ResultsBare, RecordBare}
 
 -- The bits that are used, with two blocks and without.
 with-two : (a : ℕ) → bit2 a ≡ 1 → usedResults a ≡ 4 + a % 4
@@ -40,6 +40,22 @@ results-bare a = go (ℕ-discrete (bit2 a) 1)
     go (yes e) = record { above = rw (with-two a e) (omega arith); second = rw (with-two a e) (λ z. absurd (omega arith)) }
     go (no e) = record { above = rw (without-two a e) (omega arith); second = rw (without-two a e) (λ z. omega arith) }
 
+-- Where no other bit is set, all are used.
+results-kept : (a : ℕ) → ResultsBare a → usedResults a ≡ a
+results-kept a b = go (ℕ-discrete (bit2 a) 1)
+  where
+    go : Dec (bit2 a ≡ 1) → usedResults a ≡ a
+    go (yes e) =
+        let same : 4 + a % 4 ≡ a = omega (arith, b .above) in
+        with-two a e ∙ same
+    go (no e) =
+        let none : bit2 a ≡ 0 = omega arith in
+        let four : a < 4 = omega (arith, b .above) in
+        let one : bit1 a ≡ 0 = b .second none in
+        let two : a < 2 = omega arith in
+        let same : a % 2 ≡ a = omega arith in
+        without-two a e ∙ same
+
 -- Used bits that are alike give the same numbers, and the same numbers used bits that are alike.
 results-same : (a b : ℕ) → SameResults a b → usedResults a ≡ usedResults b
 results-same a b s = go (ℕ-discrete (bit2 a) 1)
@@ -66,6 +82,10 @@ same-results a b same = go (ℕ-discrete (bit2 a) 1) (ℕ-discrete (bit2 b) 1)
     go (no e) (yes f) =
         let q = sym (without-two a e) ∙ same ∙ with-two b f in
         absurd (omega (arith, q))
+
+-- A record is its four numbers.
+fields : (a b : Slot) → a .kind ≡ b .kind → a .cce ≡ b .cce → a .dai ≡ b .dai → a .results ≡ b .results → a ≡ b
+fields a b k c d r = ap (λ (p : ℕ × (ℕ × (ℕ × ℕ))). record { kind = p .0; cce = p .1 .0; dai = p .1 .1 .0; results = p .1 .1 .1 }) (rw (k, c, d, r))
 
 -- A record, by its kind.
 module _ (t : Slot) where
@@ -158,6 +178,21 @@ module _ (t : Slot) where
             release = λ z. absurd (omega arith);
           })
 
+  -- Where nothing unused is left, all is used.
+  used-kept : t .kind ≤ 3 → RecordBare t → usedIn t ≡ t
+  used-kept known bare = go (ℕ-discrete (t .kind) 1) (ℕ-discrete (t .kind) 2) (ℕ-discrete (t .kind) 3)
+    where
+      go : Dec (t .kind ≡ 1) → Dec (t .kind ≡ 2) → Dec (t .kind ≡ 3) → usedIn t ≡ t
+      go (yes e) b c = grant-used e ∙ fields _ t (sym e) refl refl (results-kept (t .results) (bare .grant e))
+      go (no a) (yes e) c =
+          let p = bare .scheduled e in
+          scheduled-used e ∙ fields _ t (sym e) (sym (p .0)) (sym (p .1)) (results-kept (t .results) (p .2))
+      go (no a) (no b) (yes e) = release-used e ∙ fields _ t (sym e) refl refl (sym (bare .release e))
+      go (no a) (no b) (no c) =
+          let zero : t .kind ≡ 0 = omega arith in
+          let p = bare .nothing zero in
+          nothing-used a b c ∙ fields _ t (sym zero) (sym (p .0)) (sym (p .1)) (sym (p .2))
+
   -- What goes into bytes stays so.
   pub used-small : t .cce < 256 → t .dai < 256 → (usedIn t .cce < 256) × (usedIn t .dai < 256) × (usedIn t .results < 256)
   used-small cce dai = go (ℕ-discrete (t .kind) 1) (ℕ-discrete (t .kind) 2) (ℕ-discrete (t .kind) 3)
@@ -202,3 +237,8 @@ module _ (a b : Slot) where
             let q = sym (release-used a three) ∙ e ∙ release-used b (sym kind ∙ three) in
             (ap (λ (s : Slot). s .cce) q, ap (λ (s : Slot). s .dai) q);
       }
+
+-- Two records with nothing unused, alike in what is used to one of a known kind, are the same.
+pub one-bare : (o a b : Slot) → o .kind ≤ 3 → SameRecord o a → SameRecord o b → RecordBare a → RecordBare b → a ≡ b
+one-bare o a b known s t p q =
+    sym (used-kept a (rw (s .kind) at known) p) ∙ sym (record-same o a s) ∙ record-same o b t ∙ used-kept b (rw (t .kind) at known) q

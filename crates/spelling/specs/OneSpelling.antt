@@ -79,3 +79,8 @@ LengthEnough l = AcceptedTrace l → 18 + 4 * headerOf l .records ≤ length l
 -- What the reader takes of a record, and the handset is fed, is what is used of it: of known kinds, no more and no less.
 abbrev pub UsedExactly : Slot → Slot → Type 0
 UsedExactly a b = a .kind ≤ 3 → b .kind ≤ 3 → (usedIn a ≡ usedIn b) ↔ SameRecord a b
+
+-- The statement leaves no choice: of bytes, a writer that meets it answers and writes as the one of this repository does.
+abbrev pub OnlyWriter : Writer → Type 0
+OnlyWriter w =
+    OneSpelling w → (l old : List ℕ) → Bytes l → (w .answer l (length old) ≡ writeOf l (length old)) × (w .output l old ≡ spelledInto l old)
