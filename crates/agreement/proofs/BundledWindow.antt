@@ -15,6 +15,7 @@ use Rattle.frame.specs.Order.{member, positionOf, orderOf, timesOf}
 use Rattle.frame.specs.Settings.{bundles, windowRefusal}
 use Rattle.frame.specs.Table.{windowOf}
 use Rattle.frame.proofs.Accepted.{Accepted}
+use Rattle.frame.proofs.Bools.{bit-small}
 use Rattle.frame.proofs.Times.{in-time-order}
 use Rattle.frame.proofs.Windows.{window-size, zero-windows}
 use Rattle.resource.specs.declared.Mapped.the-variants as mapped
@@ -49,10 +50,6 @@ same-last k c k′ c′ e = (cc, cc)
 bit-true : (b : Bool) → (bit b ≡ 1) ↔ (b ≡ true)
 bit-true true = (λ e. refl, λ e. refl)
 bit-true false = (λ e. absurd (omega arith), λ e. absurd (false≢true e))
-
-bit-most : (b : Bool) → bit b ≤ 1
-bit-most true = omega arith
-bit-most false = omega arith
 
 -- 0, 4 or 8 of up to 8 PDCCHs.
 abbrev Fours : ℕ → Type 0
@@ -257,7 +254,7 @@ module _ (set : Settings) (n : ℕ) (good : windowRefusal set n ≡ 0) (ok : Acc
   second-most = go (eqb (set .blocks) 2)
     where
       go : (b : Bool) → cond b (bit (seen .second)) 0 ≤ 1
-      go true = bit-most (seen .second)
+      go true = bit-small (seen .second)
       go false = omega arith
 
   -- the bits are such as the reading takes
@@ -265,7 +262,7 @@ module _ (set : Settings) (n : ℕ) (good : windowRefusal set n ≡ 0) (ok : Acc
   unfolding badBits
   good-bits =
       rw
-      (le-ltb 1 (bit (seen .first)) (bit-most (seen .first)), le-ltb 1 (secondBit set seen) second-most)
+      (le-ltb 1 (bit (seen .first)) (bit-small (seen .first)), le-ltb 1 (secondBit set seen) second-most)
       (go (ℕ-discrete (set .blocks) 1))
     where
       go : Dec (set .blocks ≡ 1) → (eqb (set .blocks) 1 && eqb (secondBit set seen) 1) ≡ false
@@ -324,7 +321,7 @@ module _ (set : Settings) (n : ℕ) (good : windowRefusal set n ≡ 0) (ok : Acc
             λ e. second-all .0 (bit-true (seen .second) .0 (sym (second-bit two) ∙ e)),
             λ h. second-bit two ∙ bit-true (seen .second) .1 (second-all .1 h),
           );
-          bits = (bit-most (seen .first), second-most, one-bit);
+          bits = (bit-small (seen .first), second-most, one-bit);
         }
 
   -- the reply to heard PDCCHs

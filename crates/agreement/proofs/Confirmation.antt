@@ -18,6 +18,7 @@ use Rattle.frame.specs.declared.Settings.{Settings}
 use Rattle.frame.specs.Order.{member, timesOf}
 use Rattle.frame.specs.Settings.{settingsRefusal}
 use Rattle.frame.proofs.Accepted.{accepted}
+use Rattle.frame.proofs.Bools.{both}
 use Rattle.frame.proofs.Lists as lists
 use Rattle.frame.proofs.Times.{in-time-order}
 use Rattle.resource.specs.declared.Mapped.{Mapped}
@@ -31,7 +32,7 @@ use Rattle.confirmation.specs.declared.Send.{Send}
 use Rattle.confirmation.specs.declared.Send.the-variants as send
 use Rattle.confirmation.specs.Confirmed.{namedSent, speaksFor, holdsFor, acknowledged, saysAck, confirmed}
 use Rattle.confirmation.specs.Sent.{isPdcch as isSentPdcch, blocksOf}
-use Rattle.confirmation.proofs.Confirmed.{both, acknowledged-says, carried}
+use Rattle.confirmation.proofs.Confirmed.{acknowledged-says, carried}
 use Rattle.confirmation.proofs.Received.{lostUpTo, none-before, speaks-received}
 use Rattle.heard.specs.declared.Heard.{Heard}
 use Rattle.heard.specs.declared.Heard.the-variants.{Nothing, Granted, Scheduled, Released}

@@ -10,9 +10,9 @@ use mathlib.Core.Path.{_≡_, refl, sym, ap, _∙_}
 use native.Mathlib.Omega.{arith}
 use lib.ListN.{length}
 use Rattle.frame.specs.Order.{positionOf}
+use Rattle.frame.proofs.Bools.{both}
 use Rattle.confirmation.specs.declared.Send.{Send}
 use Rattle.confirmation.specs.Sent.{isPdcch as isSentPdcch, daiOf}
-use Rattle.confirmation.proofs.Confirmed.{both}
 use Rattle.heard.specs.declared.Heard.{Heard}
 use Rattle.heard.specs.declared.Heard.the-variants.{Nothing, Granted, Scheduled, Released}
 use Rattle.fold.specs.declared.Seen.{Seen}

@@ -1,32 +1,28 @@
 -- The answer is clean exactly when nothing is refused, no claim is bad and no claim clashes with an earlier one.
 -- Assumes nothing.
 use Prim.Native.Nat.{ℕ, zero, suc, _<_}
-use mathlib.Core.Bool.{Bool, true, false, cond, _||_, false≢true}
+use mathlib.Core.Bool.{Bool, true, false, cond}
 use mathlib.Core.List.{List}
 use mathlib.Core.Logic.{_↔_, ⊎-elim}
-use mathlib.Core.Path.{_≡_, refl, sym}
+use mathlib.Core.Path.{_≡_, refl}
 use native.Mathlib.Nat.{le-refl, le-of-suc-le-suc, eq-or-lt-of-le}
 use native.Mathlib.Omega.{arith}
 use lib.Dec.{ltb}
 use lib.ListN.{length, getD}
 use borrow.Author.Tests.{le-ltb, ltb-false}
 use Rattle.frame.specs.declared.Settings.{Settings}
+use Rattle.frame.proofs.Bools.{neither-test}
 use Rattle.claims.specs.declared.Checked.the-variants.{Clean, Clash, Refused}
 use Rattle.claims.specs.Claims.{isBad, firstBad, clashes, earlier, firstClash, scratchRefusal, refusedOr, checkedOn, checkedOf}
 use Rattle.claims.specs.Clean.{AllClean}
 use Rattle.claims.proofs.First.{first-none, first-bad, first-clash}
-
--- Of two tests neither passes.
-neither : (a b : Bool) → (a || b) ≡ false → (a ≡ false) × (b ≡ false)
-neither false b e = (refl, e)
-neither true b e = absurd (false≢true (sym e))
 
 -- `earlier` fails exactly where x clashes with no claim before index e.
 module _ (s : Settings) (n : ℕ) (claims : List ℕ) (x : ℕ) where
   pub none-earlier : (e : ℕ) → earlier s n claims e x ≡ false → (i : ℕ) → i < e → clashes s n (getD claims i 0) x ≡ false
   none-earlier zero h i b = absurd (omega arith)
   none-earlier (suc e) h i b =
-      let f = neither (clashes s n (getD claims e 0) x) (earlier s n claims e x) h in
+      let f = neither-test (clashes s n (getD claims e 0) x) (earlier s n claims e x) h in
       ⊎-elim (λ last. rw last (f .0)) (λ less. none-earlier e (f .1) i less) (eq-or-lt-of-le (le-of-suc-le-suc b))
 
   pub earlier-none : (e : ℕ) → ((i : ℕ) → i < e → clashes s n (getD claims i 0) x ≡ false) → earlier s n claims e x ≡ false

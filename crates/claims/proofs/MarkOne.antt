@@ -6,6 +6,7 @@ use mathlib.Core.List.{List}
 use mathlib.Core.Path.{_≡_, refl, sym, _∙_}
 use native.Mathlib.Omega.{arith}
 use lib.ListN.{length, getD, set}
+use Rattle.frame.proofs.Accepted.{unmet}
 use Rattle.claims.specs.declared.ClaimedWindow.{ClaimedWindow}
 use Rattle.claims.specs.Claims.{isBad, earlier, markedUpTo}
 use Rattle.claims.specs.Marking.{Ready, Byte}
@@ -15,10 +16,6 @@ use Rattle.claims.proofs.Marks.{byte-at, byte-marked, earlier-marked}
 set-passes : (b : Bool) → (_≡_ {A = ℕ} (cond b 1 0) 0 → ⊥) → b ≡ true
 set-passes true h = refl
 set-passes false h = absurd (h refl)
-
-clear-fails : (b : Bool) → _≡_ {A = ℕ} (cond b 1 0) 0 → b ≡ false
-clear-fails true h = absurd (omega arith)
-clear-fails false h = refl
 
 module _ (w : ClaimedWindow) (claims old : List ℕ) (e t : ℕ) (scratch : List ℕ) (ready : Ready w claims old) (inside : e < length claims)
     (byte : Byte (w .s) (w .n) (getD claims e 0) t) (marks : scratch ≡ markedUpTo (w .s) (w .n) claims old e) where
@@ -39,7 +36,7 @@ module _ (w : ClaimedWindow) (claims old : List ℕ) (e t : ℕ) (scratch : List
   earlier-if-set h = set-passes _ (rw read at h)
 
   pub new-if-clear : getD scratch t 0 ≡ 0 → earlier (w .s) (w .n) claims e (getD claims e 0) ≡ false
-  new-if-clear h = clear-fails _ (sym read ∙ h)
+  new-if-clear h = unmet _ 0 0 (sym read ∙ h) .0
 
   pub one-more : set scratch t 1 ≡ markedUpTo (w .s) (w .n) claims old (suc e)
   one-more = rw marks (byte-marked (w .s) (w .n) claims old e t (byte .below) (byte .resource (good e inside)))

@@ -1,31 +1,26 @@
 -- Two claims that are not bad clash exactly when the resource call gives them the same resource.
 -- Assumes nothing.
 use Prim.Native.Nat.{ℕ, _<_}
-use mathlib.Core.Bool.{Bool, true, false, not, _&&_, false≢true}
+use mathlib.Core.Bool.{true, false, not, Bool·not-not}
 use mathlib.Core.Logic.{_↔_}
-use mathlib.Core.Path.{_≡_, refl, sym}
+use mathlib.Core.Path.{_≡_, sym, ap, _∙_}
 use native.Mathlib.Omega.{arith}
 use lib.Dec.{ltb}
 use borrow.Author.Tests.{ltb-true, eqb-true, eq-eqb}
 use Rattle.frame.specs.declared.Settings.{Settings}
 use Rattle.frame.specs.Settings.{windowRefusal}
+use Rattle.frame.proofs.Bools.{both}
 use Rattle.resource.specs.Calls.{sizeOf}
 use Rattle.resource.specs.Formula.{edge}
 use Rattle.resource.proofs.OneToOne.{calls-one-to-one}
 use Rattle.claims.specs.Claims.{claimPosition, claimCce, isBad, clashes}
 use Rattle.claims.specs.Marking.{Has}
 
--- Two tests passed.
-both : (a b : Bool) → not (a && b) ≡ false → (a ≡ true) × (b ≡ true)
-both true true e = (refl, refl)
-both true false e = absurd (false≢true (sym e))
-both false b e = absurd (false≢true (sym e))
-
 -- A claim that is not bad has its position below M and its CCE below N_4.
 pub in-range : (s : Settings) (n claim : ℕ) → isBad s n claim ≡ false → (claimPosition claim < sizeOf s n) × (claimCce claim < edge (s .nrb) 4)
 unfolding isBad
 in-range s n claim e =
-    let f = both (ltb (claimPosition claim) (sizeOf s n)) (ltb (claimCce claim) (edge (s .nrb) 4)) e in
+    let f = both (ltb (claimPosition claim) (sizeOf s n)) (ltb (claimCce claim) (edge (s .nrb) 4)) (sym (Bool·not-not _) ∙ ap not e) in
     (ltb-true _ _ (f .0), ltb-true _ _ (f .1))
 
 module _ (s : Settings) (n : ℕ) (accepted : windowRefusal s n ≡ 0) where

@@ -11,6 +11,7 @@ use lib.Dec.{eqb, leb, ltb}
 use lib.ListN.{length, getD}
 use borrow.Author.Tests.{ltb-true, lt-ltb, leb-true, le-leb, eqb-true, eq-eqb, ne-eqb}
 use Rattle.frame.specs.Order.{timesOf}
+use Rattle.frame.proofs.Bools.{both, never-true}
 use Rattle.station.specs.declared.Place.{Place}
 use Rattle.station.specs.declared.Place.the-variants as place
 use Rattle.station.specs.declared.Reading.{Reading}
@@ -21,10 +22,6 @@ use Rattle.confirmation.specs.declared.SentRelease.{SentRelease}
 use Rattle.confirmation.specs.Confirmed.{namedSent, sentUpTo, speaksFor, holdsFor, acknowledged, saysAck, confirmed}
 use Rattle.confirmation.specs.Exactly.{WasSent, Acknowledges, BundledConfirmed, BlockConfirmed, MultiplexedConfirmed}
 use Rattle.confirmation.specs.Sent.{isPdcch, isBlock, blocksOf, hasCce}
-
-pub both : (a b : Bool) → (a && b) ≡ true → (a ≡ true) × (b ≡ true)
-both true b e = (refl, e)
-both false b e = absurd (false≢true e)
 
 either : (p q : Bool) → (p || q) ≡ true → (p ≡ true) ⊎ (q ≡ true)
 either true q e = inl refl
@@ -49,11 +46,6 @@ says-acknowledged x block b0 b1 a = go (ℕ-discrete (blocksOf x) 2) (ℕ-discre
     go (yes two) (yes zero) = rw (eq-eqb (blocksOf x) 2 two, eq-eqb block 0 zero, eq-eqb b0 1 (a .0 two zero))
     go (yes two) (no other) = rw (eq-eqb (blocksOf x) 2 two, ne-eqb block 0 other, eq-eqb b1 1 (a .1 two other))
     go (no one) b = rw (ne-eqb (blocksOf x) 2 one) (one-of (a .2 one))
-
--- What is never true is false.
-never : (b : Bool) → (b ≡ true → ⊥) → b ≡ false
-never true h = absurd (h refl)
-never false h = refl
 
 -- What was sent is not both.
 apart : (x : Send) → isPdcch x ≡ true → isBlock x ≡ true → ⊥
@@ -190,19 +182,19 @@ module _ (ks : List ℕ) (sent : ℕ → Send) where
   pub release-none : (m : ℕ) (p : SentRelease) → sent (getD ks m 0) ≡ send.Released p → (read : Reading) (block : ℕ)
       → confirmed ks sent read m block ≡ false
   release-none m p is read block =
-      never (confirmed ks sent read m block) (λ e. let none : block < 0 = rw is at (carried read m block e .1) in omega arith)
+      never-true (confirmed ks sent read m block) (λ e. let none : block < 0 = rw is at (carried read m block e .1) in omega arith)
 
   -- The ACK of a PDCCH confirms no scheduled block, and that of a scheduled block nothing that a PDCCH granted.
   pub pdcch-no-block : (named c b0 b1 m block : ℕ) → isBlock (sent (getD ks m 0)) ≡ true
       → confirmed ks sent (reading.Bundled (place.Pdcch named (record { 0 = c })) b0 b1) m block ≡ false
   pdcch-no-block named c b0 b1 m block is =
-      never (confirmed ks sent (reading.Bundled (place.Pdcch named (record { 0 = c })) b0 b1) m block)
+      never-true (confirmed ks sent (reading.Bundled (place.Pdcch named (record { 0 = c })) b0 b1) m block)
       (λ e. apart (sent (getD ks m 0)) (bundled-exactly named c b0 b1 m block .0 e .pdcch) is)
 
   pub block-no-pdcch : (named b0 b1 m block : ℕ) → isPdcch (sent (getD ks m 0)) ≡ true
       → confirmed ks sent (reading.Bundled (place.Block named) b0 b1) m block ≡ false
   block-no-pdcch named b0 b1 m block is =
-      never (confirmed ks sent (reading.Bundled (place.Block named) b0 b1) m block)
+      never-true (confirmed ks sent (reading.Bundled (place.Block named) b0 b1) m block)
       (λ e.
       let b = block-exactly named b0 b1 m block .0 e in
       apart (sent (getD ks m 0)) is (rw (b .same) (b .there .1)))

@@ -11,10 +11,10 @@ use native.Mathlib.Omega.{arith}
 use lib.Dec.{eqb, leb, ltb}
 use borrow.Author.Tests.{eqb-true, eqb-false, eq-eqb, leb-true, le-leb, lt-leb, lt-ltb, le-ltb}
 use Rattle.frame.specs.Order.{member, timesOf}
+use Rattle.frame.proofs.Bools.{both, bit-small}
 use Rattle.confirmation.specs.declared.Send.{Send}
 use Rattle.confirmation.specs.Confirmed.{sentUpTo, speaksFor}
 use Rattle.confirmation.specs.Sent.{isPdcch}
-use Rattle.confirmation.proofs.Confirmed.{both}
 
 module _ (sent : ℕ → Send) (received : ℕ → Bool) (named : ℕ) where
   -- Of the k of a list, the PDCCHs sent before the named one and lost.
@@ -41,14 +41,10 @@ module _ (sent : ℕ → Send) (received : ℕ → Bool) (named : ℕ) where
         counts true false m lost sent h = omega arith
         counts false r m lost sent h = omega arith
 
-        most : (m : Bool) → cond m 1 0 ≤ 1
-        most true = omega arith
-        most false = omega arith
-
         go : (b : Bool) → eqb k named ≡ b → lostUpTo ks + cond (member named ks) 1 0 ≤ sentUpTo sent named ks
             → lostUpTo (k ∷ ks) + cond (b || member named ks) 1 0 ≤ sentUpTo sent named (k ∷ ks)
         go true b rest =
-            rw (eqb-true k named b, is-sent, is-received, le-ltb named named (omega arith), le-leb named named (omega arith)) (omega (arith, most (member named ks)))
+            rw (eqb-true k named b, is-sent, is-received, le-ltb named named (omega arith), le-leb named named (omega arith)) (omega (arith, bit-small (member named ks)))
         go false b rest = side (decLe named k)
           where
             side : Dec (named ≤ k) → lostUpTo (k ∷ ks) + cond (member named ks) 1 0 ≤ sentUpTo sent named (k ∷ ks)

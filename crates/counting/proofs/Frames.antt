@@ -1,7 +1,7 @@
 -- Windows counted by whole frames: each frame completes as many as the first. Assumes nothing.
 use Prim.Native.Nat.{ℕ, zero, suc, _+_, _*_, _/_, _%_, _≤_}
-use mathlib.Core.Bool.{Bool, true, false, cond, not}
-use mathlib.Core.Path.{_≡_, refl, ap}
+use mathlib.Core.Bool.{cond, not}
+use mathlib.Core.Path.{_≡_, ap}
 use native.Mathlib.Nat.{suc-mul, zero-mul, zero-add, add-zero, div-add-mod', mul-le-mul-left}
 use native.Mathlib.Numerals.{add-one}
 use native.Mathlib.Omega.{arith}
@@ -9,32 +9,21 @@ use mir.Val.{boolByte}
 use lib.Dec.{eqb}
 use lib.ListN.{length}
 use Rattle.frame.specs.Table.{windowOf}
+use Rattle.frame.proofs.Bools.{cast-bit, bit-small}
 use Rattle.counting.specs.Windows.{hasWindow, windowsBefore}
-
-one-or-none : (b : Bool) → cond b 1 0 ≤ 1
-one-or-none true = omega arith
-one-or-none false = omega arith
-
--- A test as a number.
-cast-one : (b : Bool) → boolByte b ≡ cond b 1 0
-cast-one true = refl
-cast-one false = refl
-
-pub cast-small : (b : Bool) → boolByte b ≤ 1
-cast-small b = omega (arith, cast-one b, one-or-none b)
 
 module _ (c : ℕ) where
   -- One subframe more, from the size of its window.
   pub one-more : (i size count : ℕ) → size ≡ length (windowOf c (i % 10)) → count ≡ windowsBefore c i
       → count + boolByte (not (eqb size 0)) ≡ windowsBefore c (i + 1)
   unfolding windowsBefore hasWindow
-  one-more i size count e f = rw (add-one, e, f, cast-one (not (eqb (length (windowOf c (i % 10))) 0)))
+  one-more i size count e f = rw (add-one, e, f, cast-bit (not (eqb (length (windowOf c (i % 10))) 0)))
 
   -- A subframe completes one window at most.
   pub windows-most : (n : ℕ) → windowsBefore c n ≤ n
   unfolding windowsBefore
   windows-most zero = omega arith
-  windows-most (suc n) = omega (arith, windows-most n, one-or-none (hasWindow c (n % 10)))
+  windows-most (suc n) = omega (arith, windows-most n, bit-small (hasWindow c (n % 10)))
 
   -- More subframes complete no fewer windows.
   pub windows-rise : (n m : ℕ) → windowsBefore c n ≤ windowsBefore c (n + m)

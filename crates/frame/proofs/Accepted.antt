@@ -12,6 +12,7 @@ use Rattle.frame.specs.declared.Settings.{Settings}
 use Rattle.frame.specs.Settings.{orElse, outside, cellRefusal, modeRefusal, blocksRefusal, hasScheduled, scheduledRefusal, laterRefusal, settingsRefusal, noWindowRefusal, windowRefusal}
 use Rattle.frame.specs.Special.{lastSpecial, specialRefusal}
 use Rattle.frame.specs.Table.{windowOf}
+use Rattle.frame.proofs.Bools.{neither-test}
 
 pub record Accepted (s : Settings) : Type 0 where
   pub config : s .config ≤ 6
@@ -36,10 +37,10 @@ pub unmet : (b : Bool) (k next : ℕ) → cond b (suc k) next ≡ 0 → (b ≡ f
 unmet true k next e = absurd (omega arith)
 unmet false k next e = (refl, e)
 
--- Neither of two tests holds.
-neither-test : (a b : Bool) → (a || b) ≡ false → (a ≡ false) × (b ≡ false)
-neither-test true b e = absurd (false≢true (sym e))
-neither-test false b e = (refl, e)
+-- No refusal where a test must hold is the test held, and none further on.
+pub held : (b : Bool) (k next : ℕ) → cond b next (suc k) ≡ 0 → (b ≡ true) × (next ≡ 0)
+held true k next e = (refl, e)
+held false k next e = absurd (omega arith)
 
 -- A number that is not outside lies between.
 pub between : (low high x : ℕ) → outside low high x ≡ false → (low ≤ x) × (x ≤ high)

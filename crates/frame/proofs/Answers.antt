@@ -1,7 +1,7 @@
 -- The answer for a downlink subframe: its refusal, and that in an accepted cell it is there and is the only one.
 -- Assumes nothing.
 use Prim.Native.Nat.{ℕ, zero, suc, _+_, _≤_, _%_}
-use mathlib.Core.Bool.{Bool, true, false, cond, false≢true}
+use mathlib.Core.Bool.{true, false, cond, false≢true}
 use mathlib.Core.Path.{_≡_, refl, sym, ap, _∙_}
 use native.Mathlib.Decide.{decLt}
 use native.Mathlib.Omega.{arith}
@@ -12,7 +12,7 @@ use Rattle.frame.specs.Distance.{distanceOf, uplinkOf, answeredPosition,
 use Rattle.frame.specs.Layout.{downlink}
 use Rattle.frame.specs.Once.{InWindow, InExactlyOne}
 use Rattle.frame.specs.Settings.{settingsRefusal}
-use Rattle.frame.proofs.Accepted.{neither}
+use Rattle.frame.proofs.Accepted.{neither, held}
 use Rattle.frame.proofs.Causes.{refused-next}
 use Rattle.frame.proofs.Layouts.{outside-frame}
 use Rattle.frame.proofs.Windows.{inside-downlink, distance-inside, position-window, exactly-one}
@@ -31,11 +31,7 @@ module _ (s : Settings) (d k : ℕ) (asked : k ≡ settingsRefusal s) (none : k 
 pub answered-downlink : (s : Settings) (d : ℕ) → answeredRefusal s d ≡ 0 → downlink (s .config) d ≡ true
 unfolding answeredRefusal noDownlinkRefusal
 answered-downlink s d e =
-    go (downlink (s .config) d) (neither (settingsRefusal s) (cond (downlink (s .config) d) 0 7) e .1)
-  where
-    go : (b : Bool) → _≡_ {A = ℕ} (cond b 0 7) 0 → b ≡ true
-    go true e = refl
-    go false e = absurd (omega arith)
+    held (downlink (s .config) d) 6 0 (neither (settingsRefusal s) (cond (downlink (s .config) d) 0 7) e .1) .0
 
 -- A downlink subframe is one of the frame's ten.
 pub downlink-frame : (c d : ℕ) → downlink c d ≡ true → d ≤ 9

@@ -2,6 +2,7 @@ pub mod Accepted
 pub mod Answers
 pub mod Arms
 pub mod Below
+pub mod Bools
 pub mod Causes
 pub mod Distances
 pub mod Hex

@@ -10,7 +10,7 @@ use native.Mathlib.Decide.{decLt}
 use native.Mathlib.Nat.{zero-lt-suc}
 use native.Mathlib.Omega.{arith}
 use lib.Dec.{T, leb→le, eqb, leb, lit≤, eqb→eq}
-use lib.Ieee.Bits.{is-true}
+use lib.Ieee.Bits.{is-true, is-false}
 use lib.Ieee.Fits.{and-l, and-r}
 use lib.ListN.{length, getD, List·getD-eq-default}
 use borrow.Author.Tests.{eqb-true, eqb-false, leb-true}
@@ -114,17 +114,13 @@ pub position-window : (c n k : ℕ) → member k (windowOf c n) ≡ true
     → (positionOf k (windowOf c n) < length (windowOf c n)) × (getD (windowOf c n) (positionOf k (windowOf c n)) 0 ≡ k)
 position-window c n k e = member-position k (windowOf c n) e
 
-not-so : (b : Bool) → T (not b) → b ≡ false
-not-so true t = absurd t
-not-so false t = refl
-
 uplink-tested : T (everyPosition (λ c n ks m. not (downlink c n)) table)
 unfolding table layouts letterOf downlink
 uplink-tested = tt
 
 -- Only uplink subframes have windows.
 pub window-uplink : (c n : ℕ) → 0 < length (windowOf c n) → downlink c n ≡ false
-window-uplink c n h = not-so (downlink c n) (position-passes _ uplink-tested c n 0 h)
+window-uplink c n h = is-false (downlink c n) (position-passes _ uplink-tested c n 0 h)
 
 downlink-tested : T (everyPosition (λ c n ks m. downlink c ((n + 20 - getD ks m 0) % 10)) table)
 unfolding table layouts letterOf downlink

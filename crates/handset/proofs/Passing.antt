@@ -1,7 +1,7 @@
 -- What a state is where 8 is not met, and what it remembers; and a feed where none of 8 to 12, 18 and 20 is met.
 -- Assumes nothing.
 use Prim.Native.Nat.{ℕ, zero, suc, _+_, _*_, _≤_, _%_}
-use mathlib.Core.Bool.{Bool, true, false, _&&_}
+use mathlib.Core.Bool.{Bool, true, _&&_}
 use mathlib.Core.List.{List, [], _∷_}
 use mathlib.Core.Path.{_≡_, refl}
 use native.Mathlib.Omega.{arith}
@@ -11,7 +11,8 @@ use borrow.Author.Tests.{leb-true, eqb-true}
 use Rattle.frame.specs.declared.Settings.{Settings}
 use Rattle.frame.specs.Distance.{before}
 use Rattle.frame.specs.Settings.{settingsRefusal}
-use Rattle.frame.proofs.Accepted.{Accepted, accepted, neither}
+use Rattle.frame.proofs.Accepted.{Accepted, accepted, neither, held}
+use Rattle.frame.proofs.Bools.{both}
 use Rattle.resource.proofs.Edges.{edge-most}
 use Rattle.heard.specs.declared.Heard.{Heard}
 use Rattle.heard.specs.declared.Heard.the-variants.{Nothing, Granted, Scheduled, Released}
@@ -19,15 +20,11 @@ use Rattle.heard.specs.declared.Slot.{Slot}
 use Rattle.heard.specs.Heard.{heardRefusal, causeOf}
 use Rattle.heard.specs.Memory.{none, heardIn, blockAgo}
 use Rattle.heard.proofs.Before.{cause-none}
-use Rattle.heard.proofs.Valid.{ValidPdcch, valid, held}
+use Rattle.heard.proofs.Valid.{ValidPdcch, valid}
 use Rattle.handset.specs.declared.Handset.{Handset}
 use Rattle.handset.specs.Feed.{feedRefusal}
 use Rattle.handset.specs.Sound.{slotSound, previous, allSound, stateSound, stateRefusal}
 use Rattle.handset.specs.Stored.{Storable}
-
-pub both : (a b : Bool) → (a && b) ≡ true → (a ≡ true) × (b ≡ true)
-both true b e = (refl, e)
-both false b e = let z : _≡_ {A = ℕ} 0 1 = cc in absurd (omega arith)
 
 -- Where 8 is not met.
 pub record Sound (h : Handset) : Type 0 where

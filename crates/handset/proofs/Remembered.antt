@@ -1,7 +1,7 @@
 -- The check of what is remembered, slot by slot: each is valid by itself, and a scheduled block is no second one.
 -- Assumes nothing.
 use Prim.Native.Nat.{ℕ, zero, suc, _+_, _<_, _≤_}
-use mathlib.Core.Bool.{Bool, true, false, cond, not, _&&_, and-true, and-false}
+use mathlib.Core.Bool.{Bool, true, false, cond, not, _&&_, and-true, and-false, and-assoc}
 use mathlib.Core.List.{List}
 use mathlib.Core.Path.{_≡_, refl, sym, _∙_}
 use native.Mathlib.Numerals.{add-one}
@@ -31,10 +31,6 @@ sound-parts s n older t =
     go true zero false = refl
     go true (suc r) b = rw (eqb·suc-zero r)
 
-joined : (a b c : Bool) → (a && (b && c)) ≡ ((a && b) && c)
-joined true b c = refl
-joined false b c = refl
-
 -- The slots before i are sound if `valid` says so, and n is the subframe that the slot before i was fed in.
 module _ (s : Settings) (next : ℕ) (past : List Slot) (n i : ℕ) (valid : Bool) (before : allSound s next past ≡ (valid && allSound s n (drop i past))) where
   one-more : i < length past
@@ -49,7 +45,7 @@ module _ (s : Settings) (next : ℕ) (past : List Slot) (n i : ℕ) (valid : Boo
     in-parts second e =
         one-more h
         ∙ rw (← fed, sound-parts s p (drop (i + 1) past) (getD past i none), ← tested, e)
-        (joined valid (b && not second) (allSound s p (drop (i + 1) past)))
+        (sym (and-assoc valid (b && not second) (allSound s p (drop (i + 1) past))))
 
     -- It is no second block: no block, or the first one of its window.
     first-block : (eqb (getD past i none .kind) 2 && blockBefore 13 (s .config) p (blockAgo (drop (i + 1) past))) ≡ false

@@ -1,7 +1,7 @@
 -- 20 refuses data in a subframe too short for it, and nothing else; no other refusal hides it.
 -- Assumes nothing.
 use Prim.Native.Nat.{ℕ, zero, suc}
-use mathlib.Core.Bool.{Bool, true, false, cond, _&&_, false≢true}
+use mathlib.Core.Bool.{Bool, true, false, cond, false≢true}
 use mathlib.Core.Logic.{_⊎_, inl, inr, _↔_, ⊎-elim}
 use mathlib.Core.Path.{_≡_, refl}
 use native.Mathlib.Omega.{arith}
@@ -10,6 +10,7 @@ use Rattle.frame.specs.declared.Settings.{Settings}
 use Rattle.frame.specs.Layout.{downlink, isSpecial}
 use Rattle.frame.specs.Settings.{orElse, outside, hasScheduled}
 use Rattle.frame.specs.Special.{noPdsch, tooShort}
+use Rattle.frame.proofs.Bools.{both}
 use Rattle.frame.proofs.Layouts.{special-downlink}
 use Rattle.resource.specs.Formula.{edge}
 use Rattle.heard.specs.declared.Heard.{Heard}
@@ -60,11 +61,7 @@ module _ (s : Settings) where
     -- A subframe too short for data is special, and so downlink: 9 does not refuse what is sent there.
     pub short-downlink : tooShort s n ≡ true → downlink (s .config) n ≡ true
     unfolding tooShort
-    short-downlink e = special-downlink (s .config) n (go (noPdsch (s .prefix) (s .special)) e)
-      where
-        go : (b : Bool) → (b && isSpecial (s .config) n) ≡ true → isSpecial (s .config) n ≡ true
-        go true e = e
-        go false e = absurd (false≢true e)
+    short-downlink e = special-downlink (s .config) n (both (noPdsch (s .prefix) (s .special)) (isSpecial (s .config) n) e .1)
 
     short-met : shortRefusal s n ≡ 20 → tooShort s n ≡ true
     unfolding shortRefusal

@@ -1,16 +1,15 @@
 -- What is heard where its refusals by itself, 9 to 12, 20, and 18 with no resource set, are not met: kind by kind, field by field.
 -- Assumes nothing.
-use Prim.Native.Nat.{ℕ, suc, _<_, _≤_}
-use mathlib.Core.Bool.{Bool, true, false, cond, false≢true}
-use mathlib.Core.Path.{_≡_, refl}
-use native.Mathlib.Omega.{arith}
+use Prim.Native.Nat.{ℕ, _<_, _≤_}
+use mathlib.Core.Bool.{true, false, cond, false≢true}
+use mathlib.Core.Path.{_≡_}
 use lib.Dec.{ltb}
 use borrow.Author.Tests.{ltb-true}
 use Rattle.frame.specs.declared.Settings.{Settings}
 use Rattle.frame.specs.Layout.{downlink}
 use Rattle.frame.specs.Settings.{orElse, outside, hasScheduled}
 use Rattle.frame.specs.Special.{tooShort}
-use Rattle.frame.proofs.Accepted.{neither, unmet, between}
+use Rattle.frame.proofs.Accepted.{neither, unmet, held, between}
 use Rattle.resource.specs.Formula.{edge}
 use Rattle.heard.specs.declared.Heard.{Heard}
 use Rattle.heard.specs.declared.Heard.the-variants.{Nothing, Granted, Scheduled, Released}
@@ -34,11 +33,6 @@ Valid s n Nothing = Unit {0}
 Valid s n (Granted g) = MayCarryData s n × ValidBlocks s (g .blocks) × ValidPdcch s (g .cce .0) (g .dai)
 Valid s n (Scheduled b) = MayCarryData s n × ValidBlocks s (b .blocks) × (hasScheduled s ≡ true)
 Valid s n (Released p) = (downlink (s .config) n ≡ true) × ValidPdcch s (p .cce .0) (p .dai)
-
--- No refusal where a test must hold is the test held, and none further on.
-pub held : (b : Bool) (k next : ℕ) → cond b next (suc k) ≡ 0 → (b ≡ true) × (next ≡ 0)
-held true k next e = (refl, e)
-held false k next e = absurd (omega arith)
 
 module _ (s : Settings) where
   valid-downlink : (n : ℕ) → uplinkRefusal s n ≡ 0 → downlink (s .config) n ≡ true
@@ -66,11 +60,7 @@ module _ (s : Settings) where
 
   valid-set : unsetRefusal s ≡ 0 → hasScheduled s ≡ true
   unfolding unsetRefusal
-  valid-set e = go (hasScheduled s) e
-    where
-      go : (b : Bool) → _≡_ {A = ℕ} (cond b 0 18) 0 → b ≡ true
-      go true e = refl
-      go false e = absurd (omega arith)
+  valid-set e = held (hasScheduled s) 17 0 e .0
 
   pub valid : (n : ℕ) (x : Heard) → heardRefusal s n x ≡ 0 → Valid s n x
   unfolding heardRefusal

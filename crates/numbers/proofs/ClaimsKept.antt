@@ -7,12 +7,12 @@ use mathlib.Core.Path.{_≡_, refl, sym, ap}
 use lib.Dec.{ltb, eqb·suc-zero}
 use lib.ListN.{length}
 use Rattle.frame.specs.declared.Settings.{Settings}
+use Rattle.frame.proofs.Bools.{either}
 use Rattle.claims.specs.declared.Checked.{Checked}
 use Rattle.claims.specs.Claims.{firstBad, firstClash, scratchRefusal, checkedOn, refusedOr, checkedOf}
 use Rattle.numbers.specs.Answers.{claimsAnswer}
 use Rattle.numbers.specs.Back.{checkedIn, KindFor}
 use Rattle.numbers.specs.Kinds.{claimsClash}
-use Rattle.numbers.proofs.Chosen.{either}
 
 -- An answer about claims comes back from its numbers, and its kind is one that there is, 0 where it is refused.
 abbrev pub CheckedKept : Checked → Type 0

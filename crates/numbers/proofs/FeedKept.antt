@@ -10,6 +10,7 @@ use Rattle.frame.specs.declared.Settings.{Settings}
 use Rattle.frame.specs.Layout.{downlink}
 use Rattle.frame.specs.Settings.{bundles}
 use Rattle.frame.specs.Table.{windowOf}
+use Rattle.frame.proofs.Bools.{either}
 use Rattle.resource.specs.declared.Mapped.{Mapped}
 use Rattle.resource.specs.declared.Mapped.the-variants as mapped
 use Rattle.resource.specs.declared.Resource.{Resource}
@@ -32,7 +33,6 @@ use Rattle.numbers.specs.Answers.{fedAnswer}
 use Rattle.numbers.specs.Back.{fedIn, KindFor}
 use Rattle.reply.specs.Kinds.{kindBundled, kindMultiplexed}
 use Rattle.numbers.specs.Kinds.{kindNoWindow}
-use Rattle.numbers.proofs.Chosen.{either}
 
 -- What a feed answers comes back from its numbers with the handset, and its kind is one that there is, 0 where it is refused.
 abbrev pub FedKept : Fed → Type 0

@@ -1,4 +1,3 @@
-pub mod Chosen
 pub mod ClaimsKept
 pub mod ComeBack
 pub mod FeedKept

@@ -5,6 +5,7 @@ use mathlib.Core.Bool.{Bool, true, false, cond, not}
 use mathlib.Core.List.{List}
 use mathlib.Core.Path.{_≡_, refl, sym, ap}
 use lib.Dec.{eqb, ltb, leb, eqb·suc-zero}
+use Rattle.frame.proofs.Bools.{either}
 use Rattle.reader.specs.declared.Record.{Record}
 use Rattle.reader.specs.declared.Record.the-variants as traced
 use Rattle.reader.specs.Record.{recordSlot, readAs, refusedOr, recordOf}
@@ -14,7 +15,6 @@ use Rattle.replaying.specs.Replay.{Played, playedIn, startRefusal, replayDone, 
 use Rattle.numbers.specs.Answers.{recordAnswer}
 use Rattle.numbers.specs.Back.{recordIn, KindFor}
 use Rattle.numbers.specs.Kinds.{recordEnd}
-use Rattle.numbers.proofs.Chosen.{either}
 
 -- A reader's answer comes back from its numbers, and its kind is one that there is, 0 where it is refused.
 abbrev Kept : Record → Type 0

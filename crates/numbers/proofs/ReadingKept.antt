@@ -7,6 +7,7 @@ use native.Mathlib.Omega.{arith}
 use lib.Dec.{eqb, eqb·suc-zero}
 use Rattle.frame.specs.declared.Settings.{Settings}
 use Rattle.frame.specs.Settings.{orElse, windowRefusal, bundles}
+use Rattle.frame.proofs.Bools.{either}
 use Rattle.resource.specs.declared.Inverted.{Inverted}
 use Rattle.resource.specs.declared.Inverted.the-variants as inverted
 use Rattle.resource.specs.Calls.{sizeOf, inverseOf}
@@ -22,7 +23,6 @@ use Rattle.station.specs.Readings.{placePosition, badBits, bundledReading, mult
 use Rattle.numbers.specs.Answers.{inverseAnswer, readingAnswer}
 use Rattle.numbers.specs.Back.{invertedIn, readingIn, KindFor}
 use Rattle.reply.specs.Kinds.{kindMultiplexed}
-use Rattle.numbers.proofs.Chosen.{either}
 use Rattle.numbers.proofs.InverseKept.{inverse-back}
 
 -- A reading comes back from its numbers, and its kind is one that there is, 0 where it is refused.

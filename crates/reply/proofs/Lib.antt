@@ -1,3 +1,2 @@
-pub mod Bits
 pub mod Multiplexing
 pub mod Silences

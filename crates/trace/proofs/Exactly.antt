@@ -10,10 +10,11 @@ use lib.Dec.{eqb, leb}
 use lib.ListN.{length}
 use borrow.Author.Tests.{leb-true, le-leb, eqb-true, eqb-false, eq-eqb}
 use Rattle.frame.specs.Settings.{orElse}
+use Rattle.frame.proofs.Bools.{both, never-true}
 use Rattle.trace.specs.declared.Header.{Header}
 use Rattle.trace.specs.Exactly.{Apart, PartsFit, RightLength, KindsKnown, RefusedExactly}
 use Rattle.trace.specs.Trace.{byteAt, headerOf, Part, headerPart, settingsPart, recordsPart, apart, within, settingsFit, recordsFit, lengthRefusal, partsRefusal, placeOf, kindsKnown, traceRefusal}
-use Rattle.trace.proofs.Known.{both, kind-known}
+use Rattle.trace.proofs.Known.{kind-known}
 
 -- A part that begins before its end.
 abbrev Some : Part → Type 0
@@ -129,15 +130,11 @@ all-known l first zero h = refl
 all-known l first (suc count) h =
     rw (le-leb _ _ (h count (omega arith))) (all-known l first count (λ i less. h i (omega arith)))
 
-not-so : (b : Bool) → (b ≡ true → ⊥) → b ≡ false
-not-so true h = absurd (h refl)
-not-so false h = refl
-
 pub exactly : (l : List ℕ) → RefusedExactly l
 unfolding traceRefusal partsRefusal lengthRefusal
 exactly l =
     record {
-      twentyOne = (λ e r. false≢true (sym (first .0 e) ∙ so-right r), λ h. first .1 (not-so a (λ e. h (right-so e))));
+      twentyOne = (λ e r. false≢true (sym (first .0 e) ∙ so-right r), λ h. first .1 (never-true a (λ e. h (right-so e))));
       twentyTwo = (
         λ e.
             let p = later .0 e in

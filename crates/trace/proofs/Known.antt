@@ -1,18 +1,15 @@
 -- The kinds of the records of a trace that is not refused. Assumes nothing.
 use Prim.Native.Nat.{ℕ, zero, suc, _-_, _<_}
-use mathlib.Core.Bool.{Bool, true, false, cond, _&&_, false≢true}
+use mathlib.Core.Bool.{true, _&&_}
 use mathlib.Core.List.{List}
 use mathlib.Core.Logic.{⊎-elim}
-use mathlib.Core.Path.{_≡_, refl}
+use mathlib.Core.Path.{_≡_}
 use native.Mathlib.Nat.{eq-or-lt-of-le, le-of-suc-le-suc}
 use native.Mathlib.Omega.{arith}
 use lib.Dec.{leb}
-use Rattle.frame.proofs.Accepted.{neither}
+use Rattle.frame.proofs.Accepted.{neither, held}
+use Rattle.frame.proofs.Bools.{both}
 use Rattle.trace.specs.Trace.{byteAt, headerOf, partsRefusal, placeOf, kindsKnown, traceRefusal}
-
-pub both : (a b : Bool) → (a && b) ≡ true → (a ≡ true) × (b ≡ true)
-both true b e = (refl, e)
-both false b e = absurd (false≢true e)
 
 module _ (l : List ℕ) (first : ℕ) where
   -- The last record, and those before it.
@@ -31,14 +28,10 @@ module _ (l : List ℕ) (first : ℕ) where
       let p = both (leb (byteAt l (placeOf first count)) 3) (kindsKnown l first count) e in
       ⊎-elim (λ same. rw same (p .0)) (λ less. kind-known count i (p .1) less) (eq-or-lt-of-le (le-of-suc-le-suc h))
 
-known-unless : (b : Bool) → _≡_ {A = ℕ} (cond b 0 22) 0 → b ≡ true
-known-unless true e = refl
-known-unless false e = absurd (omega arith)
-
 -- A trace that is not refused is in order in its parts, and has no unknown kind.
 pub in-order : (l : List ℕ) → traceRefusal l ≡ 0 → (i : ℕ) → i < headerOf l .records
     → (partsRefusal l ≡ 0) × (leb (byteAt l (placeOf (headerOf l .first) i)) 3 ≡ true)
 unfolding traceRefusal
 in-order l accepted i inside =
     let p = neither (partsRefusal l) _ accepted in
-    (p .0, kind-known l (headerOf l .first) (headerOf l .records) i (known-unless _ (p .1)) inside)
+    (p .0, kind-known l (headerOf l .first) (headerOf l .records) i (held _ 21 0 (p .1) .0) inside)

@@ -5,8 +5,9 @@ use mathlib.Core.Path.{_≡_, refl}
 use lib.Dec.{eqb}
 use native.Mathlib.Omega.{arith}
 use borrow.Author.Needs.{needs}
+use Rattle.frame.proofs.Bools.{cast-small}
 use Rattle.counting.specs.Windows.{windowsBefore}
-use Rattle.counting.proofs.Frames.{cast-small, one-more}
+use Rattle.counting.proofs.Frames.{one-more}
 use Rattle.counting.proofs.windows_in.Statement.{statement}
 use Rattle.counting.proofs.windows_in.Tie as tie
 

@@ -5,8 +5,8 @@ use mathlib.Core.Path.{_≡_}
 use native.Mathlib.Omega.{arith}
 use lib.Dec.{eqb}
 use borrow.Author.Needs.{needs}
+use Rattle.frame.proofs.Bools.{cast-bit, cast-small}
 use Rattle.heard.specs.Memory.{bit, resultsOf}
-use Rattle.reply.proofs.Bits.{cast-bit, cast-small}
 use Rattle.handset.proofs.feeding.results_of.Statement.{statement}
 use Rattle.handset.proofs.feeding.results_of.Tie as tie
 

@@ -5,6 +5,7 @@ use mathlib.Core.Path.{_≡_, sym, _∙_}
 use borrow.Author.Needs.{needs}
 use borrow.Author.Tests.{eq-eqb, ne-eqb}
 use Rattle.frame.specs.declared.Settings.{Settings}
+use Rattle.frame.proofs.Bools.{cast-bit}
 use Rattle.resource.specs.declared.Mapped.{Mapped}
 use Rattle.resource.specs.Calls.{resourceOf}
 use Rattle.resource.proofs.Sized.{resource-told}
@@ -13,7 +14,6 @@ use Rattle.reply.specs.declared.Answer.the-variants.{Silent}
 use Rattle.fold.specs.declared.Seen.{Seen}
 use Rattle.heard.specs.Memory.{bit}
 use Rattle.reply.specs.Replies.{replyOn, missShown, secondBit, loneAnswer, bundledAnswer}
-use Rattle.reply.proofs.Bits.{cast-bit}
 use Rattle.reply.proofs.answers.bundled_answer.Statement.{statement}
 use Rattle.reply.proofs.answers.bundled_answer.Tie as tie
 

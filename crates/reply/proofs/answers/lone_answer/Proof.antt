@@ -4,13 +4,13 @@ use mathlib.Core.Bool.{true, false}
 use mathlib.Core.Path.{_≡_}
 use borrow.Author.Needs.{needs}
 use Rattle.frame.specs.declared.Settings.{Settings}
+use Rattle.frame.proofs.Bools.{cast-bit}
 use Rattle.resource.specs.declared.Mapped.{Mapped}
 use Rattle.reply.specs.declared.Answer.{Answer}
 use Rattle.reply.specs.declared.Answer.the-variants.{Silent}
 use Rattle.fold.specs.declared.Seen.{Seen}
 use Rattle.heard.specs.Memory.{bit}
 use Rattle.reply.specs.Replies.{replyOn, secondBit, onScheduled, loneAnswer}
-use Rattle.reply.proofs.Bits.{cast-bit}
 use Rattle.reply.proofs.answers.lone_answer.Statement.{statement}
 use Rattle.reply.proofs.answers.lone_answer.Tie as tie
 

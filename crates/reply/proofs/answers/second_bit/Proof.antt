@@ -1,7 +1,7 @@
 -- `reply::answers::second_bit` meets its contract. Assumes nothing.
 use borrow.Author.Tests.{eq-eqb, ne-eqb}
+use Rattle.frame.proofs.Bools.{cast-bit}
 use Rattle.reply.specs.Replies.{secondBit}
-use Rattle.reply.proofs.Bits.{cast-bit}
 use Rattle.reply.proofs.answers.second_bit.Statement.{statement}
 use Rattle.reply.proofs.answers.second_bit.Tie as tie
 
