@@ -33,6 +33,7 @@ use Rattle.fold.specs.Fold.{unseen, stepOf, seenOf}
 use Rattle.heard.specs.Heard.{isBlock, viewOf}
 use Rattle.heard.specs.Memory.{bit}
 use Rattle.reply.specs.Replies.{replyOn, expected, missShown, secondBit, loneAnswer, bundledAnswer}
+use Rattle.reply.proofs.Answered.{second-small}
 use Rattle.station.specs.declared.Place.{Place}
 use Rattle.station.specs.declared.Place.the-variants as place
 use Rattle.station.specs.declared.Reading.{Reading}
@@ -249,20 +250,12 @@ module _ (set : Settings) (n : ℕ) (good : windowRefusal set n ≡ 0) (ok : Acc
   unfolding secondBit
   one-bit e = rw (ne-eqb (set .blocks) 2 (λ z. omega arith))
 
-  second-most : secondBit set seen ≤ 1
-  unfolding secondBit
-  second-most = go (eqb (set .blocks) 2)
-    where
-      go : (b : Bool) → cond b (bit (seen .second)) 0 ≤ 1
-      go true = bit-small (seen .second)
-      go false = omega arith
-
   -- the bits are such as the reading takes
   good-bits : badBits set (bit (seen .first)) (secondBit set seen) ≡ false
   unfolding badBits
   good-bits =
       rw
-      (le-ltb 1 (bit (seen .first)) (bit-small (seen .first)), le-ltb 1 (secondBit set seen) second-most)
+      (le-ltb 1 (bit (seen .first)) (bit-small (seen .first)), le-ltb 1 (secondBit set seen) (second-small set seen))
       (go (ℕ-discrete (set .blocks) 1))
     where
       go : Dec (set .blocks ≡ 1) → (eqb (set .blocks) 1 && eqb (secondBit set seen) 1) ≡ false
@@ -321,7 +314,7 @@ module _ (set : Settings) (n : ℕ) (good : windowRefusal set n ≡ 0) (ok : Acc
             λ e. second-all .0 (bit-true (seen .second) .0 (sym (second-bit two) ∙ e)),
             λ h. second-bit two ∙ bit-true (seen .second) .1 (second-all .1 h),
           );
-          bits = (bit-small (seen .first), second-most, one-bit);
+          bits = (bit-small (seen .first), second-small set seen, one-bit);
         }
 
   -- the reply to heard PDCCHs

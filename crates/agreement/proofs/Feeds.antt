@@ -38,6 +38,7 @@ use Rattle.handset.specs.declared.Fed.{Fed}
 use Rattle.handset.specs.declared.Handset.{Handset}
 use Rattle.handset.specs.Feed.{answerOf, nextAnswer, feedOf}
 use Rattle.handset.specs.Make.{memory}
+use Rattle.handset.proofs.Told.{never-refused}
 use Rattle.station.specs.declared.Reading.{Reading}
 use Rattle.station.specs.declared.Told.{Told}
 use Rattle.station.specs.declared.Told.the-variants as told
@@ -49,7 +50,6 @@ use Rattle.agreement.proofs.BundledWindow.{LowCce, ReadsPdcch, ReadsBlo
 use Rattle.agreement.proofs.Entries.{member-at}
 use Rattle.agreement.proofs.Memory.{ValidPast, after, view-after, low-after, accepted-after, refused-after}
 use Rattle.agreement.proofs.MultiplexedWindow.{multiplexed-window}
-use Rattle.agreement.proofs.NeverRefused.{never-refused}
 use Rattle.confirmation.proofs.Told.{told-position, told-of-block}
 
 -- The station's reading in the window of s, told the position of the block that was sent there.

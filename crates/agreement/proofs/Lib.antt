@@ -11,7 +11,6 @@ pub mod Finite
 pub mod Folded
 pub mod Memory
 pub mod MultiplexedWindow
-pub mod NeverRefused
 pub mod SameWindows
 pub mod Second
 pub mod Unchanged

@@ -5,3 +5,4 @@ pub mod Scheduled
 pub mod Short
 pub mod Silences
 pub mod Together
+pub mod Told

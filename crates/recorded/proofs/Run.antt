@@ -24,6 +24,7 @@ use Rattle.handset.specs.declared.Fed.{Fed}
 use Rattle.handset.specs.declared.Handset.{Handset}
 use Rattle.handset.specs.Feed.{nextAnswer, feedOf}
 use Rattle.handset.specs.Make.{makeOf}
+use Rattle.handset.proofs.Told.{never-refused}
 use Rattle.reader.specs.Record.{broughtAt}
 use Rattle.trace.specs.Trace.{headerOf, settingsOf}
 use Rattle.replaying.specs.Replay.{refusalIn, broughtIn, Played, after as behind, stopOr, played, playedIn, startRefusal, endedAs, replayOf, written, outputOf}
@@ -35,7 +36,6 @@ use Rattle.agreement.specs.Run.{Item, feed, itemAt, handsetAfter, causeAfter, h
 use Rattle.agreement.proofs.Demand3.{demand3}
 use Rattle.agreement.proofs.Feeds.{causeIn, Past, cause-past}
 use Rattle.agreement.proofs.Memory.{ValidPast, after, accepted-after, refused-after, made-fresh}
-use Rattle.agreement.proofs.NeverRefused.{never-refused}
 use Rattle.recorded.specs.Run.{feedsFrom, runOf, answerTo, bytesFrom, IsRun}
 
 not-refused : (a : Answer) → ((k : ℕ) → a ≡ answer.Refused k → ⊥) → refusalIn a ≡ 0

@@ -10,6 +10,7 @@ use borrow.Author.Tests.{eqb-false}
 use Rattle.frame.specs.declared.Settings.{Settings}
 use Rattle.frame.specs.Layout.{downlink}
 use Rattle.frame.specs.Table.{windowOf}
+use Rattle.frame.proofs.Bools.{either}
 use Rattle.frame.proofs.Windows.{window-uplink}
 use Rattle.counting.specs.Windows.{hasWindow, windowsBefore}
 use Rattle.heard.specs.declared.Heard.{Heard}
@@ -18,52 +19,54 @@ use Rattle.heard.specs.Memory.{viewAgo}
 use Rattle.reply.specs.declared.Answer.{Answer}
 use Rattle.reply.specs.declared.Answer.the-variants.{Taken, NoWindow, Silent, Sent, Refused}
 use Rattle.reply.specs.Replies.{windowAnswer}
+use Rattle.reply.proofs.Answered.{Answered, Told, window-answered}
 use Rattle.handset.specs.declared.Handset.{Handset}
 use Rattle.handset.specs.Feed.{answerOf, nextAnswer, pushed, feedRefusal, fedAs, feedOf}
+use Rattle.handset.proofs.Told.{answer-told}
 use Rattle.replaying.specs.Replay.{refusalIn}
 use Rattle.replaying.specs.Written.{windowBytes, bytesOf, FitsBytes}
-use Rattle.replaying.proofs.Answered.{Answered, window-answered}
 
 -- How many bytes the answer to a subframe gives, and that it goes into bytes.
 pub record Gives (c n : ℕ) (x : Answer) : Type 0 where
   pub size : length (bytesOf n x) ≡ 8 * cond (hasWindow c n) 1 0
   pub fits : FitsBytes x
 
-answered-size : (n : ℕ) (x : Answer) → Answered x → (length (bytesOf n x) ≡ 8) × FitsBytes x
+answered-size : (n : ℕ) (x : Answer) → Answered x → length (bytesOf n x) ≡ 8
 unfolding windowBytes
-answered-size n Silent a = (refl, tt)
-answered-size n (Sent r) a = (refl, (omega (arith, a .1), omega (arith, a .2), omega (arith, a .3)))
+answered-size n Silent a = refl
+answered-size n (Sent r) a = refl
 answered-size n Taken a = absurd a
 answered-size n NoWindow a = absurd a
 answered-size n (Refused k) a = absurd a
 
+told-fits : (x : Answer) → Told x → FitsBytes x
+told-fits Silent t = tt
+told-fits (Sent r) t = (omega (arith, t .1), omega (arith, t .2), omega (arith, t .3))
+told-fits Taken t = tt
+told-fits NoWindow t = tt
+told-fits (Refused k) t = tt
+
 module _ (s : Settings) (n : ℕ) (view : ℕ → View) where
-  with-window : eqb (length (windowOf (s .config) n)) 0 ≡ false → Gives (s .config) n (answerOf s n view)
+  with-window : eqb (length (windowOf (s .config) n)) 0 ≡ false → length (bytesOf n (answerOf s n view)) ≡ 8 * cond (hasWindow (s .config) n) 1 0
   unfolding answerOf hasWindow
   with-window some =
       let up : downlink (s .config) n ≡ false = window-uplink (s .config) n (positive (length (windowOf (s .config) n)) some) in
-      let p = answered-size n (windowAnswer s n view) (window-answered s n view some) in
-      record { size = rw (up, some) (p .0); fits = rw up (p .1) }
+      rw (up, some) (answered-size n (windowAnswer s n view) (window-answered s n view some))
     where
       positive : (size : ℕ) → eqb size 0 ≡ false → 1 ≤ size
       positive zero e = absurd (eqb-false 0 0 e refl)
       positive (suc size) e = omega arith
 
-  without-window : eqb (length (windowOf (s .config) n)) 0 ≡ true → Gives (s .config) n (answerOf s n view)
+  without-window : eqb (length (windowOf (s .config) n)) 0 ≡ true → length (bytesOf n (answerOf s n view)) ≡ 8 * cond (hasWindow (s .config) n) 1 0
   unfolding answerOf windowAnswer hasWindow
-  without-window none = record { size = rw none (go (downlink (s .config) n)); fits = rw none (fit (downlink (s .config) n)) }
-    where
-      go : (b : Bool) → length (bytesOf n (cond b Taken NoWindow)) ≡ 0
-      go true = refl
-      go false = refl
+  without-window none = rw none (either (λ (x : Answer). length (bytesOf n x) ≡ 0) (downlink (s .config) n) _ _ refl refl)
 
-      fit : (b : Bool) → FitsBytes (cond b Taken NoWindow)
-      fit true = tt
-      fit false = tt
+  sized : (b : Bool) → eqb (length (windowOf (s .config) n)) 0 ≡ b → length (bytesOf n (answerOf s n view)) ≡ 8 * cond (hasWindow (s .config) n) 1 0
+  sized true e = without-window e
+  sized false e = with-window e
 
-  gives : (b : Bool) → eqb (length (windowOf (s .config) n)) 0 ≡ b → Gives (s .config) n (answerOf s n view)
-  gives true e = without-window e
-  gives false e = with-window e
+  gives : Gives (s .config) n (answerOf s n view)
+  gives = record { size = sized (eqb (length (windowOf (s .config) n)) 0) refl; fits = told-fits (answerOf s n view) (answer-told s n view) }
 
 -- A feed that was taken up.
 pub record TakenUp (h : Handset) (x : Heard) : Type 0 where
@@ -74,7 +77,7 @@ pub record TakenUp (h : Handset) (x : Heard) : Type 0 where
 taken-as : (k : ℕ) (h : Handset) (x : Heard) → k ≡ feedRefusal h x → refusalIn (fedAs k h x .answer) ≡ 0 → TakenUp h x
 unfolding feedOf nextAnswer pushed
 taken-as zero h x e none =
-    let g = gives (h .settings) (h .next) (viewAgo (h .past)) (eqb (length (windowOf (h .settings .config) (h .next))) 0) refl in
+    let g = gives (h .settings) (h .next) (viewAgo (h .past)) in
     record { settings = rw (← e); next = rw (← e); gives = rw (← e) g }
 taken-as (suc k) h x e none = absurd (omega arith)
 

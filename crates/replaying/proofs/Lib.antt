@@ -1,5 +1,4 @@
 pub mod Accepting
-pub mod Answered
 pub mod Brought
 pub mod Counted
 pub mod Feeds
