@@ -67,10 +67,10 @@ pub fn first_number(trace: &[u8]) -> usize
     Reader::new(trace).next
 }
 
-pub fn number_after(trace: &[u8], i: usize) -> usize
-    ensures { λ r. ⌜ r ≡ followingOf i ⌝ }
+pub fn number_after(trace: &[u8], next: usize) -> usize
+    ensures { λ r. ⌜ r ≡ followingOf next ⌝ }
 {
-    Reader { trace, next: i }.advanced().next
+    Reader { trace, next }.advanced().next
 }
 
 pub fn read_at(trace: &[u8], next: usize) -> Record
