@@ -46,12 +46,12 @@ use lib.Dec.{eqb, ltb, lit<, lit≤}
 use lib.ListN.{length, replicate, getD}
 use borrow.Author.Tests.{ltb-true}
 use Rattle.frame.specs.declared.Settings.{Settings}
+use Rattle.frame.proofs.Bools.{both}
 use Rattle.heard.specs.declared.Heard.{Heard}
 use Rattle.heard.specs.declared.Slot.{Slot}
 use Rattle.heard.specs.Memory.{slotOf, none}
 use Rattle.trace.specs.declared.Header.{Header}
 use Rattle.trace.specs.Trace.{headerOf, settingsOf}
-use Rattle.trace.proofs.Known.{both}
 use Rattle.reader.specs.declared.Record.{Record}
 use Rattle.reader.specs.declared.Record.the-variants.{Refused, At, End}
 use Rattle.reader.specs.Record.{usedIn, recordSlot, readAs, recordOf}

@@ -91,7 +91,7 @@ module _ (l : List ℕ) (records : ℕ) (h₀ : Handset) (old : List ℕ) where
 
       module _ (inside : i < records) (x : Heard) (read : x ≡ heardOf (recordOf l i)) where
         brought : x ≡ broughtAt l i
-        brought = read ∙ record-heard l (ready .accepted) i (rw (ready .all) at inside)
+        brought = read ∙ record-heard l (ready .trace) i (rw (ready .all) at inside)
 
         one-more : broughtFrom l i (records - i) ≡ x ∷ broughtFrom l (suc i) (records - suc i)
         one-more =

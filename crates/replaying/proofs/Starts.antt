@@ -37,7 +37,7 @@ module _ (l old : List ℕ) where
         let parts = neither (traceRefusal l) _ start in
         let rest = neither (settingsRefusal (settingsOf l)) _ (parts .1) in
         let room = ltb-false (length old) (outputNeeded l) (unmet _ 22 0 (rest .1) .0) in
-        record { accepted = parts .0; all = refl; begins = rw (rest .0); room = rw (rest .0) room }
+        record { trace = parts .0; all = refl; begins = rw (rest .0); room = rw (rest .0) room }
 
     pub played-on : (r : Replayed) (new : List ℕ) → r ≡ endedAs (played (makeOf (settingsOf l) .handset) 0 (broughtIn l))
         → new ≡ written (played (makeOf (settingsOf l) .handset) 0 (broughtIn l) .bytes) old → Right r new

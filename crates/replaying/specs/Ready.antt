@@ -9,7 +9,7 @@ use Rattle.handset.specs.declared.Handset.{Handset}
 use Rattle.trace.specs.Trace.{headerOf, traceRefusal}
 
 pub record Ready (l : List ℕ) (records : ℕ) (start : Handset) (out : List ℕ) : Type 0 where
-  pub accepted : traceRefusal l ≡ 0
+  pub trace : traceRefusal l ≡ 0
   pub all : records ≡ headerOf l .records
   pub begins : start .next ≡ 0
   pub room : 8 * windowsBefore (start .settings .config) records ≤ length out

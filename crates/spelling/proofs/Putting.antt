@@ -1,6 +1,5 @@
 -- Stores and puts one after the other are one put: the header, the settings, a record, the whole trace. Assumes nothing.
 use Prim.Native.Nat.{ℕ, zero, suc, _+_, _*_, _≤_}
-use mathlib.Core.Bool.{Bool, true, false, cond}
 use mathlib.Core.List.{List, [], _∷_, _++_}
 use mathlib.Core.Path.{_≡_, refl, ap, subst, _∙_}
 use native.Mathlib.Nat.{zero-add}
@@ -11,6 +10,7 @@ use lib.Seq.{sets-eq}
 use Rattle.frame.specs.declared.Settings.{Settings}
 use Rattle.frame.specs.Settings.{settingsRefusal}
 use Rattle.frame.proofs.Accepted.{accepted}
+use Rattle.frame.proofs.Bools.{either}
 use Rattle.trace.specs.Trace.{headerOf, settingsOf}
 use Rattle.replaying.specs.Replay.{written}
 use Rattle.replaying.specs.Written.{putAt}
@@ -46,10 +46,6 @@ header-put records l l₁ l₂ l₃ l₄ e₁ e₂ e₃ e₄ p =
     let three = then-put l 0 (numberBytes records ++ numberBytes 18) (numberBytes 8) l₂ l₃ two e₃ (omega arith) in
     then-put l 0 (numberBytes records ++ numberBytes 18 ++ numberBytes 8) (numberBytes (spelledSize records)) l₃ l₄ three e₄ (omega arith)
 
-last-small : (b : Bool) → _≤_ (cond b 8 6) 255
-last-small true = omega arith
-last-small false = omega arith
-
 -- It leaves the output as long as it was.
 pub header-kept : (records : ℕ) (l l₁ : List ℕ) → l₁ ≡ putAt 0 (headerBytes records) l → spelledSize records ≤ length l → 18 ≤ length l₁
 unfolding headerBytes
@@ -57,7 +53,9 @@ header-kept records l l₁ e p = omega (arith, ap length e, length-put l 0 (head
 
 -- A special subframe's configuration goes into a byte.
 pub special-small : (s : Settings) → settingsRefusal s ≡ 0 → s .special ≤ 255
-special-small s good = let a = accepted s good in omega (arith, a .special, last-small (eqb (s .prefix) 0))
+special-small s good =
+    let a = accepted s good in
+    omega (arith, a .special, either (λ (x : ℕ). x ≤ 255) (eqb (s .prefix) 0) 8 6 (omega arith) (omega arith))
 
 -- The settings, from four bytes, two, and two numbers.
 pub settings-put : (s : Settings) (l l₁ l₂ l₃ l₄ : List ℕ) → l₁ ≡ putAt 8 (s .config ∷ s .nrb ∷ s .mode ∷ s .blocks ∷ []) l
