@@ -397,7 +397,7 @@ fn replays(model: &Model, random: &mut Random) {
 
 fn writings(model: &Model, random: &mut Random) {
     for (length, records, traces) in TRACES {
-        let name = format!("trace_write, {length} records");
+        let name = format!("a trace written, {length} records");
         let inputs = traces_of(model, 0, records, traces, random);
         trace_row(&name, &inputs, records, engine_trace_write, plain_rust_trace_write);
     }
