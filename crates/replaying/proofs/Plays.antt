@@ -1,5 +1,5 @@
 -- The loop over the records: what holds before record i, and what follows where it goes on, stops and ends. Assumes nothing.
-use Prim.Native.Nat.{ℕ, zero, suc, _+_, _-_, _*_, _/_, _%_, _≤_, _<_}
+use Prim.Native.Nat.{ℕ, suc, _+_, _-_, _*_, _/_, _%_, _≤_, _<_}
 use mathlib.Core.Bool.{cond}
 use mathlib.Core.List.{List, [], _∷_, _++_, append-assoc, append-nil}
 use mathlib.Core.Path.{_≡_, refl, sym, ap, subst, _∙_}
@@ -16,22 +16,17 @@ use Rattle.heard.specs.declared.Heard.{Heard}
 use Rattle.handset.specs.declared.Handset.{Handset}
 use Rattle.handset.specs.Feed.{feedOf}
 use Rattle.reader.specs.Reading.{heardOf}
-use Rattle.reader.specs.Record.{broughtAt, recordOf}
-use Rattle.reader.proofs.Given.{record-heard}
+use Rattle.reader.specs.Record.{recordOf}
 use Rattle.replaying.specs.Ready.{Ready}
-use Rattle.replaying.specs.Replay.{refusalIn, broughtFrom, broughtIn, Played, after, stopOr, played, endedAs, written}
+use Rattle.replaying.specs.Replay.{refusalIn, broughtFrom, broughtIn, Played, after, played, endedAs, written}
 use Rattle.replaying.specs.Written.{bytesOf, putAt, FitsBytes}
+use Rattle.replaying.proofs.Brought.{brought-next, stopped}
 use Rattle.replaying.proofs.Feeds.{TakenUp, taken-up, grows}
 use Rattle.replaying.proofs.Putting.{take-put, drop-put, length-put}
 
 -- Bytes before, in two parts.
 after-after : (a b : List ℕ) (p : Played) → after (a ++ b) p ≡ after a (after b p)
 after-after a b p = rw (append-assoc a b (p .bytes))
-
--- A refusal stops.
-stopped : (k i : ℕ) (next : Played) → (k ≡ 0 → ⊥) → stopOr k i next ≡ record { refusal = k; number = i; bytes = [] }
-stopped zero i next some = absurd (some refl)
-stopped (suc k) i next some = refl
 
 module _ (l : List ℕ) (records : ℕ) (h₀ : Handset) (old : List ℕ) where
   -- All feeds.
@@ -90,13 +85,8 @@ module _ (l : List ℕ) (records : ℕ) (h₀ : Handset) (old : List ℕ) where
           closes 0 0 (sym (rw none at (p .left)))
 
       module _ (inside : i < records) (x : Heard) (read : x ≡ heardOf (recordOf l i)) where
-        brought : x ≡ broughtAt l i
-        brought = read ∙ record-heard l (ready .trace) i (rw (ready .all) at inside)
-
         one-more : broughtFrom l i (records - i) ≡ x ∷ broughtFrom l (suc i) (records - suc i)
-        one-more =
-            let e : records - i ≡ suc (records - suc i) = omega arith in
-            rw (e, brought)
+        one-more = brought-next l records (ready .trace) (ready .all) i inside x read
 
         -- Record i is refused.
         pub stops : (k : ℕ) → k ≡ refusalIn (feedOf h x .answer) → (k ≡ 0 → ⊥)

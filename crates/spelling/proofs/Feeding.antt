@@ -1,8 +1,8 @@
 -- The loop over the records without an output: what holds before record i, and what follows where it goes on, stops and ends; and the
 -- refusals before it. Assumes nothing.
-use Prim.Native.Nat.{ℕ, zero, suc, _+_, _-_, _≤_, _<_}
+use Prim.Native.Nat.{ℕ, suc, _+_, _-_, _≤_, _<_}
 use mathlib.Core.List.{List, _∷_}
-use mathlib.Core.Path.{_≡_, refl, sym, subst, _∙_}
+use mathlib.Core.Path.{_≡_, sym, subst}
 use native.Mathlib.Numerals.{add-one}
 use native.Mathlib.Omega.{arith}
 use borrow.Author.Tests.{ne-eqb}
@@ -10,16 +10,11 @@ use Rattle.heard.specs.declared.Heard.{Heard}
 use Rattle.handset.specs.declared.Handset.{Handset}
 use Rattle.handset.specs.Feed.{feedOf}
 use Rattle.reader.specs.Reading.{heardOf}
-use Rattle.reader.specs.Record.{broughtAt, recordOf}
-use Rattle.reader.proofs.Given.{record-heard}
+use Rattle.reader.specs.Record.{recordOf}
 use Rattle.trace.specs.Trace.{headerOf, traceRefusal}
-use Rattle.replaying.specs.Replay.{refusalIn, broughtFrom, broughtIn, Played, stopOr, played}
+use Rattle.replaying.specs.Replay.{refusalIn, broughtFrom, broughtIn, played}
+use Rattle.replaying.proofs.Brought.{brought-next, stopped}
 use Rattle.spelling.specs.Writing.{recordStop}
-
--- A refusal stops; without one, what comes after does.
-stopped : (k i : ℕ) (next : Played) → (k ≡ 0 → ⊥) → recordStop (stopOr k i next) ≡ record { refusal = k; kind = 2; number = i }
-stopped zero i next some = absurd (some refl)
-stopped (suc k) i next some = rw (ne-eqb (suc k) 0 some)
 
 module _ (l : List ℕ) (records : ℕ) (h₀ : Handset) where
   -- Before record i: the feeds that are left stop where all would.
@@ -47,16 +42,13 @@ module _ (l : List ℕ) (records : ℕ) (h₀ : Handset) where
 
       module _ (inside : i < records) (x : Heard) (read : x ≡ heardOf (recordOf l i)) where
         one-more : broughtFrom l i (records - i) ≡ x ∷ broughtFrom l (suc i) (records - suc i)
-        one-more =
-            let e : records - i ≡ suc (records - suc i) = omega arith in
-            let brought : x ≡ broughtAt l i = read ∙ record-heard l (ready .0) i (rw (ready .1) at inside) in
-            rw (e, brought)
+        one-more = brought-next l records (ready .0) (ready .1) i inside x read
 
         -- Record i is refused.
         pub stops : (k : ℕ) → k ≡ refusalIn (feedOf h x .answer) → (k ≡ 0 → ⊥)
             → record { refusal = k; kind = 2; number = i } ≡ recordStop (played h₀ 0 (broughtIn l))
         unfolding played
-        stops k e some = rw (one-more, ← e, stopped k i _ some) at (p .left)
+        stops k e some = rw (one-more, ← e, stopped k i _ some, ne-eqb k 0 some) at (p .left)
 
         -- It is not.
         pub goes-on : refusalIn (feedOf h x .answer) ≡ 0 → Feeding (feedOf h x .handset) (i + 1)
