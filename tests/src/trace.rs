@@ -73,6 +73,48 @@ impl Trace {
     }
 }
 
+/// What is due for a trace, as far as its output is not at fault: a refusal before any
+/// record, a stop with its refusal at the record of this number, or nothing is wrong.
+#[derive(Clone, Copy, Debug, PartialEq, Eq)]
+pub enum Due {
+    Refused(u16),
+    Stopped(u16, usize),
+    Done,
+}
+
+/// Traces of four records with all causes at once, and then with one after another put
+/// right, in the order 22, 1 to 6, 17, 19, and by records 9, 20, 10, 11, 12, 18: each with
+/// what is due. With the last one nothing is wrong. An output that is too short, 23, has
+/// another place in each call.
+pub fn one_cause_less() -> [(Due, Trace); 22] {
+    let [refused @ .., (_, short), (_, long)] = Settings::one_cause_less();
+    let [(_, all), ..] = refused;
+    // Of configuration 5 subframe 1 is special, 2 is uplink with the only window, and
+    // the others are downlink. N_RB 6 has CCEs 0 to 6.
+    let wrong = Slot::grant(7, 5, Slot::TWO);
+    let carried = Slot { results: 0, ..wrong };
+    let cce = Slot { cce: 6, ..carried };
+    let kind = Slot { kind: 4, ..wrong };
+    let (nothing, block, release) = (Slot::NOTHING, Slot::block(0), Slot::release(6, 4));
+    let of_kind = [all, long].map(|cell| (Due::Refused(22), cell, [wrong, wrong, wrong, kind]));
+    let of_settings = refused.map(|(number, cell)| (Due::Refused(number), cell, [wrong; 4]));
+    let of_records = [
+        (Due::Stopped(10, 0), short, [wrong; 4]),
+        (Due::Stopped(11, 0), short, [carried, wrong, wrong, wrong]),
+        (Due::Stopped(12, 0), short, [cce, wrong, wrong, wrong]),
+        (Due::Stopped(18, 0), short, [block, wrong, wrong, wrong]),
+        (Due::Stopped(20, 1), short, [nothing, wrong, wrong, wrong]),
+        (Due::Stopped(10, 1), long, [nothing, wrong, wrong, wrong]),
+        (Due::Stopped(9, 2), long, [nothing, release, wrong, wrong]),
+        (Due::Stopped(9, 2), long, [nothing, nothing, block, wrong]),
+        (Due::Stopped(10, 3), long, [nothing, nothing, nothing, wrong]),
+        (Due::Done, long, [nothing, release, nothing, nothing]),
+    ];
+    let steps = of_kind.into_iter().chain(of_settings).chain(of_records);
+    let traces = steps.map(|(due, cell, records)| (due, Trace::new(cell, &records)));
+    traces.collect::<Vec<_>>().try_into().expect("as many as there are steps")
+}
+
 /// The ten bytes of the settings in a trace.
 pub fn settings_bytes(settings: Settings) -> [u8; SETTINGS] {
     let Settings { config, nrb, n1, mode, blocks, scheduled, prefix, special } = settings;

@@ -36,6 +36,39 @@ impl Settings {
     pub const fn with_special(self, prefix: u16, special: u16) -> Self {
         Self { prefix, special, ..self }
     }
+
+    /// Settings with all causes of a refusal at once, and the same with one after another
+    /// put right, in the order of the refusals: each with the refusal that it meets first.
+    /// The last two are accepted, with 0: special subframes too short for data, and long
+    /// enough for it.
+    pub const fn one_cause_less() -> [(u16, Self); 12] {
+        let all = Self::plain(7, 5, 2048, 2, 0).with_scheduled(65_534).with_special(2, 9);
+        let nrb = Self { config: 5, ..all };
+        let n1 = Self { nrb: 6, ..nrb };
+        let mode = Self { n1: 2047, ..n1 };
+        let multiplexing = Self { mode: 1, ..mode };
+        let blocks = Self { mode: 0, ..multiplexing };
+        let scheduled = Self { blocks: 1, ..blocks };
+        let prefix = Self { scheduled: NONE, ..scheduled };
+        let special = Self { prefix: 1, ..prefix };
+        let later_release = Self { special: 7, ..special };
+        let short = Self { special: 4, ..later_release };
+        let long = Self { special: 5, ..short };
+        [
+            (1, all),
+            (2, nrb),
+            (3, n1),
+            (4, mode),
+            (5, multiplexing),
+            (6, blocks),
+            (17, scheduled),
+            (19, prefix),
+            (19, special),
+            (19, later_release),
+            (0, short),
+            (0, long),
+        ]
+    }
 }
 
 /// The window of an uplink subframe: a refusal, or 0 and M, K in the print's

@@ -695,30 +695,11 @@ fn told_short_special_with_all_arguments_together() {
 /// met together.
 #[test]
 fn later_numbers_in_their_place() {
-    let all = Settings::plain(7, 5, 2048, 2, 0).with_scheduled(65534).with_special(2, 9);
-    let nrb = Settings { config: 5, ..all };
-    let n1 = Settings { nrb: 6, ..nrb };
-    let mode = Settings { n1: 2047, ..n1 };
-    let multiplexing = Settings { mode: 1, ..mode };
-    let blocks = Settings { mode: 0, ..multiplexing };
-    let scheduled = Settings { blocks: 1, ..blocks };
-    let prefix = Settings { scheduled: NONE, ..scheduled };
-    let special = Settings { prefix: 1, ..prefix };
-    let later_release = Settings { special: 7, ..special };
-    let short = Settings { special: 4, ..later_release };
-    let long = Settings { special: 5, ..short };
+    let cells = Settings::one_cause_less();
+    let [refused @ .., (_, short), (_, long)] = cells;
     let set = Settings { scheduled: 2046, ..long };
-    let steps: [(u16, Settings, u16, u16, u16); 17] = [
-        (1, all, 10, 7, 2045),
-        (2, nrb, 10, 7, 2045),
-        (3, n1, 10, 7, 2045),
-        (4, mode, 10, 7, 2045),
-        (5, multiplexing, 10, 7, 2045),
-        (6, blocks, 10, 7, 2045),
-        (17, scheduled, 10, 7, 2045),
-        (19, prefix, 10, 7, 2045),
-        (19, special, 10, 7, 2045),
-        (19, later_release, 10, 7, 2045),
+    let of_settings = refused.map(|(number, settings)| (number, settings, 10, 7, 2045));
+    let of_reading: [(u16, Settings, u16, u16, u16); 7] = [
         (7, short, 10, 7, 2045),
         (20, short, 2, 7, 2045),
         (11, short, 2, 9, 2045),
@@ -727,7 +708,7 @@ fn later_numbers_in_their_place() {
         (13, set, 2, 7, 2045),
         (14, set, 2, 7, 2046),
     ];
-    for (number, settings, n, told, resource) in steps {
+    for (number, settings, n, told, resource) in of_settings.into_iter().chain(of_reading) {
         let read = reading(settings, n, told, resource, 2, 2);
         assert_eq!(read, ReadingAnswer::refused(number), "{settings:?}, n {n}, told {told}");
     }
@@ -742,7 +723,8 @@ fn later_numbers_in_their_place() {
     }
 
     // 17 and 19 come before 7 in every call with a subframe, and end the list of make.
-    let before_seven = [(17, scheduled), (19, prefix), (19, special), (19, later_release)];
+    let [_, _, _, _, _, _, before_seven @ ..] = refused;
+    assert_eq!(before_seven.map(|(number, _)| number), [17, 19, 19, 19]);
     for (number, settings) in before_seven {
         assert_eq!(window(settings, 10), WindowAnswer::refused(number));
         assert_eq!(answered(settings, 10), AnsweredAnswer::refused(number));
@@ -756,4 +738,5 @@ fn later_numbers_in_their_place() {
         assert_eq!((made.refusal, made.handset), (number, Handset::NONE));
     }
     assert_eq!(make(short_and_set).handset, Handset::fresh(short_and_set));
+    assert_eq!(cells.map(|(_, settings)| make(settings).refusal), cells.map(|(number, _)| number));
 }

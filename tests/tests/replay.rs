@@ -11,10 +11,10 @@ use feedback_tests::guarded::BOTH;
 use feedback_tests::model::Model;
 use feedback_tests::random::Random;
 use feedback_tests::trace::{
-    number_at, put_length, put_number, Trace, FIRST_AT, HEADER, LENGTH_AT, LONGEST, MOST_RECORDS,
-    MOST_WINDOWS, RECORD, RECORDS_AT, SETTINGS, SETTINGS_AT, WINDOW,
+    number_at, one_cause_less, put_length, put_number, Due, Trace, FIRST_AT, HEADER, LENGTH_AT,
+    LONGEST, MOST_RECORDS, MOST_WINDOWS, RECORD, RECORDS_AT, SETTINGS, SETTINGS_AT, WINDOW,
 };
-use feedback_tests::{record, replay, ReplayAnswer, Settings, Slot, WriteAnswer, NONE};
+use feedback_tests::{record, replay, ReplayAnswer, Settings, Slot, WriteAnswer};
 use std::ptr::{null, null_mut};
 
 /// How many windows a frame has, by configuration.
@@ -315,70 +315,38 @@ fn largest_traces() {
 /// causes are met, and one after another is put right.
 #[test]
 fn one_cause_after_another() {
-    let all = Settings::plain(7, 5, 2048, 2, 0).with_scheduled(65_534).with_special(2, 9);
-    let nrb = Settings { config: 5, ..all };
-    let n1 = Settings { nrb: 6, ..nrb };
-    let mode = Settings { n1: 2047, ..n1 };
-    let multiplexing = Settings { mode: 1, ..mode };
-    let blocks = Settings { mode: 0, ..multiplexing };
-    let scheduled = Settings { blocks: 1, ..blocks };
-    let prefix = Settings { scheduled: NONE, ..scheduled };
-    let special = Settings { prefix: 1, ..prefix };
-    let later_release = Settings { special: 7, ..special };
-    let short = Settings { special: 4, ..later_release };
-    let long = Settings { special: 5, ..short };
-    // Of configuration 5 subframe 1 is special, 2 is uplink with the only window, and
-    // the others are downlink. N_RB 6 has CCEs 0 to 6.
-    let wrong = Slot::grant(7, 5, Slot::TWO);
-    let carried = Slot { results: 0, ..wrong };
-    let cce = Slot { cce: 6, ..carried };
-    let kind = Slot { kind: 4, ..wrong };
-    let (nothing, block, release) = (Slot::NOTHING, Slot::block(0), Slot::release(6, 4));
-    let (refused, stopped) = (ReplayAnswer::refused, ReplayAnswer::stopped);
-    // One window is complete: it takes eight bytes.
-    let steps: [(ReplayAnswer, Settings, [Slot; 4], usize); 23] = [
-        (refused(22), all, [wrong, wrong, wrong, kind], 7),
-        (refused(22), long, [wrong, wrong, wrong, kind], 8),
-        (refused(1), all, [wrong; 4], 7),
-        (refused(2), nrb, [wrong; 4], 7),
-        (refused(3), n1, [wrong; 4], 7),
-        (refused(4), mode, [wrong; 4], 7),
-        (refused(5), multiplexing, [wrong; 4], 7),
-        (refused(6), blocks, [wrong; 4], 7),
-        (refused(17), scheduled, [wrong; 4], 7),
-        (refused(19), prefix, [wrong; 4], 7),
-        (refused(19), special, [wrong; 4], 7),
-        (refused(19), later_release, [wrong; 4], 7),
-        (refused(23), short, [wrong; 4], 7),
-        (stopped(10, 0, 0), short, [wrong; 4], 8),
-        (stopped(11, 0, 0), short, [carried, wrong, wrong, wrong], 8),
-        (stopped(12, 0, 0), short, [cce, wrong, wrong, wrong], 8),
-        (stopped(18, 0, 0), short, [block, wrong, wrong, wrong], 8),
-        (stopped(20, 1, 0), short, [nothing, wrong, wrong, wrong], 8),
-        (stopped(10, 1, 0), long, [nothing, wrong, wrong, wrong], 8),
-        (stopped(9, 2, 0), long, [nothing, release, wrong, wrong], 8),
-        (stopped(9, 2, 0), long, [nothing, nothing, block, wrong], 8),
-        (stopped(10, 3, 1), long, [nothing, nothing, nothing, wrong], 8),
-        (ReplayAnswer::done(1), long, [nothing, release, nothing, nothing], 8),
-    ];
-    for (due, settings, records, room) in steps {
-        let trace = Trace::new(settings, &records).bytes();
-        let mut output = vec![9; room];
-        assert_eq!(replay(&trace, &mut output), due, "{settings:?}, {records:?}");
-        let written: &[u8] = if due.windows == 1 { &[2, 0, 0, 0, 0, 0, 0, 0] } else { &[] };
-        assert_eq!(output, [written, &vec![9; room - written.len()]].concat());
-        // 22 and 21 come before all of them.
-        for (refusal, at, number) in
-            [(22, SETTINGS_AT, 7), (21, LENGTH_AT, 33), (21, LENGTH_AT, 35)]
-        {
-            let mut bad = trace.clone();
-            put_number(&mut bad, at, number);
+    let refused = ReplayAnswer::refused;
+    for (step, (due, trace)) in one_cause_less().into_iter().enumerate() {
+        let bytes = trace.bytes();
+        for room in [0, 7, 8] {
+            // Record 2 completes the only window: it takes eight bytes, also where a record
+            // before it is refused.
+            let due = match due {
+                Due::Refused(refusal) => refused(refusal),
+                _ if room < 8 => refused(23),
+                Due::Stopped(refusal, record) => {
+                    ReplayAnswer::stopped(refusal, record, usize::from(record > 2))
+                }
+                Due::Done => ReplayAnswer::done(1),
+            };
             let mut output = vec![9; room];
-            assert_eq!(replay(&bad, &mut output), refused(refusal));
-            put_number(&mut bad, RECORDS_AT, 65_535);
-            put_number(&mut bad, FIRST_AT, 65_535);
-            assert_eq!(replay(&bad, &mut output), refused(refusal));
-            assert_eq!(output, vec![9; room]);
+            assert_eq!(replay(&bytes, &mut output), due, "step {step}, {room}: {trace:?}");
+            let written: &[u8] = if due.windows == 1 { &[2, 0, 0, 0, 0, 0, 0, 0] } else { &[] };
+            let left = [written, &vec![9; room - written.len()]].concat();
+            assert_eq!(output, left, "step {step}, {room}: {trace:?}");
+            // 22 and 21 come before all of them.
+            for (refusal, at, number) in
+                [(22, SETTINGS_AT, 7), (21, LENGTH_AT, 33), (21, LENGTH_AT, 35)]
+            {
+                let mut bad = bytes.clone();
+                put_number(&mut bad, at, number);
+                let mut output = vec![9; room];
+                assert_eq!(replay(&bad, &mut output), refused(refusal));
+                put_number(&mut bad, RECORDS_AT, 65_535);
+                put_number(&mut bad, FIRST_AT, 65_535);
+                assert_eq!(replay(&bad, &mut output), refused(refusal));
+                assert_eq!(output, vec![9; room]);
+            }
         }
     }
 }

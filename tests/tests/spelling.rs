@@ -11,11 +11,11 @@ use feedback_tests::guarded::BOTH;
 use feedback_tests::model::{is_short, is_uplink, Model};
 use feedback_tests::random::Random;
 use feedback_tests::trace::{
-    number_at, put_length, put_number, record_bytes, spelled_length, Trace, FIRST_AT, HEADER,
-    LENGTH_AT, LONGEST, LONGEST_SPELLED, MOST_RECORDS, RECORD, RECORDS_AT, SETTINGS, SETTINGS_AT,
-    SPELLED_FIRST,
+    number_at, one_cause_less, put_length, put_number, record_bytes, spelled_length, Due, Trace,
+    FIRST_AT, HEADER, LENGTH_AT, LONGEST, LONGEST_SPELLED, MOST_RECORDS, RECORD, RECORDS_AT,
+    SETTINGS, SETTINGS_AT, SPELLED_FIRST,
 };
-use feedback_tests::{trace_write, Settings, Slot, WriteAnswer, NONE};
+use feedback_tests::{trace_write, Settings, Slot, WriteAnswer};
 use std::ptr::{null, null_mut};
 
 /// A grant that is refused in every subframe.
@@ -350,68 +350,31 @@ fn largest_traces() {
 /// all causes are met, and one after another is put right.
 #[test]
 fn one_cause_after_another() {
-    let all = Settings::plain(7, 5, 2048, 2, 0).with_scheduled(65_534).with_special(2, 9);
-    let nrb = Settings { config: 5, ..all };
-    let n1 = Settings { nrb: 6, ..nrb };
-    let mode = Settings { n1: 2047, ..n1 };
-    let multiplexing = Settings { mode: 1, ..mode };
-    let blocks = Settings { mode: 0, ..multiplexing };
-    let scheduled = Settings { blocks: 1, ..blocks };
-    let prefix = Settings { scheduled: NONE, ..scheduled };
-    let special = Settings { prefix: 1, ..prefix };
-    let later_release = Settings { special: 7, ..special };
-    let short = Settings { special: 4, ..later_release };
-    let long = Settings { special: 5, ..short };
-    // Of configuration 5 subframe 1 is special, 2 is uplink and the others are downlink.
-    // N_RB 6 has CCEs 0 to 6.
-    let wrong = Slot::grant(7, 5, Slot::TWO);
-    let carried = Slot { results: 0, ..wrong };
-    let cce = Slot { cce: 6, ..carried };
-    let kind = Slot { kind: 4, ..wrong };
-    let (nothing, block, release) = (Slot::NOTHING, Slot::block(0), Slot::release(6, 4));
-    let (refused, stopped) = (WriteAnswer::refused, WriteAnswer::stopped);
-    // Four records take 34 bytes.
-    let steps: [(WriteAnswer, Settings, [Slot; 4], usize); 24] = [
-        (refused(22), all, [wrong, wrong, wrong, kind], 33),
-        (refused(22), long, [wrong, wrong, wrong, kind], 34),
-        (refused(1), all, [wrong; 4], 0),
-        (refused(2), nrb, [wrong; 4], 0),
-        (refused(3), n1, [wrong; 4], 0),
-        (refused(4), mode, [wrong; 4], 0),
-        (refused(5), multiplexing, [wrong; 4], 0),
-        (refused(6), blocks, [wrong; 4], 0),
-        (refused(17), scheduled, [wrong; 4], 0),
-        (refused(19), prefix, [wrong; 4], 0),
-        (refused(19), special, [wrong; 4], 0),
-        (refused(19), later_release, [wrong; 4], 33),
-        (stopped(10, 0), short, [wrong; 4], 33),
-        (stopped(11, 0), short, [carried, wrong, wrong, wrong], 33),
-        (stopped(12, 0), short, [cce, wrong, wrong, wrong], 0),
-        (stopped(18, 0), short, [block, wrong, wrong, wrong], 33),
-        (stopped(20, 1), short, [nothing, wrong, wrong, wrong], 33),
-        (stopped(10, 1), long, [nothing, wrong, wrong, wrong], 33),
-        (stopped(9, 2), long, [nothing, release, wrong, wrong], 33),
-        (stopped(9, 2), long, [nothing, nothing, block, wrong], 33),
-        (stopped(10, 3), long, [nothing, nothing, nothing, wrong], 33),
-        (refused(23), long, [nothing, release, nothing, nothing], 0),
-        (refused(23), long, [nothing, release, nothing, nothing], 33),
-        (WriteAnswer::done(34), long, [nothing, release, nothing, nothing], 34),
-    ];
-    for (due, settings, records, room) in steps {
-        let trace = Trace::new(settings, &records).bytes();
-        let mut output = vec![9; room];
-        assert_eq!(trace_write(&trace, &mut output), due, "{settings:?}, {records:?}");
-        let left = if due.kind == WriteAnswer::DONE { trace.clone() } else { vec![9; room] };
-        assert_eq!(output, left, "{settings:?}, {records:?}");
-        // 22 and 21 come before all of them.
-        for (refusal, at, number) in
-            [(22, SETTINGS_AT, 7), (21, LENGTH_AT, 33), (21, LENGTH_AT, 35)]
-        {
-            let mut bad = trace.clone();
-            put_number(&mut bad, at, number);
+    let refused = WriteAnswer::refused;
+    for (step, (due, trace)) in one_cause_less().into_iter().enumerate() {
+        let bytes = trace.bytes();
+        // Four records take 34 bytes.
+        for room in [0, 33, 34] {
+            let due = match due {
+                Due::Refused(refusal) => refused(refusal),
+                Due::Stopped(refusal, record) => WriteAnswer::stopped(refusal, record),
+                Due::Done if room < 34 => refused(23),
+                Due::Done => WriteAnswer::done(34),
+            };
             let mut output = vec![9; room];
-            assert_eq!(trace_write(&bad, &mut output), refused(refusal));
-            assert_eq!(output, vec![9; room]);
+            assert_eq!(trace_write(&bytes, &mut output), due, "step {step}, {room}: {trace:?}");
+            let left = if due.kind == WriteAnswer::DONE { bytes.clone() } else { vec![9; room] };
+            assert_eq!(output, left, "step {step}, {room}: {trace:?}");
+            // 22 and 21 come before all of them.
+            for (refusal, at, number) in
+                [(22, SETTINGS_AT, 7), (21, LENGTH_AT, 33), (21, LENGTH_AT, 35)]
+            {
+                let mut bad = bytes.clone();
+                put_number(&mut bad, at, number);
+                let mut output = vec![9; room];
+                assert_eq!(trace_write(&bad, &mut output), refused(refusal));
+                assert_eq!(output, vec![9; room]);
+            }
         }
     }
 }

@@ -9,7 +9,7 @@ use Rattle.numbers.proofs.InverseKept.{inverse-back}
 use Rattle.numbers.proofs.ReadingKept.{reading-kept}
 use Rattle.numbers.proofs.ClaimsKept.{claims-kept}
 use Rattle.numbers.proofs.FeedKept.{feed-kept}
-use Rattle.numbers.proofs.ReaderKept.{reader-kept, replay-told}
+use Rattle.numbers.proofs.ReaderKept.{reader-kept, replay-told, writing-told}
 
 pub answers-come-back : AnswersComeBack
 answers-come-back =
@@ -47,4 +47,5 @@ kinds-of-answers =
       feed = λ h x. feed-kept h x .1;
       reader = λ l i. reader-kept l i .1;
       replay = replay-told;
+      writing = writing-told;
     }

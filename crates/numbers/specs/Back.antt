@@ -1,6 +1,6 @@
 -- The way back from the numbers of a C answer to the answer, and that no answer of a call is lost on the way there. feedback_answered,
--- feedback_make and feedback_replay hand on the engine's own structs, `answeredOf`, `makeOf` and `replayOf`: there is no way there on
--- which to lose something.
+-- feedback_make, feedback_replay and feedback_trace_write hand on the engine's own structs, `answeredOf`, `makeOf`, `replayOf` and
+-- `writeOf`: there is no way there on which to lose something.
 -- Assumes nothing.
 use Prim.Native.Nat.{ℕ, zero, suc}
 use mathlib.Core.Bool.{true, cond, not}
@@ -31,6 +31,7 @@ use Rattle.handset.specs.declared.Fed.{Fed}
 use Rattle.handset.specs.declared.Handset.{Handset}
 use Rattle.handset.specs.Feed.{feedOf}
 use Rattle.replaying.specs.Replay.{replayDone, replayStopped, replayOf}
+use Rattle.spelling.specs.Writing.{writeOf}
 use Rattle.reader.specs.declared.Record.{Record}
 use Rattle.reader.specs.declared.Record.the-variants as traced
 use Rattle.reader.specs.Record.{recordOf}
@@ -140,6 +141,10 @@ pub record SameNumbers : Type 0 where
 abbrev pub KindFor : ℕ → ℕ → ℕ → Type 0
 KindFor most kind refusal = (eqb kind 0 ≡ not (eqb refusal 0)) × (leb kind most ≡ true)
 
+-- A replay and the writing of a trace are done exactly where nothing is refused; so here too a struct of zeros is no such answer.
+abbrev pub DoneFor : ℕ → ℕ → Type 0
+DoneFor kind refusal = (eqb kind replayDone ≡ eqb refusal 0) × (leb kind replayStopped ≡ true)
+
 pub record KindsOfAnswers : Type 0 where
   pub reading : (s : Settings) (n : ℕ) (t : Told) (r b0 b1 : ℕ)
       → KindFor kindMultiplexed (readingAnswer (readOf s n t r b0 b1) .kind) (readingAnswer (readOf s n t r b0 b1) .refusal)
@@ -147,6 +152,5 @@ pub record KindsOfAnswers : Type 0 where
       → KindFor claimsClash (claimsAnswer (checkedOf s n list lent) .kind) (claimsAnswer (checkedOf s n list lent) .refusal)
   pub feed : (h : Handset) (x : Heard) → KindFor kindNoWindow (fedAnswer (feedOf h x) .kind) (fedAnswer (feedOf h x) .refusal)
   pub reader : (l : List ℕ) (i : ℕ) → KindFor recordEnd (recordAnswer (recordOf l i) .kind) (recordAnswer (recordOf l i) .refusal)
-  -- a replay is done exactly where nothing is refused; so a struct of zeros is no such answer
-  pub replay : (l : List ℕ) (room : ℕ)
-      → (eqb (replayOf l room .kind) replayDone ≡ eqb (replayOf l room .refusal) 0) × (leb (replayOf l room .kind) replayStopped ≡ true)
+  pub replay : (l : List ℕ) (room : ℕ) → DoneFor (replayOf l room .kind) (replayOf l room .refusal)
+  pub writing : (l : List ℕ) (room : ℕ) → DoneFor (writeOf l room .kind) (writeOf l room .refusal)

@@ -51,17 +51,17 @@ use Rattle.heard.specs.declared.Heard.{Heard}
 use Rattle.heard.specs.declared.Slot.{Slot}
 use Rattle.heard.specs.Memory.{slotOf, none}
 use Rattle.trace.specs.declared.Header.{Header}
-use Rattle.trace.specs.Trace.{headerOf, settingsOf}
+use Rattle.trace.specs.Trace.{numberBytes, headerOf, settingsOf}
 use Rattle.reader.specs.declared.Record.{Record}
 use Rattle.reader.specs.declared.Record.the-variants.{Refused, At, End}
 use Rattle.reader.specs.Record.{usedIn, recordSlot, readAs, recordOf}
 use Rattle.replaying.specs.Accepted.{AcceptedTrace}
 use Rattle.replaying.specs.declared.Replayed.{Replayed}
-use Rattle.replaying.specs.Replay.{written}
+use Rattle.replaying.specs.Replay.{written, outputAs}
 use Rattle.spelling.specs.declared.Written.{Written}
 use Rattle.spelling.specs.OneSpelling.{Writer, Bytes, OneSpelling}
-use Rattle.spelling.specs.Spelling.{numberBytes, spelledSize, headerBytes, settingsBytes, slotBytes, spellingOf}
-use Rattle.spelling.specs.Writing.{writeOf, outputAs, spelledInto}
+use Rattle.spelling.specs.Spelling.{spelledSize, headerBytes, settingsBytes, slotBytes, spellingOf}
+use Rattle.spelling.specs.Writing.{writeOf, spelledInto}
 use Rattle.recorded.proofs.Spelled.{spellings, elsewhere, alike, missed, unlike, empty}
 use Rattle.recorded.proofs.Worked.{settings, drive, stopped}
 

@@ -1,34 +1,43 @@
--- Bytes put at a place of a list: what stands before and after them, and that eight stores put eight bytes. Assumes nothing.
+-- Bytes put at a place of a list: what stands before and after them, and that stores put what they store. Assumes nothing.
 use Prim.Native.Nat.{ℕ, suc, _+_, _≤_}
 use mathlib.Core.List.{List, [], _∷_, _++_, append-assoc, append-nil}
-use mathlib.Core.Path.{_≡_, refl, sym}
+use mathlib.Core.Path.{_≡_, refl, sym, _∙_}
 use native.Mathlib.Nat.{add-zero}
 use native.Mathlib.Omega.{arith}
 use lib.ListN.{length, take, drop, set, length-append, length-drop, take-append-drop}
-use lib.Seq.{length-take-le, take-at, drop-at, drop-drop, sets-eq}
+use lib.Seq.{length-take-le, take-at, drop-at, drop-drop, sets, sets-eq}
 use Rattle.reply.specs.declared.Answer.{Answer}
 use Rattle.reply.specs.declared.Answer.the-variants.{Sent}
 use Rattle.reply.specs.declared.Reply.{Reply}
 use Rattle.replaying.specs.Written.{windowBytes, bytesOf, putAt, FitsBytes}
 
+-- The numbers of a list stored from the place i behind `at` on, and from `at` on: what code does that writes `out[at]`, `out[at + 1]` and
+-- so on.
+abbrev storedFrom : ℕ → ℕ → List ℕ → List ℕ → List ℕ
+storedFrom at i [] l = l
+storedFrom at i (x ∷ new) l = storedFrom at (suc i) new (set l (at + i) x)
+
+abbrev pub stored : ℕ → List ℕ → List ℕ → List ℕ
+stored at [] l = l
+stored at (x ∷ new) l = storedFrom at 1 new (set l at x)
+
+stored-sets : (at i : ℕ) (new l : List ℕ) → storedFrom at i new l ≡ sets l (at + i) new
+stored-sets at i [] l = refl
+stored-sets at i (x ∷ new) l =
+    let e : at + suc i ≡ suc (at + i) = omega arith in
+    rw (← e) (stored-sets at (suc i) new (set l (at + i) x))
+
+-- Stores one after the other put a list.
+pub stored-put : (new l : List ℕ) (at : ℕ) → at + length new ≤ length l → stored at new l ≡ putAt at new l
+stored-put [] l at p = sets-eq [] l at p
+stored-put (x ∷ new) l at p =
+    let e : at + 1 ≡ suc at = omega arith in
+    rw e at (stored-sets at 1 new (set l at x)) ∙ sets-eq (x ∷ new) l at p
+
 module _ (l : List ℕ) (at : ℕ) where
   -- Nothing put changes nothing.
   pub put-none : l ≡ putAt at [] l
   put-none = rw (append-nil, add-zero) (sym (take-append-drop at l))
-
-  -- Eight stores, one after the other.
-  pub put-eight : (a b c d e f g h : ℕ) → at + 8 ≤ length l
-      → set (set (set (set (set (set (set (set l at a) (at + 1) b) (at + 2) c) (at + 3) d) (at + 4) e) (at + 5) f) (at + 6) g) (at + 7) h
-      ≡ putAt at (a ∷ b ∷ c ∷ d ∷ e ∷ f ∷ g ∷ h ∷ []) l
-  put-eight a b c d e f g h p =
-      let e1 : at + 1 ≡ suc at = omega arith in
-      let e2 : at + 2 ≡ suc (suc at) = omega arith in
-      let e3 : at + 3 ≡ suc (suc (suc at)) = omega arith in
-      let e4 : at + 4 ≡ suc (suc (suc (suc at))) = omega arith in
-      let e5 : at + 5 ≡ suc (suc (suc (suc (suc at)))) = omega arith in
-      let e6 : at + 6 ≡ suc (suc (suc (suc (suc (suc at))))) = omega arith in
-      let e7 : at + 7 ≡ suc (suc (suc (suc (suc (suc (suc at)))))) = omega arith in
-      rw (e1, e2, e3, e4, e5, e6, e7) (sets-eq (a ∷ b ∷ c ∷ d ∷ e ∷ f ∷ g ∷ h ∷ []) l at p)
 
   module _ (new : List ℕ) (inside : at + length new ≤ length l) where
     front : length (take at l ++ new) ≡ at + length new

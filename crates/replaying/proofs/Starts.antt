@@ -24,7 +24,7 @@ module _ (l old : List ℕ) where
   refused-before k e some = let p = go k (startRefusal l (length old)) e some in (p .0, (p .1, omega arith))
     where
       go : (k r : ℕ) → k ≡ r → (k ≡ 0 → ⊥)
-          → (record { refusal = k; kind = 0; number = 0; windows = 0 } ≡ replayedAs r (playedIn l)) × (old ≡ outputAs r (playedIn l) old)
+          → (record { refusal = k; kind = 0; number = 0; windows = 0 } ≡ replayedAs r (playedIn l)) × (old ≡ outputAs r (playedIn l .bytes) old)
       go k zero e some = absurd (some e)
       go k (suc r) e some = rw e (refl, refl)
 

@@ -104,10 +104,10 @@ replayOf l room = replayedAs (startRefusal l room) (playedIn l)
 abbrev pub written : List ℕ → List ℕ → List ℕ
 written bytes old = bytes ++ drop (length bytes) old
 
-abbrev pub outputAs : ℕ → Played → List ℕ → List ℕ
-outputAs zero p old = written (p .bytes) old
-outputAs (suc k) p old = old
+abbrev pub outputAs : ℕ → List ℕ → List ℕ → List ℕ
+outputAs zero bytes old = written bytes old
+outputAs (suc k) bytes old = old
 
 -- A refusal before any record writes nothing.
 unfoldable pub outputOf : List ℕ → List ℕ → List ℕ
-outputOf l old = outputAs (startRefusal l (length old)) (playedIn l) old
+outputOf l old = outputAs (startRefusal l (length old)) (playedIn l .bytes) old

@@ -1,14 +1,15 @@
 -- What a replay writes of a window: document 02, U3.
 -- Assumes nothing.
-use Prim.Native.Nat.{ℕ, _+_, _/_, _%_, _≤_}
+use Prim.Native.Nat.{ℕ, _+_, _≤_}
 use mathlib.Core.List.{List, [], _∷_, _++_}
 use lib.ListN.{length, take, drop}
+use Rattle.trace.specs.Trace.{numberBytes}
 use Rattle.reply.specs.declared.Answer.{Answer}
 use Rattle.reply.specs.declared.Answer.the-variants.{Taken, NoWindow, Silent, Sent, Refused}
 
 -- "Each window gives eight bytes: n, kind (0 silent, 1 bundled, 2 multiplexed), resource in two, b0, b1 (all 0 if silent), two zeros."
 unfoldable pub windowBytes : ℕ → ℕ → ℕ → ℕ → ℕ → List ℕ
-windowBytes n kind resource b0 b1 = n ∷ kind ∷ resource % 256 ∷ resource / 256 ∷ b0 ∷ b1 ∷ 0 ∷ 0 ∷ []
+windowBytes n kind resource b0 b1 = n ∷ kind ∷ (numberBytes resource ++ (b0 ∷ b1 ∷ 0 ∷ 0 ∷ []))
 
 -- What the answer to subframe n gives: a window silent or answered its bytes, a subframe without one nothing.
 abbrev pub bytesOf : ℕ → Answer → List ℕ

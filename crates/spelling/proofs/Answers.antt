@@ -10,12 +10,12 @@ use Rattle.frame.proofs.Accepted.{neither}
 use Rattle.handset.specs.Make.{makeOf}
 use Rattle.trace.specs.declared.Header.{Header}
 use Rattle.trace.specs.Trace.{headerOf, settingsOf, traceRefusal}
-use Rattle.replaying.specs.Replay.{broughtIn, played, playedIn, written}
+use Rattle.replaying.specs.Replay.{broughtIn, played, playedIn, endedAs, replayedAs, written}
 use Rattle.spelling.specs.declared.Stop.{Stop}
 use Rattle.spelling.specs.declared.Written.{Written}
 use Rattle.spelling.specs.Spelling.{spelledSize, headerBytes, settingsBytes, spellingOf}
 use Rattle.spelling.specs.Writable.{Writable}
-use Rattle.spelling.specs.Writing.{recordStop, stopAs, stopOf, roomRefusal, writeOf, spelledInto}
+use Rattle.spelling.specs.Writing.{stopIn, stopOf, roomRefusal, writeOf, spelledInto}
 use Rattle.spelling.proofs.Putting.{records-length}
 use Rattle.spelling.proofs.Size.{size-least}
 
@@ -26,12 +26,12 @@ module _ (l : List ℕ) where
   unfolding stopOf
   refused-before k e some = go k (orElse (traceRefusal l) (makeOf (settingsOf l) .refusal)) e some
     where
-      go : (k r : ℕ) → k ≡ r → (k ≡ 0 → ⊥) → record { refusal = k; kind = 0; number = 0 } ≡ stopAs r (playedIn l)
+      go : (k r : ℕ) → k ≡ r → (k ≡ 0 → ⊥) → record { refusal = k; kind = 0; number = 0 } ≡ stopIn (replayedAs r (playedIn l))
       go k zero e some = absurd (some e)
       go k (suc r) e some = rw e
 
   pub none-before : 0 ≡ orElse (traceRefusal l) (makeOf (settingsOf l) .refusal)
-      → recordStop (played (makeOf (settingsOf l) .handset) 0 (broughtIn l)) ≡ stopOf l
+      → stopIn (endedAs (played (makeOf (settingsOf l) .handset) 0 (broughtIn l))) ≡ stopOf l
   unfolding stopOf playedIn
   none-before e = rw (← e)
 
@@ -40,7 +40,7 @@ module _ (l : List ℕ) where
   unfolding stopOf
   nothing-before e = neither (traceRefusal l) (makeOf (settingsOf l) .refusal) (go (orElse (traceRefusal l) (makeOf (settingsOf l) .refusal)) e)
     where
-      go : (r : ℕ) → stopAs r (playedIn l) .refusal ≡ 0 → r ≡ 0
+      go : (r : ℕ) → stopIn (replayedAs r (playedIn l)) .refusal ≡ 0 → r ≡ 0
       go zero e = refl
       go (suc r) e = absurd (omega arith)
 

@@ -12,15 +12,15 @@ use Rattle.handset.specs.Feed.{feedOf}
 use Rattle.reader.specs.Reading.{heardOf}
 use Rattle.reader.specs.Record.{recordOf}
 use Rattle.trace.specs.Trace.{headerOf, traceRefusal}
-use Rattle.replaying.specs.Replay.{refusalIn, broughtFrom, broughtIn, played}
+use Rattle.replaying.specs.Replay.{refusalIn, broughtFrom, broughtIn, played, endedAs}
 use Rattle.replaying.proofs.Brought.{brought-next, stopped}
-use Rattle.spelling.specs.Writing.{recordStop}
+use Rattle.spelling.specs.Writing.{stopIn}
 
 module _ (l : List ℕ) (records : ℕ) (h₀ : Handset) where
   -- Before record i: the feeds that are left stop where all would.
   pub record Feeding (h : Handset) (i : ℕ) : Type 0 where
     pub count : i ≤ records
-    pub left : recordStop (played h i (broughtFrom l i (records - i))) ≡ recordStop (played h₀ 0 (broughtIn l))
+    pub left : stopIn (endedAs (played h i (broughtFrom l i (records - i)))) ≡ stopIn (endedAs (played h₀ 0 (broughtIn l)))
 
   module _ (ready : (traceRefusal l ≡ 0) × (records ≡ headerOf l .records)) where
     begins : Feeding h₀ 0
@@ -34,7 +34,7 @@ module _ (l : List ℕ) (records : ℕ) (h₀ : Handset) where
 
     module _ (h : Handset) (i : ℕ) (p : Feeding h i) where
       -- No record is left.
-      pub ends : records ≤ i → record { refusal = 0; kind = 1; number = 0 } ≡ recordStop (played h₀ 0 (broughtIn l))
+      pub ends : records ≤ i → record { refusal = 0; kind = 1; number = 0 } ≡ stopIn (endedAs (played h₀ 0 (broughtIn l)))
       unfolding played
       ends h =
           let none : records - i ≡ 0 = omega arith in
@@ -46,7 +46,7 @@ module _ (l : List ℕ) (records : ℕ) (h₀ : Handset) where
 
         -- Record i is refused.
         pub stops : (k : ℕ) → k ≡ refusalIn (feedOf h x .answer) → (k ≡ 0 → ⊥)
-            → record { refusal = k; kind = 2; number = i } ≡ recordStop (played h₀ 0 (broughtIn l))
+            → record { refusal = k; kind = 2; number = i } ≡ stopIn (endedAs (played h₀ 0 (broughtIn l)))
         unfolding played
         stops k e some = rw (one-more, ← e, stopped k i _ some, ne-eqb k 0 some) at (p .left)
 

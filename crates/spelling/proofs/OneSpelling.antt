@@ -17,13 +17,13 @@ use Rattle.trace.specs.Trace.{headerOf, settingsOf, traceRefusal}
 use Rattle.trace.proofs.Exactly.{exactly}
 use Rattle.reader.specs.Record.{slotAt, usedIn, recordSlot}
 use Rattle.replaying.specs.Accepted.{AcceptedTrace}
-use Rattle.replaying.specs.Replay.{Played, playedIn, outputNeeded, startRefusal, replayedAs, replayOf, written, outputOf}
+use Rattle.replaying.specs.Replay.{Played, playedIn, outputNeeded, startRefusal, endedAs, replayedAs, replayOf, written, outputAs, outputOf}
 use Rattle.replaying.proofs.Accepting.{roomy}
 use Rattle.spelling.specs.declared.Written.{Written}
 use Rattle.spelling.specs.OneSpelling.{traceWriter, Writes, bytesWritten, Spells, OneSpelling, LengthEnough, UsedExactly}
 use Rattle.spelling.specs.Spelling.{spelledSize, recordsBytes, spellingOf}
 use Rattle.spelling.specs.Used.{SameTrace}
-use Rattle.spelling.specs.Writing.{stopAs, stopOf, roomRefusal, writtenAs, stoppedOr, writeOf, outputAs, spelledInto}
+use Rattle.spelling.specs.Writing.{stopIn, stopOf, roomRefusal, writtenAs, stoppedOr, writeOf, spelledInto}
 use Rattle.spelling.proofs.Answers.{nothing-before, spelling-length}
 use Rattle.spelling.proofs.ReadBack.{header-back, settings-back, record-back, trace-back, read-back, all-brought, played-back, spelled-again}
 use Rattle.spelling.proofs.Size.{size-least, size-length}
@@ -55,7 +55,7 @@ module _ (l : List ℕ) where
 
   -- The answer to one that is not.
   as-replayed : (t m : ℕ) (p : Played) (next : Written) → ((t ≡ 0) × (m ≡ 0) × (p .refusal ≡ 0) → ⊥)
-      → stoppedOr (stopAs (orElse t m) p .refusal) (stopAs (orElse t m) p) next
+      → stoppedOr (replayedAs (orElse t m) p .refusal) (stopIn (replayedAs (orElse t m) p)) next
       ≡ record {
         refusal = replayedAs (orElse t (orElse m 0)) p .refusal;
         kind = replayedAs (orElse t (orElse m 0)) p .kind;
@@ -65,7 +65,7 @@ module _ (l : List ℕ) where
   as-replayed zero zero p next some = go (p .refusal) refl
     where
       go : (k : ℕ) → p .refusal ≡ k
-          → stoppedOr (p .refusal) (stopAs 0 p) next ≡ record { refusal = p .refusal; kind = cond (eqb (p .refusal) 0) 1 2; number = p .number; size = 0 }
+          → stoppedOr (p .refusal) (stopIn (endedAs p)) next ≡ record { refusal = p .refusal; kind = cond (eqb (p .refusal) 0) 1 2; number = p .number; size = 0 }
       go zero e = absurd (some (refl, refl, e))
       go (suc k) e = rw e
   as-replayed zero (suc m) p next some = refl

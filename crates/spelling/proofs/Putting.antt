@@ -1,37 +1,23 @@
--- Stores and puts one after the other are one put: the header, the settings, a record, the whole trace. Assumes nothing.
+-- Puts one after the other are one put: the header, the settings, a record, the whole trace. Assumes nothing.
 use Prim.Native.Nat.{ℕ, zero, suc, _+_, _*_, _≤_}
 use mathlib.Core.List.{List, [], _∷_, _++_}
 use mathlib.Core.Path.{_≡_, refl, ap, subst, _∙_}
 use native.Mathlib.Nat.{zero-add}
 use native.Mathlib.Omega.{arith}
 use lib.Dec.{eqb}
-use lib.ListN.{length, set}
-use lib.Seq.{sets-eq}
+use lib.ListN.{length}
 use Rattle.frame.specs.declared.Settings.{Settings}
 use Rattle.frame.specs.Settings.{settingsRefusal}
 use Rattle.frame.proofs.Accepted.{accepted}
 use Rattle.frame.proofs.Bools.{either}
-use Rattle.trace.specs.Trace.{headerOf, settingsOf}
+use Rattle.trace.specs.Trace.{numberBytes, headerOf, settingsOf}
 use Rattle.replaying.specs.Replay.{written}
 use Rattle.replaying.specs.Written.{putAt}
 use Rattle.replaying.proofs.Putting.{put-none, put-more, length-put}
 use Rattle.reader.specs.declared.Record.{Record}
-use Rattle.spelling.specs.Spelling.{numberBytes, spelledSize, headerBytes, settingsBytes, readBytes, recordsBytes, spellingOf}
+use Rattle.spelling.specs.Spelling.{spelledSize, headerBytes, settingsBytes, readBytes, recordsBytes, spellingOf}
 
 module _ (l : List ℕ) (at : ℕ) where
-  pub put-two : (a b : ℕ) → at + 2 ≤ length l → set (set l at a) (at + 1) b ≡ putAt at (a ∷ b ∷ []) l
-  put-two a b p =
-      let e1 : at + 1 ≡ suc at = omega arith in
-      rw e1 (sets-eq (a ∷ b ∷ []) l at p)
-
-  pub put-four : (a b c d : ℕ) → at + 4 ≤ length l
-      → set (set (set (set l at a) (at + 1) b) (at + 2) c) (at + 3) d ≡ putAt at (a ∷ b ∷ c ∷ d ∷ []) l
-  put-four a b c d p =
-      let e1 : at + 1 ≡ suc at = omega arith in
-      let e2 : at + 2 ≡ suc (suc at) = omega arith in
-      let e3 : at + 3 ≡ suc (suc (suc at)) = omega arith in
-      rw (e1, e2, e3) (sets-eq (a ∷ b ∷ c ∷ d ∷ []) l at p)
-
   -- Bytes put behind others that were put, list by list.
   then-put : (new more l₁ l₂ : List ℕ) → l₁ ≡ putAt at new l → l₂ ≡ putAt (at + length new) more l₁ → at + length new + length more ≤ length l
       → l₂ ≡ putAt at (new ++ more) l

@@ -8,11 +8,11 @@ use Rattle.frame.specs.Settings.{settingsRefusal}
 use Rattle.frame.proofs.Accepted.{accepted}
 use Rattle.heard.specs.declared.Slot.{Slot}
 use Rattle.handset.specs.Make.{makeOf}
-use Rattle.trace.specs.Trace.{numberAt, headerOf, settingsAt, settingsOf}
+use Rattle.trace.specs.Trace.{numberAt, numberBytes, headerOf, settingsAt, settingsOf}
 use Rattle.reader.specs.Record.{slotAt, usedIn, recordSlot}
 use Rattle.replaying.specs.Accepted.{AcceptedTrace}
 use Rattle.spelling.specs.OneSpelling.{Bytes}
-use Rattle.spelling.specs.Spelling.{numberBytes, spelledSize, headerBytes, settingsBytes, slotBytes, recordsBytes, spellingOf}
+use Rattle.spelling.specs.Spelling.{spelledSize, headerBytes, settingsBytes, slotBytes, recordsBytes, spellingOf}
 use Rattle.spelling.proofs.Putting.{special-small}
 use Rattle.spelling.proofs.Size.{size-least}
 use Rattle.spelling.proofs.Using.{known-kind, used-small}

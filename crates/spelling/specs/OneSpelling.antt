@@ -1,5 +1,5 @@
--- One spelling of a trace, over all traces: document 02, U4, of anything that writes traces. A trace is any list of
--- numbers, so any bytes.
+-- One spelling of a trace: document 02, U4, said of anything that writes traces, over all traces. A trace is any list of numbers, so any
+-- bytes.
 -- Assumes nothing.
 use Prim.Native.Nat.{ℕ, _+_, _*_, _≤_, _<_}
 use mathlib.Core.List.{List}

@@ -1,17 +1,13 @@
 -- The one spelling of a trace, byte by byte: document 02, U4, whose sentence stands above the definitions, and U3 for the parts.
 -- Assumes nothing.
-use Prim.Native.Nat.{ℕ, zero, suc, _+_, _*_, _/_, _%_}
+use Prim.Native.Nat.{ℕ, zero, suc, _+_, _*_}
 use mathlib.Core.List.{List, [], _∷_, _++_}
 use Rattle.frame.specs.declared.Settings.{Settings}
 use Rattle.heard.specs.declared.Slot.{Slot}
 use Rattle.reader.specs.declared.Record.{Record}
 use Rattle.reader.specs.declared.Record.the-variants.{Refused, At, End}
 use Rattle.reader.specs.Record.{usedIn, recordSlot}
-use Rattle.trace.specs.Trace.{headerOf, settingsOf}
-
--- "16-bit numbers, little-endian like all here": the low byte first.
-abbrev pub numberBytes : ℕ → List ℕ
-numberBytes n = n % 256 ∷ n / 256 ∷ []
+use Rattle.trace.specs.Trace.{numberBytes, headerOf, settingsOf}
 
 -- "18 bytes and four per record": the whole length.
 abbrev pub spelledSize : ℕ → ℕ

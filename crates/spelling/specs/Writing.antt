@@ -3,28 +3,25 @@
 use Prim.Native.Nat.{ℕ, zero, suc}
 use mathlib.Core.Bool.{cond}
 use mathlib.Core.List.{List}
-use lib.Dec.{eqb, ltb}
+use lib.Dec.{ltb}
 use lib.ListN.{length}
 use Rattle.frame.specs.Settings.{orElse}
 use Rattle.handset.specs.Make.{makeOf}
 use Rattle.trace.specs.Trace.{headerOf, settingsOf, traceRefusal}
-use Rattle.replaying.specs.Replay.{Played, playedIn, replayRefused, replayDone, replayStopped, written}
+use Rattle.replaying.specs.declared.Replayed.{Replayed}
+use Rattle.replaying.specs.Replay.{playedIn, replayRefused, replayDone, replayedAs, outputAs}
 use Rattle.spelling.specs.declared.Stop.{Stop}
 use Rattle.spelling.specs.declared.Written.{Written}
 use Rattle.spelling.specs.Spelling.{spelledSize, spellingOf}
 
--- The record at which the feeds of a replay would stop, if any. The kinds are those of a replay: refused, and by no record; done;
--- stopped at a record.
-abbrev pub recordStop : Played → Stop
-recordStop p = record { refusal = p .refusal; kind = cond (eqb (p .refusal) 0) replayDone replayStopped; number = p .number }
-
-abbrev pub stopAs : ℕ → Played → Stop
-stopAs zero p = recordStop p
-stopAs (suc k) p = record { refusal = suc k; kind = replayRefused; number = 0 }
+-- What stops a trace: of a replay's answer the refusal, its kind and the record. The kinds are those of a replay: refused, and by no
+-- record; done, where nothing stops; stopped at a record.
+abbrev pub stopIn : Replayed → Stop
+stopIn r = record { refusal = r .refusal; kind = r .kind; number = r .number }
 
 -- "all refusals of reading and replay", the replay's own 23 apart: 21, 22, those on settings, then that of the first refused record.
 unfoldable pub stopOf : List ℕ → Stop
-stopOf l = stopAs (orElse (traceRefusal l) (makeOf (settingsOf l) .refusal)) (playedIn l)
+stopOf l = stopIn (replayedAs (orElse (traceRefusal l) (makeOf (settingsOf l) .refusal)) (playedIn l))
 
 -- "Here 23 means an output below 18 bytes and four per record, after all refusals of reading and replay." `room` is the output's length.
 unfoldable pub roomRefusal : List ℕ → ℕ → ℕ
@@ -41,10 +38,6 @@ stoppedOr (suc k) stop next = record { refusal = stop .refusal; kind = stop .kin
 -- The answer to a trace with an output of `room` bytes: the refusal, its kind and record, and how many bytes were written.
 unfoldable pub writeOf : List ℕ → ℕ → Written
 writeOf l room = stoppedOr (stopOf l .refusal) (stopOf l) (writtenAs (roomRefusal l room) (spelledSize (headerOf l .records)))
-
-abbrev pub outputAs : ℕ → List ℕ → List ℕ → List ℕ
-outputAs zero bytes old = written bytes old
-outputAs (suc k) bytes old = old
 
 -- The output afterwards: the spelling, and behind it the old bytes; a refusal writes nothing.
 unfoldable pub spelledInto : List ℕ → List ℕ → List ℕ

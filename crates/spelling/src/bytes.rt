@@ -10,9 +10,10 @@ ghost use mathlib.Core.List.{[], _∷_};
 ghost use mathlib.Core.Path.{_≡_};
 ghost use lib.ListN.{length};
 ghost use Rattle.frame.specs.Settings.{settingsRefusal};
+ghost use Rattle.trace.specs.Trace.{numberBytes};
 ghost use Rattle.replaying.specs.Replay.{written};
 ghost use Rattle.replaying.specs.Written.{putAt};
-ghost use Rattle.spelling.specs.Spelling.{numberBytes, spelledSize, headerBytes, settingsBytes, readBytes, recordsBytes, spellingOf};
+ghost use Rattle.spelling.specs.Spelling.{spelledSize, headerBytes, settingsBytes, readBytes, recordsBytes, spellingOf};
 ghost use Rattle.spelling.specs.Writable.{Writable};
 ghost use Rattle.spelling.specs.Writing.{writeOf, spelledInto};
 

@@ -6,13 +6,13 @@ use crate::Stop;
 use handset::Handset;
 ghost use mathlib.Core.Path.{_≡_};
 ghost use Rattle.trace.specs.Trace.{headerOf, traceRefusal};
-ghost use Rattle.replaying.specs.Replay.{broughtIn, played};
-ghost use Rattle.spelling.specs.Writing.{recordStop, stopOf};
+ghost use Rattle.replaying.specs.Replay.{broughtIn, played, endedAs};
+ghost use Rattle.spelling.specs.Writing.{stopIn, stopOf};
 
 // The first record that is refused where `start` is fed all of them in turn.
 fn first_refused(trace: &[u8], records: u16, start: Handset) -> Stop
     requires { ⌜ (traceRefusal (now trace) ≡ 0) × (records ≡ headerOf (now trace) .records) ⌝ }
-    ensures { λ r. ⌜ r ≡ recordStop (played start 0 (broughtIn (now (trace .entry)))) ⌝ }
+    ensures { λ r. ⌜ r ≡ stopIn (endedAs (played start 0 (broughtIn (now (trace .entry))))) ⌝ }
 {
     let count = records as usize;
     let mut h = start;

@@ -1,8 +1,8 @@
 -- A recorded drive, byte by byte: document 02, U3, whose sentences stand above the definitions. A trace is a list of bytes.
 -- Assumes nothing.
-use Prim.Native.Nat.{ℕ, zero, suc, _+_, _*_}
+use Prim.Native.Nat.{ℕ, zero, suc, _+_, _*_, _/_, _%_}
 use mathlib.Core.Bool.{Bool, true, cond, _&&_, _||_}
-use mathlib.Core.List.{List}
+use mathlib.Core.List.{List, [], _∷_}
 use lib.Dec.{eqb, leb}
 use lib.ListN.{length, getD}
 use Rattle.frame.specs.declared.Settings.{Settings}
@@ -16,6 +16,10 @@ byteAt l i = getD l i 0
 -- "16-bit numbers, little-endian like all here": the low byte first.
 unfoldable pub numberAt : List ℕ → ℕ → ℕ
 numberAt l i = byteAt l i + 256 * byteAt l (i + 1)
+
+-- The two bytes of such a number.
+abbrev pub numberBytes : ℕ → List ℕ
+numberBytes n = n % 256 ∷ n / 256 ∷ []
 
 -- "A trace has a header of four 16-bit numbers, ..: records, offset of the first record, offset of the settings, whole length."
 unfoldable pub headerOf : List ℕ → Header

@@ -2,7 +2,7 @@
 use native.Mathlib.Omega.{arith}
 use lib.ListN.{length-set}
 use Rattle.replaying.specs.Written.{windowBytes}
-use Rattle.replaying.proofs.Putting.{put-eight}
+use Rattle.replaying.proofs.Putting.{stored-put}
 use borrow.Author.Needs.{needs}
 use Rattle.replaying.proofs.put_window.Statement.{statement}
 use Rattle.replaying.proofs.put_window.Tie as tie
@@ -63,7 +63,7 @@ same-length c = search needs
 
 returns : tie.Need-returns
 unfolding windowBytes
-returns c = put-eight _ _ _ _ _ _ _ _ _ _ (c .pre)
+returns c = stored-put (windowBytes (c .args .n) (c .args .kind) (c .args .resource) (c .args .b0) (c .args .b1)) _ _ (c .pre)
 
 pub put-window-spec : {M : Type 1} → statement M
 put-window-spec =

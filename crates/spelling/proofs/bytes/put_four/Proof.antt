@@ -1,7 +1,8 @@
 -- `spelling::bytes::put_four` meets its contract: four stores put four bytes. Assumes nothing.
+use mathlib.Core.List.{[], _∷_}
 use native.Mathlib.Omega.{arith}
 use lib.ListN.{length-set}
-use Rattle.spelling.proofs.Putting.{put-four}
+use Rattle.replaying.proofs.Putting.{stored-put}
 use borrow.Author.Needs.{needs}
 use Rattle.spelling.proofs.bytes.put_four.Statement.{statement}
 use Rattle.spelling.proofs.bytes.put_four.Tie as tie
@@ -31,7 +32,7 @@ same-length : tie.Need-same-length
 same-length c = search needs
 
 returns : tie.Need-returns
-returns c = put-four _ _ _ _ _ _ (c .pre)
+returns c = stored-put (c .args .a ∷ c .args .b ∷ c .args .c ∷ c .args .d ∷ []) _ _ (c .pre)
 
 pub put-four-spec : {M : Type 1} → statement M
 put-four-spec =

@@ -1,7 +1,8 @@
 -- `spelling::bytes::put_two` meets its contract: two stores put two bytes. Assumes nothing.
+use mathlib.Core.List.{[], _∷_}
 use native.Mathlib.Omega.{arith}
 use lib.ListN.{length-set}
-use Rattle.spelling.proofs.Putting.{put-two}
+use Rattle.replaying.proofs.Putting.{stored-put}
 use borrow.Author.Needs.{needs}
 use Rattle.spelling.proofs.bytes.put_two.Statement.{statement}
 use Rattle.spelling.proofs.bytes.put_two.Tie as tie
@@ -19,7 +20,7 @@ same-length : tie.Need-same-length
 same-length c = search needs
 
 returns : tie.Need-returns
-returns c = put-two _ _ _ _ (c .pre)
+returns c = stored-put (c .args .first ∷ c .args .second ∷ []) _ _ (c .pre)
 
 pub put-two-spec : {M : Type 1} → statement M
 put-two-spec =

@@ -4,8 +4,8 @@ use Rattle.frame.proofs.Causes.{refused-first, refused-next}
 use Rattle.handset.specs.declared.Made.{Made}
 use Rattle.handset.specs.Make.{makeOf}
 use Rattle.trace.specs.declared.Header.{Header}
-use Rattle.replaying.specs.Replay.{broughtIn, played}
-use Rattle.spelling.specs.Writing.{recordStop}
+use Rattle.replaying.specs.Replay.{broughtIn, played, endedAs}
+use Rattle.spelling.specs.Writing.{stopIn}
 use Rattle.spelling.proofs.Answers.{refused-before, none-before}
 use borrow.Author.Needs.{needs}
 use Rattle.spelling.proofs.stops.stop_of.Statement.{statement}
@@ -39,7 +39,7 @@ returns-3 : tie.Need-returns-3
 returns-3 c =
     let made = c .before .before .before .before .make .ensures ∙ ap makeOf (c .before .before .before .before .before .settings-of .ensures) in
     let none = refused-next _ _ _ _ (c .before .before .before .before .before .before .before .trace-refusal .ensures) (c .before .before .before .before .before .before .if1 .left) (sym (c .before .before .if2 .left) ∙ ap (λ (m : Made). m .refusal) made) in
-    c .first-refused .ensures ∙ ap (λ (m : Made). recordStop (played (m .handset) 0 (broughtIn (c .before .before .before .before .before .before .before .before .before .args .trace .now)))) made ∙ none-before _ none
+    c .first-refused .ensures ∙ ap (λ (m : Made). stopIn (endedAs (played (m .handset) 0 (broughtIn (c .before .before .before .before .before .before .before .before .before .args .trace .now))))) made ∙ none-before _ none
 
 pub stop-of-spec : {M : Type 1} → statement M
 stop-of-spec =
