@@ -1,4 +1,4 @@
-// U and V of a window, found by recursion over its positions in time order (document 01, "The bundled reply").
+// U and V of a window, found by a loop over its positions in time order (document 01, "The bundled reply"; document 02, U5).
 use crate::Seen;
 use crate::step;
 use frame::Window;
@@ -12,19 +12,23 @@ ghost use Rattle.frame.specs.Table.{windowOf};
 ghost use Rattle.fold.specs.Fold.{Before, seenFrom, seenOf};
 ghost use Rattle.heard.specs.Memory.{viewAgo};
 
-// The positions from the j-th in time order on: one subframe fewer at each call.
+// The positions from the j-th in time order on: one subframe fewer at each turn.
 fn seen_from(past: [Slot; 13], config: u16, n: u16, w: Window, j: u16, seen: Seen) -> Seen
     requires { ⌜ Before config n w j seen ⌝ }
     ensures { λ r. ⌜ r ≡ seenFrom (viewAgo past) (windowOf config n) (drop j (orderOf (windowOf config n))) seen ⌝ }
 {
-    if w.size <= j {
-        return seen;
-    }
+    let size = w.size;
     let order = w.order;
-    let m = order[j as usize];
     let k = w.k;
-    let t = past[(k[m as usize] - 1) as usize];
-    seen_from(past, config, n, w, j + 1, step(seen, m, view_in(t)))
+    let mut found = seen;
+    let mut i = j;
+    while i < size {
+        let m = order[i as usize];
+        let t = past[(k[m as usize] - 1) as usize];
+        found = step(found, m, view_in(t));
+        i += 1;
+    }
+    found
 }
 
 // U, V and the rest for the window of subframe n, over what is remembered.
