@@ -188,13 +188,13 @@
  *             feedback_reading        512
  *             feedback_claims         128
  *             feedback_make           128
- *             feedback_feed_nothing   4096
- *             feedback_feed_grant     2048
- *             feedback_feed_scheduled 2048
- *             feedback_feed_release   2048
- *             feedback_replay         4096
+ *             feedback_feed_nothing   1024
+ *             feedback_feed_grant     1024
+ *             feedback_feed_scheduled 1024
+ *             feedback_feed_release   1024
+ *             feedback_replay         2048
  *             feedback_record         64
- *             feedback_trace_write    4096
+ *             feedback_trace_write    2048
  *
  * Of the C library the calls use memset and nothing else.
  */
