@@ -1,5 +1,6 @@
--- `fold::window::seen_from` meets its contract. The loop's invariant: U counts positions before the i-th in time order, and the fold
--- goes on from there to what it finds from the j-th. The measure is the subframes left. Assumes nothing.
+-- `fold::window::seen_from` meets its contract. The loop's invariant: U is at most i, and the fold from the i-th position on, with what
+-- was found, gives what it gives from the j-th on, with what there was at the start. The measure is the subframes left.
+-- Assumes nothing.
 use Prim.Native.Nat.{ℕ, _-_, _<_, _≤_}
 use mathlib.Core.Path.{_≡_, refl, _∙_}
 use native.Mathlib.Omega.{arith}
