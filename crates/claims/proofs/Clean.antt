@@ -1,4 +1,5 @@
--- The answer is clean exactly when nothing is refused, no claim is bad and no claim clashes with an earlier one.
+-- The answer is clean exactly when nothing is refused, no claim is bad and no claim clashes with an earlier one, in either form of
+-- the scratch.
 -- Assumes nothing.
 use Prim.Native.Nat.{ℕ, zero, suc, _<_}
 use mathlib.Core.Bool.{Bool, true, false, cond}
@@ -13,7 +14,7 @@ use borrow.Author.Tests.{le-ltb, ltb-false}
 use Rattle.frame.specs.declared.Settings.{Settings}
 use Rattle.frame.proofs.Bools.{neither-test}
 use Rattle.claims.specs.declared.Checked.the-variants.{Clean, Clash, Refused}
-use Rattle.claims.specs.Claims.{isBad, firstBad, clashes, earlier, firstClash, scratchRefusal, refusedOr, checkedOn, checkedOf}
+use Rattle.claims.specs.Claims.{isBad, firstBad, clashes, earlier, firstClash, scratchRefusal, refusedOr, checkedOn, checkedWith}
 use Rattle.claims.specs.Clean.{AllClean}
 use Rattle.claims.proofs.First.{first-none, first-bad, first-clash}
 
@@ -36,11 +37,11 @@ only-clean zero x y true b e = let z : _≡_ {A = ℕ} 0 1 = cc in absurd (omega
 only-clean zero x y false true e = let z : _≡_ {A = ℕ} 0 1 = cc in absurd (omega arith)
 only-clean zero x y false false e = (refl, refl, refl)
 
-module _ (s : Settings) (n : ℕ) (claims : List ℕ) (lent : ℕ) where
-  clean-to : checkedOf s n claims lent ≡ Clean → AllClean s n claims lent
-  unfolding checkedOf checkedOn
+module _ (s : Settings) (n : ℕ) (claims : List ℕ) (room lent : ℕ) where
+  clean-to : checkedWith s n claims room lent ≡ Clean → AllClean s n claims room lent
+  unfolding checkedWith checkedOn
   clean-to e =
-      let f = only-clean (scratchRefusal s n lent) (firstBad s n claims) (firstClash s n claims)
+      let f = only-clean (scratchRefusal s n room lent) (firstBad s n claims) (firstClash s n claims)
       (ltb (firstBad s n claims) (length claims)) (ltb (firstClash s n claims) (length claims)) e in
       let bad = ltb-false (firstBad s n claims) (length claims) (f .1) in
       let clash = ltb-false (firstClash s n claims) (length claims) (f .2) in
@@ -51,8 +52,8 @@ module _ (s : Settings) (n : ℕ) (claims : List ℕ) (lent : ℕ) where
             none-earlier s n claims (getD claims j 0) j (first-clash s n claims .before j (omega arith) (omega arith)) i h;
       }
 
-  clean-from : AllClean s n claims lent → checkedOf s n claims lent ≡ Clean
-  unfolding checkedOf checkedOn firstBad firstClash
+  clean-from : AllClean s n claims room lent → checkedWith s n claims room lent ≡ Clean
+  unfolding checkedWith checkedOn firstBad firstClash
   clean-from a =
       let bad = first-none (λ (i : ℕ). isBad s n (getD claims i 0)) (length claims) (length claims) (a .good) (le-refl _) (le-refl _) in
       let clash = first-none (λ (i : ℕ). earlier s n claims i (getD claims i 0)) (length claims) (length claims)
@@ -60,5 +61,5 @@ module _ (s : Settings) (n : ℕ) (claims : List ℕ) (lent : ℕ) where
       (le-refl _) (le-refl _) in
       rw (a .accepted, le-ltb (firstBad s n claims) (length claims) (omega arith), le-ltb (firstClash s n claims) (length claims) (omega arith))
 
-  pub clean-exactly : (checkedOf s n claims lent ≡ Clean) ↔ AllClean s n claims lent
+  pub clean-exactly : (checkedWith s n claims room lent ≡ Clean) ↔ AllClean s n claims room lent
   clean-exactly = (clean-to, clean-from)

@@ -1,8 +1,14 @@
-pub mod Bytes
+pub mod BitByBit
+pub mod BitMarks
 pub mod Checks
 pub mod Clean
 pub mod First
-pub mod MarkOne
+pub mod Forms
 pub mod Marks
+pub mod Offsets
+pub mod Packed
 pub mod Read
+pub mod Refusals
 pub mod Share
+pub mod Turn
+pub mod Worked

@@ -2,13 +2,13 @@
 -- Assumes nothing.
 use Prim.Native.Nat.{ℕ, zero, suc, _+_, _<_}
 use mathlib.Core.Bool.{cond, false, _||_}
-use mathlib.Core.List.{List, _∷_, _++_}
+use mathlib.Core.List.{List, _∷_}
 use mathlib.Core.Path.{_≡_, refl, sym, ap, ap₂, _∙_}
 use native.Mathlib.Decide.{ℕ-discrete}
 use native.Mathlib.Nat.{add-zero, zero-add, add-suc, suc-add, not-suc-le-zero, le-of-suc-le-suc}
 use native.Mathlib.Omega.{arith}
 use lib.Dec.{eqb}
-use lib.ListN.{length, getD, drop, set, replicate, length-set, List·getD-append}
+use lib.ListN.{length, getD, take, drop, set, replicate, take-append-drop, length-set, List·getD-append}
 use lib.Seq.{getD-set-same, getD-set-other, set-append-left, ext-getD}
 use borrow.Author.Tests.{eq-eqb, ne-eqb}
 use Rattle.frame.specs.declared.Settings.{Settings}
@@ -52,10 +52,16 @@ module _ (s : Settings) (n : ℕ) (claims : List ℕ) where
           rw (ne-eqb (t + s .n1) (k + s .n1) (omega arith))
           (getD-set-other (marks s n claims e count 0) t k 1 0 other ∙ marks-at e count k below)
 
+  -- Bytes past the room do not matter to the marks.
+  pub kept : (a b : List ℕ) (e : ℕ) → drop (roomOf s n) a ≡ drop (roomOf s n) b → markedUpTo s n claims a e ≡ markedUpTo s n claims b e
+  unfolding markedUpTo
+  kept a b e same = rw same
+
   module _ (old : List ℕ) where
-    pub none-marked : markedUpTo s n claims old 0 ≡ replicate (roomOf s n) 0 ++ drop (roomOf s n) old
+    -- A cleared scratch has the marks of no claim.
+    pub none-marked : take (roomOf s n) old ≡ replicate (roomOf s n) 0 → old ≡ markedUpTo s n claims old 0
     unfolding markedUpTo
-    none-marked = rw marks-none
+    none-marked cleared = rw (marks-none, ← cleared) (sym (take-append-drop (roomOf s n) old))
 
     pub byte-at : (e t : ℕ) → t < roomOf s n → getD (markedUpTo s n claims old e) t 0 ≡ cond (marked s n claims e t) 1 0
     unfolding markedUpTo

@@ -29,7 +29,8 @@ claimed s n claim = resourceOf s n (claimPosition claim) (claimCce claim)
 unfoldable pub resourcesOf : Settings → ℕ → ℕ
 resourcesOf s n = sizeOf s n * edge (s .nrb) 4
 
--- The scratch that is asked for: a byte for each resource of the window.
+-- The marks that the scratch has room for, one for each resource of the window: in the byte form each takes a byte, and this is the
+-- scratch that is asked for; in the bit form (Bits.antt) each takes a bit.
 unfoldable pub roomOf : Settings → ℕ → ℕ
 roomOf s n = resourcesOf s n
 
@@ -59,9 +60,10 @@ earlier s n claims (suc i) claim = clashes s n (getD claims i 0) claim || earlie
 unfoldable pub firstClash : Settings → ℕ → List ℕ → ℕ
 firstClash s n claims = firstIndex (λ (i : ℕ). earlier s n claims i (getD claims i 0)) (length claims) 0
 
--- 15: scratch shorter than M × N_4. A call refuses 1 to 6, 17, 19 and 7, then 15. `lent` is the length of the scratch.
-unfoldable pub scratchRefusal : Settings → ℕ → ℕ → ℕ
-scratchRefusal s n lent = orElse (windowRefusal s n) (cond (ltb lent (roomOf s n)) 15 0)
+-- 15: scratch shorter than `room`, the bytes that its form asks for. A call refuses 1 to 6, 17, 19 and 7, then 15. `lent` is the
+-- length of the scratch.
+unfoldable pub scratchRefusal : Settings → ℕ → ℕ → ℕ → ℕ
+scratchRefusal s n room lent = orElse (windowRefusal s n) (cond (ltb lent room) 15 0)
 
 -- 01's answer of a list that is not refused for settings, subframe or scratch: 16 for a bad claim anywhere, with the first one's
 -- index; else the index of the first claim that clashes with an earlier one; else clean.
@@ -75,9 +77,13 @@ abbrev pub refusedOr : ℕ → Checked → Checked
 refusedOr zero checked = checked
 refusedOr (suc k) checked = Refused (suc k) 0
 
--- The answer to a list of claims with a scratch of `lent` bytes.
-unfoldable pub checkedOf : Settings → ℕ → List ℕ → ℕ → Checked
-checkedOf s n claims lent = refusedOr (scratchRefusal s n lent) (checkedOn s n claims)
+-- The answer to a list of claims with a scratch of `lent` bytes, in a form that asks for `room`.
+unfoldable pub checkedWith : Settings → ℕ → List ℕ → ℕ → ℕ → Checked
+checkedWith s n claims room lent = refusedOr (scratchRefusal s n room lent) (checkedOn s n claims)
+
+-- The byte form: 15 is a scratch shorter than M × N_4.
+abbrev pub checkedOf : Settings → ℕ → List ℕ → ℕ → Checked
+checkedOf s n claims lent = checkedWith s n claims (roomOf s n) lent
 
 -- The answer is the resource with number r.
 abbrev pub isResource : Mapped → ℕ → Bool
@@ -98,15 +104,13 @@ marks s n claims e (suc count) t = cond (marked s n claims e t) 1 0 ∷ marks s 
 unfoldable pub markedUpTo : Settings → ℕ → List ℕ → List ℕ → ℕ → List ℕ
 markedUpTo s n claims old e = marks s n claims e (roomOf s n) 0 ++ drop (roomOf s n) old
 
--- The scratch with the marks of the claims before the clash, of all where there is none.
-unfoldable pub markedScratch : Settings → ℕ → List ℕ → List ℕ → List ℕ
-markedScratch s n claims old = markedUpTo s n claims old (firstClash s n claims)
-
--- The scratch after the call: as it was on a refusal, 16 included.
+-- The scratch after the call, given the one with the marks: as it was on a refusal, 16 included.
 abbrev pub scratchAfter : Checked → List ℕ → List ℕ → List ℕ
 scratchAfter Clean new old = new
 scratchAfter (Clash i) new old = new
 scratchAfter (Refused k i) new old = old
 
+-- The byte form's: the marks of the claims before the clash, of all where there is none.
 unfoldable pub scratchOf : Settings → ℕ → List ℕ → List ℕ → List ℕ
-scratchOf s n claims old = scratchAfter (checkedOf s n claims (length old)) (markedScratch s n claims old) old
+scratchOf s n claims old =
+    scratchAfter (checkedOf s n claims (length old)) (markedUpTo s n claims old (firstClash s n claims)) old

@@ -1,11 +1,18 @@
-// Claims of a cell (document 01): which claim is the first that equals an earlier one.
+// Claims of a cell (document 01): which claim is the first that equals an earlier one. The scratch has a byte for each resource
+// here, a bit for each in bits.rt (document 02, U6).
+mod bits;
+
+pub use bits::claims_in_bits;
 use frame::Settings;
 use resource::Cce;
 use resource::Mapped;
 ghost use mathlib.Core.Path.{_≡_};
+ghost use mathlib.Core.Bool.{cond};
+ghost use lib.Dec.{ltb};
 ghost use lib.ListN.{length, replicate};
-ghost use Rattle.claims.specs.Claims.{isBad, firstBad, firstClash, markedUpTo, checkedOf, scratchOf};
-ghost use Rattle.claims.specs.Marking.{AcceptedWindow, Ready, Byte};
+ghost use Rattle.claims.specs.declared.Checked.the-variants.{Clean, Clash};
+ghost use Rattle.claims.specs.Claims.{roomOf, isBad, firstBad, firstClash, markedUpTo, checkedOf, scratchOf};
+ghost use Rattle.claims.specs.Marking.{windowIn, AcceptedWindow, refusalOf, clearedFor, Ready, Offset};
 
 // The answer: clean; the index of the first claim equal to an earlier one; or a refusal's number with an index, that of the first
 // bad claim for 16, else 0.
@@ -15,38 +22,87 @@ pub enum Checked {
     Refused(u16, usize),
 }
 
-// The window that the claims are for: the settings, the uplink subframe n, M and N_4.
+// The window that the claims are for: the settings, the uplink subframe n, M, N_4, and how many marks there are.
 struct ClaimedWindow {
     s: Settings,
     n: u16,
     size: u16,
     top: u16,
+    marks: usize,
+}
+
+// A refusal's number, 0 for none, and for 16 the index of the first bad claim, else 0.
+struct Refusal {
+    number: u16,
+    index: usize,
 }
 
 // The answer to the claims of uplink subframe n. Unless it is a refusal, the scratch then holds the marks of the claims before
-// the clash, of all claims where there is none.
+// the clash, of all claims where there is none: a byte for each resource.
 pub fn claims_of(s: Settings, n: u16, claims: &[u16], scratch: &mut [u8]) -> Checked
     ensures { λ r. ⌜ r ≡ checkedOf s n (now (claims .entry)) (length (now (scratch .entry))) ⌝ }
     ensures { λ _. ⌜ now (scratch .exit) ≡ scratchOf s n (now (claims .entry)) (now (scratch .entry)) ⌝ }
 {
-    let refusal = frame::window_refusal(s, n);
-    if refusal != 0 {
-        return Checked::Refused(refusal, 0);
+    let w = window_in(s, n);
+    let refusal = prepare(w, claims, w.marks, scratch);
+    if refusal.number != 0 {
+        return Checked::Refused(refusal.number, refusal.index);
     }
+    told(mark(w, claims, scratch), claims.len())
+}
+
+// The window of uplink subframe n. M is 0 where there is none, and N_4 where N_RB is refused. A resource has one mark.
+fn window_in(s: Settings, n: u16) -> ClaimedWindow
+    ensures { λ w. ⌜ w ≡ windowIn s n ⌝ }
+{
     let size = frame::size_of(s.config, n);
     let top = resource::cces_of(s.nrb);
-    let room = (size * top) as usize;
-    if scratch.len() < room {
-        return Checked::Refused(15, 0);
+    let marks = (size * top) as usize;
+    ClaimedWindow {
+        s,
+        n,
+        size,
+        top,
+        marks,
     }
-    let w = ClaimedWindow { s, n, size, top };
+}
+
+// Refuses 1 to 6, 17, 19 and 7, then 15 where fewer than `room` bytes are lent, then 16 for a bad claim anywhere in the list; else
+// clears that room.
+fn prepare(w: ClaimedWindow, claims: &[u16], room: usize, scratch: &mut [u8]) -> Refusal
+    requires { ⌜ w ≡ windowIn (w .s) (w .n) ⌝ }
+    ensures { λ r. ⌜ r ≡ refusalOf (w .s) (w .n) (now (claims .entry)) room (length (now (scratch .entry))) ⌝ }
+    ensures { λ r. ⌜ now (scratch .exit) ≡ clearedFor (r .number) room (now (scratch .entry)) ⌝ }
+{
+    let number = frame::window_refusal(w.s, w.n);
+    if number != 0 {
+        return Refusal { number, index: 0 };
+    }
+    if scratch.len() < room {
+        return Refusal {
+            number: 15,
+            index: 0,
+        };
+    }
     let bad = first_bad(w, claims);
     if bad < claims.len() {
-        return Checked::Refused(16, bad);
+        return Refusal {
+            number: 16,
+            index: bad,
+        };
     }
     clear(&mut scratch[..room]);
-    let clash = mark(w, claims, scratch);
-    if clash < claims.len() {
+    Refusal {
+        number: 0,
+        index: 0,
+    }
+}
+
+// The answer where nothing is refused: the first clash, clean where that is no index of a claim.
+fn told(clash: usize, count: usize) -> Checked
+    ensures { λ r. ⌜ r ≡ cond (ltb clash count) (Clash clash) Clean ⌝ }
+{
+    if clash < count {
         return Checked::Clash(clash);
     }
     Checked::Clean
@@ -91,10 +147,10 @@ fn clear(bytes: &mut [u8])
     }
 }
 
-// The byte of a claim, its resource less N1; 0 for a claim without a resource, so that no claim has a byte past the room.
-fn byte_of(w: ClaimedWindow, claim: u16) -> usize
+// The offset of a claim, its resource less N1; 0 for a claim without a resource, so that no claim has an offset past the marks.
+fn offset_of(w: ClaimedWindow, claim: u16) -> usize
     requires { ⌜ AcceptedWindow w ⌝ }
-    ensures { λ t. ⌜ Byte (w .s) (w .n) claim t ⌝ }
+    ensures { λ t. ⌜ Offset (w .s) (w .n) claim t ⌝ }
 {
     let s = w.s;
     let answer = resource::resource_within(s, w.size, claim / 256, Cce::new(claim % 256));
@@ -107,14 +163,14 @@ fn byte_of(w: ClaimedWindow, claim: u16) -> usize
 // Marks the claims in a cleared scratch up to the first clash, and answers its index; the length of the list where there is none.
 // Each claim is read once.
 fn mark(w: ClaimedWindow, claims: &[u16], scratch: &mut [u8]) -> usize
-    requires { ⌜ Ready w (now claims) (now scratch) ⌝ }
+    requires { ⌜ Ready w (now claims) (roomOf (w .s) (w .n)) (now scratch) ⌝ }
     ensures { λ r. ⌜ r ≡ firstClash (w .s) (w .n) (now (claims .entry)) ⌝ }
     ensures { λ r. ⌜ now (scratch .exit) ≡ markedUpTo (w .s) (w .n) (now (claims .entry)) (now (scratch .entry)) r ⌝ }
 {
     let mut i = 0;
     while i < claims.len() {
         let claim = claims[i];
-        let t = byte_of(w, claim);
+        let t = offset_of(w, claim);
         if scratch[t] != 0 {
             return i;
         }

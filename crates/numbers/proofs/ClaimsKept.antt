@@ -1,4 +1,4 @@
--- The numbers of feedback_claims lose nothing: no claims are refused with 0.
+-- The numbers of feedback_claims and feedback_claims_bits lose nothing: no claims are refused with 0.
 -- Assumes nothing.
 use Prim.Native.Nat.{ℕ, zero, suc}
 use mathlib.Core.Bool.{not}
@@ -9,7 +9,7 @@ use lib.ListN.{length}
 use Rattle.frame.specs.declared.Settings.{Settings}
 use Rattle.frame.proofs.Bools.{either}
 use Rattle.claims.specs.declared.Checked.{Checked}
-use Rattle.claims.specs.Claims.{firstBad, firstClash, scratchRefusal, checkedOn, refusedOr, checkedOf}
+use Rattle.claims.specs.Claims.{firstBad, firstClash, scratchRefusal, checkedOn, refusedOr, checkedWith}
 use Rattle.numbers.specs.Answers.{claimsAnswer}
 use Rattle.numbers.specs.Back.{checkedIn, KindFor}
 use Rattle.numbers.specs.Kinds.{claimsClash}
@@ -22,9 +22,9 @@ refused-or-kept : (k : ℕ) (x : Checked) → CheckedKept x → CheckedKept (ref
 refused-or-kept zero x kept = kept
 refused-or-kept (suc k) x kept = (refl, (sym (ap not (eqb·suc-zero k)), refl))
 
-pub claims-kept : (s : Settings) (n : ℕ) (list : List ℕ) (lent : ℕ) → CheckedKept (checkedOf s n list lent)
-unfolding checkedOf checkedOn
-claims-kept s n list lent =
-    refused-or-kept (scratchRefusal s n lent) _
+pub claims-kept : (s : Settings) (n : ℕ) (list : List ℕ) (room lent : ℕ) → CheckedKept (checkedWith s n list room lent)
+unfolding checkedWith checkedOn
+claims-kept s n list room lent =
+    refused-or-kept (scratchRefusal s n room lent) _
     (either CheckedKept (ltb (firstBad s n list) (length list)) _ _ (refl, (refl, refl))
     (either CheckedKept (ltb (firstClash s n list) (length list)) _ _ (refl, (refl, refl)) (refl, (refl, refl))))

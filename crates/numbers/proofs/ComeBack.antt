@@ -18,7 +18,7 @@ answers-come-back =
       resource = resource-back;
       inverse = inverse-back;
       reading = λ s n t r b0 b1. reading-kept s n t r b0 b1 .0;
-      claims = λ s n list lent. claims-kept s n list lent .0;
+      claims = λ s n list room lent. claims-kept s n list room lent .0;
       feed = λ h x. feed-kept h x .0;
       reader = λ l i. reader-kept l i .0;
     }
@@ -34,7 +34,7 @@ same-numbers =
       resource = λ s t n m c n' m' c'. alike resourceAnswer mappedIn (l .resource s n m c) (l .resource t n' m' c');
       inverse = λ s t n r n' r'. alike inverseAnswer invertedIn (l .inverse s n r) (l .inverse t n' r');
       reading = λ s s' n t r b0 b1 n' t' r' c0 c1. alike readingAnswer readingIn (l .reading s n t r b0 b1) (l .reading s' n' t' r' c0 c1);
-      claims = λ s t n n' list list' lent lent'. alike claimsAnswer checkedIn (l .claims s n list lent) (l .claims t n' list' lent');
+      claims = λ s t n n' list list' room room' lent lent'. alike claimsAnswer checkedIn (l .claims s n list room lent) (l .claims t n' list' room' lent');
       feed = λ h i x y. alike fedAnswer fedIn (l .feed h x) (l .feed i y);
       reader = λ a b i j. alike recordAnswer recordIn (l .reader a i) (l .reader b j);
     }
@@ -43,7 +43,7 @@ pub kinds-of-answers : KindsOfAnswers
 kinds-of-answers =
     record {
       reading = λ s n t r b0 b1. reading-kept s n t r b0 b1 .1;
-      claims = λ s n list lent. claims-kept s n list lent .1;
+      claims = λ s n list room lent. claims-kept s n list room lent .1;
       feed = λ h x. feed-kept h x .1;
       reader = λ l i. reader-kept l i .1;
       replay = replay-told;

@@ -23,7 +23,7 @@ use Rattle.station.specs.declared.Told.{Told}
 use Rattle.station.specs.Readings.{readOf}
 use Rattle.claims.specs.declared.Checked.{Checked}
 use Rattle.claims.specs.declared.Checked.the-variants as checked
-use Rattle.claims.specs.Claims.{checkedOf}
+use Rattle.claims.specs.Claims.{checkedWith}
 use Rattle.reply.specs.declared.Answer.{Answer}
 use Rattle.reply.specs.declared.Answer.the-variants as answer
 use Rattle.heard.specs.declared.Heard.{Heard}
@@ -116,8 +116,9 @@ pub record AnswersComeBack : Type 0 where
   pub resource : (s : Settings) (n m c : ℕ) → mappedIn (resourceAnswer (resourceOf s n m c)) ≡ resourceOf s n m c
   pub inverse : (s : Settings) (n r : ℕ) → invertedIn (inverseAnswer (inverseOf s n r)) ≡ inverseOf s n r
   pub reading : (s : Settings) (n : ℕ) (t : Told) (r b0 b1 : ℕ) → readingIn (readingAnswer (readOf s n t r b0 b1)) ≡ readOf s n t r b0 b1
-  pub claims : (s : Settings) (n : ℕ) (list : List ℕ) (lent : ℕ)
-      → checkedIn (claimsAnswer (checkedOf s n list lent)) ≡ checkedOf s n list lent
+  -- in both forms of the scratch, whichever room they ask for
+  pub claims : (s : Settings) (n : ℕ) (list : List ℕ) (room lent : ℕ)
+      → checkedIn (claimsAnswer (checkedWith s n list room lent)) ≡ checkedWith s n list room lent
   pub feed : (h : Handset) (x : Heard) → fedIn (fedAnswer (feedOf h x)) ≡ feedOf h x
   pub reader : (l : List ℕ) (i : ℕ) → recordIn (recordAnswer (recordOf l i)) ≡ recordOf l i
 
@@ -130,8 +131,8 @@ pub record SameNumbers : Type 0 where
   pub resource : (s t : Settings) (n m c n' m' c' : ℕ) → Apart resourceAnswer (resourceOf s n m c) (resourceOf t n' m' c')
   pub inverse : (s t : Settings) (n r n' r' : ℕ) → Apart inverseAnswer (inverseOf s n r) (inverseOf t n' r')
   pub reading : (s s' : Settings) (n : ℕ) (t : Told) (r b0 b1 n' : ℕ) (t' : Told) (r' c0 c1 : ℕ) → Apart readingAnswer (readOf s n t r b0 b1) (readOf s' n' t' r' c0 c1)
-  pub claims : (s t : Settings) (n n' : ℕ) (list list' : List ℕ) (lent lent' : ℕ)
-      → Apart claimsAnswer (checkedOf s n list lent) (checkedOf t n' list' lent')
+  pub claims : (s t : Settings) (n n' : ℕ) (list list' : List ℕ) (room room' lent lent' : ℕ)
+      → Apart claimsAnswer (checkedWith s n list room lent) (checkedWith t n' list' room' lent')
   pub feed : (h i : Handset) (x y : Heard) → Apart fedAnswer (feedOf h x) (feedOf i y)
   pub reader : (l m : List ℕ) (i j : ℕ) → Apart recordAnswer (recordOf l i) (recordOf m j)
 
@@ -148,8 +149,8 @@ DoneFor kind refusal = (eqb kind replayDone ≡ eqb refusal 0) × (leb kind repl
 pub record KindsOfAnswers : Type 0 where
   pub reading : (s : Settings) (n : ℕ) (t : Told) (r b0 b1 : ℕ)
       → KindFor kindMultiplexed (readingAnswer (readOf s n t r b0 b1) .kind) (readingAnswer (readOf s n t r b0 b1) .refusal)
-  pub claims : (s : Settings) (n : ℕ) (list : List ℕ) (lent : ℕ)
-      → KindFor claimsClash (claimsAnswer (checkedOf s n list lent) .kind) (claimsAnswer (checkedOf s n list lent) .refusal)
+  pub claims : (s : Settings) (n : ℕ) (list : List ℕ) (room lent : ℕ)
+      → KindFor claimsClash (claimsAnswer (checkedWith s n list room lent) .kind) (claimsAnswer (checkedWith s n list room lent) .refusal)
   pub feed : (h : Handset) (x : Heard) → KindFor kindNoWindow (fedAnswer (feedOf h x) .kind) (fedAnswer (feedOf h x) .refusal)
   pub reader : (l : List ℕ) (i : ℕ) → KindFor recordEnd (recordAnswer (recordOf l i) .kind) (recordAnswer (recordOf l i) .refusal)
   pub replay : (l : List ℕ) (room : ℕ) → DoneFor (replayOf l room .kind) (replayOf l room .refusal)

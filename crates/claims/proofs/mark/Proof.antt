@@ -10,7 +10,8 @@ use borrow.Author.Count.{below-more}
 use borrow.Author.Needs.{needs}
 use Rattle.claims.specs.Claims.{earlier, firstClash, markedUpTo}
 use Rattle.claims.proofs.First.{first-found, first-none}
-use Rattle.claims.proofs.MarkOne.{earlier-if-set, new-if-clear, one-more}
+use Rattle.claims.proofs.Marks.{none-marked}
+use Rattle.claims.proofs.Turn.{earlier-if-set, new-if-clear, byte-read, byte-set}
 use Rattle.claims.proofs.mark.Statement.{statement}
 use Rattle.claims.proofs.mark.Tie as tie
 
@@ -25,7 +26,8 @@ abbrev μ-loop : tie.MeasureT-loop
 μ-loop w claims scratch₀ i₀ scratch i = length claims - i
 
 loop-holds : tie.Need-loop-holds Inv-loop μ-loop
-loop-holds c = (omega arith, λ k h. absurd (omega arith), refl, c .before .before .pre .cleared)
+loop-holds c =
+    (omega arith, λ k h. absurd (omega arith), refl, none-marked _ _ _ _ (c .before .before .pre .cleared))
 
 mul-claim : tie.Need-mul-claim Inv-loop μ-loop
 mul-claim c = omega arith
@@ -33,8 +35,8 @@ mul-claim c = omega arith
 shared-slice-read-claim : tie.Need-shared-slice-read-claim Inv-loop μ-loop
 shared-slice-read-claim c = omega arith
 
-byte-of-requires : tie.Need-byte-of-requires Inv-loop μ-loop
-byte-of-requires c κs = search needs
+offset-of-requires : tie.Need-offset-of-requires Inv-loop μ-loop
+offset-of-requires c κs = search needs
 
 slice-read-if1 : tie.Need-slice-read-if1 Inv-loop μ-loop
 slice-read-if1 c = omega arith
@@ -47,9 +49,11 @@ unfolding firstClash
 returns c =
     let b = c .before .before in
     let l = b .before .before .before in
-    let h = b .before .before .loop-test .taken in (
+    let h = b .before .before .loop-test .taken in
+    let ready = l .before .before .before .pre in (
       first-found _ _ _ (l .loop .inv .1) h
-          (earlier-if-set _ _ _ _ _ _ (l .before .before .before .pre) h (b .byte-of .ensures) (l .loop .inv .3) (c .if1 .taken)),
+          (earlier-if-set _ _ _ _ ready _ _ h (b .offset-of .ensures) _
+          (byte-read _ _ _ ready _ _ h (b .offset-of .ensures) _ (l .loop .inv .3)) (c .if1 .taken)),
       l .loop .inv .3,
     )
 
@@ -66,12 +70,14 @@ loop-again : tie.Need-loop-again Inv-loop μ-loop
 loop-again c =
     let b = c .before .before in
     let l = b .before .before .before in
-    let h = b .before .before .loop-test .taken in (
+    let h = b .before .before .loop-test .taken in
+    let ready = l .before .before .before .pre in (
       omega arith,
       below-more _ _ (l .loop .inv .1)
-          (new-if-clear _ _ _ _ _ _ (l .before .before .before .pre) h (b .byte-of .ensures) (l .loop .inv .3) (c .if1 .left)),
+          (new-if-clear _ _ _ _ ready _ _ h (b .offset-of .ensures) _
+          (byte-read _ _ _ ready _ _ h (b .offset-of .ensures) _ (l .loop .inv .3)) (c .if1 .left)),
       simp length-set (l .loop .inv .2),
-      rw add-one (one-more _ _ _ _ _ _ (l .before .before .before .pre) h (b .byte-of .ensures) (l .loop .inv .3)),
+      rw add-one (byte-set _ _ _ ready _ _ h (b .offset-of .ensures) _ (l .loop .inv .3)),
     )
 
 same-length-2 : tie.Need-same-length-2 Inv-loop μ-loop
@@ -92,7 +98,7 @@ mark-spec =
     loop-holds
     mul-claim
     shared-slice-read-claim
-    byte-of-requires
+    offset-of-requires
     slice-read-if1
     same-length
     returns

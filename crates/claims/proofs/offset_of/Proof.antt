@@ -1,8 +1,8 @@
--- `claims::byte_of` meets its contract: the claim's resource less N1, or 0 where the call refuses the claim. Assumes nothing.
+-- `claims::offset_of` meets its contract: the claim's resource less N1, or 0 where the call refuses the claim. Assumes nothing.
 use borrow.Author.Needs.{needs}
-use Rattle.claims.proofs.Bytes.{from-n1, byte-given, byte-refused}
-use Rattle.claims.proofs.byte_of.Statement.{statement}
-use Rattle.claims.proofs.byte_of.Tie as tie
+use Rattle.claims.proofs.Offsets.{from-n1, offset-given, offset-refused}
+use Rattle.claims.proofs.offset_of.Statement.{statement}
+use Rattle.claims.proofs.offset_of.Tie as tie
 
 new-requires : tie.Need-new-requires
 new-requires c κs = search needs
@@ -33,16 +33,16 @@ returns : tie.Need-returns
 returns c =
     let a = c .before .before .before in
     let q = a .before .before in
-    byte-given _ (q .before .before .before .pre) _ _ _ (q .before .new .ensures) (q .resource-within .ensures) _ _ (a .answer .given .1)
+    offset-given _ (q .before .before .before .pre) _ _ _ (q .before .new .ensures) (q .resource-within .ensures) _ _ (a .answer .given .1)
     (c .before .number .ensures)
 
 returns-2 : tie.Need-returns-2
 returns-2 c =
     let q = c .before .before in
-    byte-refused _ (q .before .before .before .pre) _ _ _ (q .before .new .ensures) (q .resource-within .ensures) _ (c .enum-told .given .1)
+    offset-refused _ (q .before .before .before .pre) _ _ _ (q .before .new .ensures) (q .resource-within .ensures) _ (c .enum-told .given .1)
 
-pub byte-of-spec : {M : Type 1} → statement M
-byte-of-spec =
+pub offset-of-spec : {M : Type 1} → statement M
+offset-of-spec =
     tie.close
     (tie.spec
     new-requires

@@ -1,4 +1,4 @@
--- The byte of a claim: its resource less N1, or 0 where the call refuses it.
+-- The offset of a claim: its resource less N1, or 0 where the call refuses it.
 -- Assumes nothing.
 use Prim.Native.Nat.{ℕ, _+_, _-_, _/_, _%_, _≤_}
 use mathlib.Core.Bool.{false≢true}
@@ -14,7 +14,7 @@ use Rattle.resource.proofs.OneToOne.{resource-range}
 use Rattle.resource.proofs.Sized.{resource-tested}
 use Rattle.claims.specs.declared.ClaimedWindow.{ClaimedWindow}
 use Rattle.claims.specs.Claims.{claimPosition, claimCce, claimed, resourcesOf, roomOf, isResource}
-use Rattle.claims.specs.Marking.{Has, AcceptedWindow, Byte}
+use Rattle.claims.specs.Marking.{Has, AcceptedWindow, Offset}
 use Rattle.claims.proofs.Share.{has-resource}
 
 -- what was asked for the claim, and answered
@@ -32,18 +32,18 @@ module _ (w : ClaimedWindow) (known : AcceptedWindow w) (claim c : ℕ) (a : Map
     pub from-n1 : w .s .n1 ≤ r
     from-n1 = resource-range (w .s) (w .n) (known .accepted) (claimPosition claim) (claimCce claim) r has .0
 
-    pub byte-given : Byte (w .s) (w .n) claim (r - w .s .n1)
+    pub offset-given : Offset (w .s) (w .n) claim (r - w .s .n1)
     unfolding roomOf resourcesOf
-    byte-given =
+    offset-given =
         let back : r ≡ r - w .s .n1 + w .s .n1 = omega (arith, from-n1) in
         record {
           below = omega (arith, from-n1, resource-range (w .s) (w .n) (known .accepted) (claimPosition claim) (claimCce claim) r has .1);
           resource = λ good. rw back at has;
         }
 
-  pub byte-refused : (k : ℕ) → a ≡ mapped.Refused k → Byte (w .s) (w .n) claim 0
+  pub offset-refused : (k : ℕ) → a ≡ mapped.Refused k → Offset (w .s) (w .n) claim 0
   unfolding roomOf resourcesOf
-  byte-refused k refused =
+  offset-refused k refused =
       record {
         below = resources-least (w .s) (w .n) (known .accepted);
         resource = λ good.

@@ -1,0 +1,48 @@
+// Claims of a cell with an eighth of the scratch: a bit for each resource (document 02, U6).
+use crate::Checked;
+use crate::ClaimedWindow;
+use crate::offset_of;
+use crate::prepare;
+use crate::told;
+use crate::window_in;
+use frame::Settings;
+ghost use mathlib.Core.Path.{_≡_};
+ghost use lib.ListN.{length};
+ghost use Rattle.claims.specs.Bits.{bitRoomOf, bitMarkedUpTo, bitCheckedOf, bitScratchOf};
+ghost use Rattle.claims.specs.Claims.{firstClash};
+ghost use Rattle.claims.specs.Marking.{Ready};
+
+// The answer to the claims of uplink subframe n, as `claims_of` gives it. Unless it is a refusal, the scratch then holds the marks
+// of the claims before the clash, of all claims where there is none: offset t has bit t % 8 of byte t / 8.
+pub fn claims_in_bits(s: Settings, n: u16, claims: &[u16], scratch: &mut [u8]) -> Checked
+    ensures { λ r. ⌜ r ≡ bitCheckedOf s n (now (claims .entry)) (length (now (scratch .entry))) ⌝ }
+    ensures { λ _. ⌜ now (scratch .exit) ≡ bitScratchOf s n (now (claims .entry)) (now (scratch .entry)) ⌝ }
+{
+    let w = window_in(s, n);
+    let refusal = prepare(w, claims, (w.marks + 7) / 8, scratch);
+    if refusal.number != 0 {
+        return Checked::Refused(refusal.number, refusal.index);
+    }
+    told(mark_bits(w, claims, scratch), claims.len())
+}
+
+// Marks the claims in a cleared scratch up to the first clash, and answers its index; the length of the list where there is none.
+// Each claim is read once, and so is its byte: whatever the claim is, the byte is inside the scratch, and the sum inside a byte.
+fn mark_bits(w: ClaimedWindow, claims: &[u16], scratch: &mut [u8]) -> usize
+    requires { ⌜ Ready w (now claims) (bitRoomOf (w .s) (w .n)) (now scratch) ⌝ }
+    ensures { λ r. ⌜ r ≡ firstClash (w .s) (w .n) (now (claims .entry)) ⌝ }
+    ensures { λ r. ⌜ now (scratch .exit) ≡ bitMarkedUpTo (w .s) (w .n) (now (claims .entry)) (now (scratch .entry)) r ⌝ }
+{
+    let mut i = 0;
+    while i < claims.len() {
+        let claim = claims[i];
+        let t = offset_of(w, claim);
+        let byte = scratch[t / 8];
+        if (byte >> (t % 8)) % 2 != 0 {
+            return i;
+        }
+        scratch[t / 8] = byte + (1 << (t % 8));
+        i += 1;
+    }
+    i
+}
