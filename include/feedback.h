@@ -11,7 +11,8 @@
  *
  *   calls of both ends      feedback_window, feedback_answered
  *   calls of the station    feedback_resource, feedback_inverse,
- *                           feedback_reading, feedback_claims
+ *                           feedback_reading, feedback_claims,
+ *                           feedback_claims_bits
  *   calls of the handset    feedback_make, feedback_feed_nothing,
  *                           feedback_feed_grant, feedback_feed_scheduled,
  *                           feedback_feed_release
@@ -186,7 +187,8 @@
  *             feedback_resource       64
  *             feedback_inverse        64
  *             feedback_reading        512
- *             feedback_claims         128
+ *             feedback_claims         256
+ *             feedback_claims_bits    256
  *             feedback_make           128
  *             feedback_feed_nothing   1024
  *             feedback_feed_grant     1024
@@ -209,12 +211,14 @@
 #include <stdint.h>
 
 /* This header's version: major * 10000 + minor * 100 + patch, and the same as text. */
-#define FEEDBACK_VERSION 30200
-#define FEEDBACK_VERSION_TEXT "3.2.0"
+#define FEEDBACK_VERSION 30300
+#define FEEDBACK_VERSION_TEXT "3.3.0"
 
 #define FEEDBACK_WINDOW_MOST 9     /* the most subframes of a window: M in configuration 5 */
 #define FEEDBACK_MEMORY 13         /* the subframes that a handset remembers: the greatest k */
 #define FEEDBACK_SCRATCH_MOST 1206 /* the most scratch that feedback_claims needs: 9 * 134 */
+#define FEEDBACK_BIT_SCRATCH_MOST 151 /* the most scratch that feedback_claims_bits needs, in
+                                         bytes: (9 * 134 + 7) / 8 */
 
 #define FEEDBACK_TRACE_HEADER 8     /* the bytes of a trace's header */
 #define FEEDBACK_TRACE_SETTINGS 10  /* the bytes of its settings */
@@ -288,7 +292,8 @@ enum feedback_refusal {
                                            scheduled position is told) */
     FEEDBACK_REFUSED_BITS = 14,         /* bit over 1, second bit set in a one-bit reply, or a
                                            symbol in no row of Tables 10.1-2 to 10.1-4 */
-    FEEDBACK_REFUSED_SCRATCH = 15,      /* scratch shorter than M * N_4 */
+    FEEDBACK_REFUSED_SCRATCH = 15,      /* scratch shorter than M * N_4 bytes; in
+                                           feedback_claims_bits than (M * N_4 + 7) / 8 */
     FEEDBACK_REFUSED_CLAIM = 16,        /* claim with m not below M or CCE not below N_4 */
     FEEDBACK_REFUSED_SCHEDULED_RESOURCE = 17, /* scheduled resource set and not below N1 */
     FEEDBACK_REFUSED_SCHEDULED = 18,    /* scheduled block with no scheduled resource set, or a
@@ -381,9 +386,9 @@ enum feedback_slot_results {
  * the cell's, the same for all its handsets; mode, blocks and scheduled are the
  * handset's own, set by higher layers for each, and its replies are read with them.
  * Every call that takes settings refuses 1 to 6, 17 and 19 for them; feedback_window,
- * feedback_answered, feedback_resource, feedback_inverse and feedback_claims ask no more
- * of mode, blocks, scheduled, prefix and special than that, and answer alike for all
- * handsets of a cell.
+ * feedback_answered, feedback_resource, feedback_inverse, feedback_claims and
+ * feedback_claims_bits ask no more of mode, blocks, scheduled, prefix and special than
+ * that, and answer alike for all handsets of a cell.
  *
  * FEEDBACK_SETTINGS, below, fills the first five, sets scheduled to FEEDBACK_NONE,
  * prefix to 0 and special to 7, with which special subframes carry data. Where a
@@ -455,7 +460,7 @@ struct feedback_reading_answer {
                            refused */
 };
 
-/* The answer of feedback_claims. 16 bytes. */
+/* The answer of feedback_claims and of feedback_claims_bits. 16 bytes. */
 struct feedback_claims_answer {
     uint16_t refusal; /* 0, or 1 to 7, 15, 16, 17 or 19 */
     uint16_t kind;    /* FEEDBACK_CLAIMS_CLEAN or FEEDBACK_CLAIMS_CLASH; 0 if refused */
@@ -706,12 +711,44 @@ struct feedback_reading_answer feedback_reading(struct feedback_settings setting
  * A count or room of 0 is a list or scratch of length 0, and its pointer may then
  * be NULL; with any other length NULL is an error that no refusal catches, as is
  * a length beyond the memory lent. The two must not overlap, and nothing else may
- * write either during the call.
+ * write either during the call. Where they overlap all the same, the answer and the
+ * marks may be wrong, but nothing is written outside of the scratch that is asked for.
  */
 FEEDBACK_MUST_USE
 struct feedback_claims_answer feedback_claims(struct feedback_settings settings, uint16_t n,
                                               const uint16_t *claims, size_t count,
                                               uint8_t *scratch, size_t room);
+
+/*
+ * The same with an eighth of the scratch: one bit for each resource, where
+ * feedback_claims has a byte.
+ *
+ *   settings   the settings of the cell
+ *   n          the uplink subframe of the replies, 0 to 9, one with a window
+ *   claims     the list of claims, only read; aligned as C demands of uint16_t
+ *   count      the number of claims
+ *   scratch    bytes to work in, at least (M * N_4 + 7) / 8 of them, rounded down
+ *              (FEEDBACK_BIT_SCRATCH_MOST are always enough)
+ *   room       the number of bytes lent in scratch
+ *
+ * For every list the answer is the one that feedback_claims gives with enough scratch of
+ * its own: clean, or a clash with the same index, or the same refusal.
+ *
+ * Afterwards bit t modulo 8 (value 1 << t % 8) of byte t / 8 of scratch, t below
+ * M * N_4, is 1 if t + N1 is the resource of a claim before that index (of any claim,
+ * when clean), else 0. The bits of the last byte that are left over, from M * N_4 on, are
+ * 0. Bytes from (M * N_4 + 7) / 8 on keep their values. What scratch held before does not
+ * matter.
+ *
+ * Refuses 1 to 6, 17, 19, 7, 15 and 16 as feedback_claims does, but 15 means that room is
+ * below (M * N_4 + 7) / 8. If refused, all of scratch is as it was.
+ *
+ * Of lengths of 0, NULL and memory that overlaps the same holds as for feedback_claims.
+ */
+FEEDBACK_MUST_USE
+struct feedback_claims_answer feedback_claims_bits(struct feedback_settings settings, uint16_t n,
+                                                   const uint16_t *claims, size_t count,
+                                                   uint8_t *scratch, size_t room);
 
 /*
  * A fresh handset. It expects subframe 0; the 13 subframes before it count as
@@ -1052,7 +1089,8 @@ FEEDBACK_HOLDS(feedback_size_t_has_8_bytes, sizeof(size_t) == 8)
 
 /*
  * A claim from its numbers: an expression of type uint16_t. Where one of them is over
- * 255 it is 65535, a claim that no window has and feedback_claims refuses with 16.
+ * 255 it is 65535, a claim that no window has: feedback_claims and feedback_claims_bits
+ * refuse it with 16.
  */
 #define FEEDBACK_CLAIM(position, cce) feedback_claim_of(position, cce)
 

@@ -10,6 +10,7 @@ void drop(struct feedback_settings settings, struct feedback_handset handset)
     feedback_inverse(settings, 7, 37);
     feedback_reading(settings, 7, FEEDBACK_NONE, 37, 1, 0);
     feedback_claims(settings, 7, NULL, 0, NULL, 0);
+    feedback_claims_bits(settings, 7, NULL, 0, NULL, 0);
     feedback_make(settings);
     feedback_feed_nothing(handset);
     feedback_feed_grant(handset, 2, 1, 0, 5, 3);

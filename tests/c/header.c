@@ -12,7 +12,7 @@
 #include <stdlib.h>
 #include <string.h>
 
-#if FEEDBACK_VERSION != 30200
+#if FEEDBACK_VERSION != 30300
 #error "FEEDBACK_VERSION is for the preprocessor too"
 #endif
 
@@ -187,6 +187,7 @@ static void numbers(void)
     EQUAL(FEEDBACK_WINDOW_MOST, 9);
     EQUAL(FEEDBACK_MEMORY, 13);
     EQUAL(FEEDBACK_SCRATCH_MOST, 1206); /* M 9, and N_4 134 where N_RB is 110 */
+    EQUAL(FEEDBACK_BIT_SCRATCH_MOST, 151); /* 8 * 150 and 6 */
     EQUAL(FEEDBACK_TRACE_HEADER, 8);
     EQUAL(FEEDBACK_TRACE_SETTINGS, 10);
     EQUAL(FEEDBACK_TRACE_RECORD, 4);
@@ -196,7 +197,7 @@ static void numbers(void)
     EQUAL(FEEDBACK_SPELLED_FIRST, 18);
     EQUAL(FEEDBACK_SPELLED_MOST, 65534); /* 18 + 4 * 16379 */
     EQUAL(FEEDBACK_NONE, 65535);
-    EQUAL(FEEDBACK_VERSION, 30200);
+    EQUAL(FEEDBACK_VERSION, 30300);
     sprintf(version, "%d.%d.%d", FEEDBACK_VERSION / 10000, FEEDBACK_VERSION / 100 % 100,
             FEEDBACK_VERSION % 100);
     SAME(FEEDBACK_VERSION_TEXT, version);
@@ -333,13 +334,14 @@ static void settings_refused(struct feedback_settings bad, unsigned refusal)
 {
     static struct feedback_handset zero;
     uint16_t claim = FEEDBACK_CLAIM(7, 77);
-    uint8_t scratch = 99;
+    uint8_t scratch = 99, bits = 98;
     struct feedback_window_answer window = feedback_window(bad, 11);
     struct feedback_answered_answer answered = feedback_answered(bad, 11);
     struct feedback_resource_answer mapped = feedback_resource(bad, 11, 99, 999);
     struct feedback_inverse_answer inverted = feedback_inverse(bad, 11, 9999);
     struct feedback_reading_answer reading = feedback_reading(bad, 11, 99, 9999, 8, 9);
     struct feedback_claims_answer claimed = feedback_claims(bad, 11, &claim, 1, &scratch, 1);
+    struct feedback_claims_answer by_bits = feedback_claims_bits(bad, 11, &claim, 1, &bits, 1);
     struct feedback_made made = feedback_make(bad);
     struct feedback_handset handset = zero;
     struct feedback_fed fed;
@@ -371,6 +373,10 @@ static void settings_refused(struct feedback_settings bad, unsigned refusal)
     EQUAL(claimed.kind, FEEDBACK_CLAIMS_REFUSED);
     EQUAL(claimed.index, 0);
     EQUAL(scratch, 99);
+    EQUAL(by_bits.refusal, refusal);
+    EQUAL(by_bits.kind, FEEDBACK_CLAIMS_REFUSED);
+    EQUAL(by_bits.index, 0);
+    EQUAL(bits, 98);
     EQUAL(made.refusal, refusal);
     BYTES(&made.handset, &zero, sizeof zero);
     handset.settings = bad;
@@ -836,6 +842,89 @@ static void claims_of_5(void)
     answer = feedback_claims(settings, 2, &claim, 1, scratch, sizeof scratch);
     EQUAL(answer.kind, FEEDBACK_CLAIMS_CLEAN);
     EQUAL(scratch[FEEDBACK_SCRATCH_MOST - 1], 1);
+}
+
+/*
+ * By bits, of 122 resources in 16 bytes: the bytes 0, 1, 2 and 15 are these, those between are 0,
+ * and those beyond 99.
+ */
+static void bits_marked(const uint8_t *scratch, unsigned b0, unsigned b1, unsigned b2, unsigned b15)
+{
+    unsigned i, wrong = 0;
+    for (i = 3; i < 18; i++)
+        wrong += scratch[i] != (i < 15 ? 0 : i == 15 ? b15 : 99);
+    EQUAL(wrong, 0);
+    EQUAL(scratch[0], b0);
+    EQUAL(scratch[1], b1);
+    EQUAL(scratch[2], b2);
+}
+
+/*
+ * Configuration 1, n = 2, N1 10. The resources 10, 20, 21, 31, 32 and 131 are less N1 bit 0 of
+ * byte 0, bits 2 and 3 of byte 1, bits 5 and 6 of byte 2, and bit 1 of byte 15.
+ */
+static void claim_bits_of_1(void)
+{
+    struct feedback_settings settings = settings_of(1, 0, 2);
+    uint16_t claims[8] = {0, 10, 256, 256 + 10, 11, 256 + 60, 256, 256 + 61};
+    uint8_t scratch[18], before[18];
+    uint16_t n = 2;
+    size_t count = 6, room = 18;
+    struct feedback_claims_answer answer;
+    memset(scratch, 99, sizeof scratch);
+    memcpy(before, scratch, sizeof before);
+    answer = CALL(feedback_claims_bits, (settings, n, claims, count, scratch, room));
+    EQUAL(answer.refusal, 0);
+    EQUAL(answer.kind, FEEDBACK_CLAIMS_CLEAN);
+    EQUAL(answer.index, 0);
+    bits_marked(scratch, 1, 4 + 8, 32 + 64, 2);
+    answer = feedback_claims_bits(settings, n, claims + 1, 3, scratch, 16);
+    EQUAL(answer.kind, FEEDBACK_CLAIMS_CLEAN);
+    bits_marked(scratch, 0, 4 + 8, 32, 0);
+    answer = feedback_claims_bits(settings, n, claims, 7, scratch, room);
+    EQUAL(answer.refusal, 0);
+    EQUAL(answer.kind, FEEDBACK_CLAIMS_CLASH);
+    EQUAL(answer.index, 6);
+    bits_marked(scratch, 1, 4 + 8, 32 + 64, 2);
+    memcpy(scratch, before, sizeof scratch);
+    answer = feedback_claims_bits(settings, n, claims, 8, scratch, 15);
+    EQUAL(answer.refusal, FEEDBACK_REFUSED_SCRATCH);
+    EQUAL(answer.kind, FEEDBACK_CLAIMS_REFUSED);
+    EQUAL(answer.index, 0);
+    answer = feedback_claims_bits(settings, n, claims, 8, scratch, 16);
+    EQUAL(answer.refusal, FEEDBACK_REFUSED_CLAIM);
+    EQUAL(answer.kind, FEEDBACK_CLAIMS_REFUSED);
+    EQUAL(answer.index, 7);
+    answer = feedback_claims_bits(settings, 4, claims, 8, scratch, 15);
+    EQUAL(answer.refusal, FEEDBACK_REFUSED_SUBFRAME);
+    answer = feedback_claims_bits(settings, n, claims, 1, NULL, 0);
+    EQUAL(answer.refusal, FEEDBACK_REFUSED_SCRATCH);
+    BYTES(scratch, before, sizeof before);
+    answer = feedback_claims_bits(settings, n, NULL, 0, scratch, room);
+    EQUAL(answer.kind, FEEDBACK_CLAIMS_CLEAN);
+    bits_marked(scratch, 0, 0, 0, 0);
+    answer = feedback_claims_bits(settings, n, NULL, 0, NULL, 0);
+    EQUAL(answer.refusal, FEEDBACK_REFUSED_SCRATCH);
+}
+
+/* As many bytes as a window needs at most, by bits: one less is not enough, nor is it by bytes. */
+static void claim_bits_of_5(void)
+{
+    struct feedback_settings settings = FEEDBACK_SETTINGS(5, 110, 0, 0, 2);
+    uint8_t scratch[FEEDBACK_BIT_SCRATCH_MOST];
+    uint16_t claims[2] = {FEEDBACK_CLAIM(FEEDBACK_WINDOW_MOST - 1, 133), FEEDBACK_CLAIM(0, 0)};
+    struct feedback_claims_answer answer;
+    memset(scratch, 99, sizeof scratch);
+    answer = feedback_claims_bits(settings, 2, claims, 2, scratch, sizeof scratch - 1);
+    EQUAL(answer.refusal, FEEDBACK_REFUSED_SCRATCH);
+    answer = feedback_claims(settings, 2, claims, 2, scratch, sizeof scratch);
+    EQUAL(answer.refusal, FEEDBACK_REFUSED_SCRATCH);
+    EQUAL(scratch[FEEDBACK_BIT_SCRATCH_MOST - 1], 99);
+    answer = feedback_claims_bits(settings, 2, claims, 2, scratch, sizeof scratch);
+    EQUAL(answer.kind, FEEDBACK_CLAIMS_CLEAN);
+    EQUAL(scratch[0], 1);
+    EQUAL(scratch[FEEDBACK_BIT_SCRATCH_MOST - 2], 0);
+    EQUAL(scratch[FEEDBACK_BIT_SCRATCH_MOST - 1], 32); /* 1205 is 8 * 150 and 5 */
 }
 
 /* ---- the handset ---- */
@@ -1680,7 +1769,8 @@ static void all_texts(void)
         "8: the handset",       "9: a grant, scheduled block or release came in an uplink",
         "10: the blocks",       "11: the first CCE",
         "12: the DAI",          "13: the PUCCH resource",
-        "14: the bits",         "15: the scratch",
+        "14: the bits",
+        "15: the scratch is shorter than M * N_4 bytes, for feedback_claims_bits than as many bits",
         "16: a claim",          "17: the resource set for scheduled blocks",
         "18: a scheduled block", "19: the prefix or the special subframe configuration",
         "20: a grant or scheduled block in a special subframe",
@@ -1729,6 +1819,8 @@ int main(int argc, char **argv)
     reading_scheduled_refused();
     claims_of_1();
     claims_of_5();
+    claim_bits_of_1();
+    claim_bits_of_5();
     bundled();
     multiplexed();
     bundled_scheduled();

@@ -67,6 +67,12 @@ LOOP(claims, feedback_claims_answer,
      EACH(i, SETTINGS) EACH(j, 11) EACH(l, 600)
          sink += call(settings[i], (uint16_t)j, list, l, scratch, sizeof scratch).kind;)
 
+LOOP(claims_bits, feedback_claims_answer,
+     (struct feedback_settings s, uint16_t n, const uint16_t *claims, size_t count,
+      uint8_t *bytes, size_t room),
+     EACH(i, SETTINGS) EACH(j, 11) EACH(l, 600)
+         sink += call(settings[i], (uint16_t)j, list, l, scratch, FEEDBACK_BIT_SCRATCH_MOST).kind;)
+
 LOOP(make, feedback_made, (struct feedback_settings s),
      EACH(i, SETTINGS) sink += call(settings[i]).refusal;)
 
@@ -270,6 +276,7 @@ int main(int argc, char **argv)
     all &= HELD(inverse, 0);
     all &= HELD(reading, 8);
     all &= HELD(claims, 8);
+    all &= HELD(claims_bits, 8);
     all &= HELD(make, 0);
     all &= HELD(feed_nothing, 72);
     all &= HELD(feed_grant, 72);

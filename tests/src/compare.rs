@@ -1,18 +1,19 @@
 //! Holds the engine to the model, and counts what was compared. The plain
 //! implementation is held to the model on the way.
 
+use crate::form::Form;
 use crate::guarded::{Flush, Guarded, BOTH};
 use crate::model::Model;
 use crate::plain::{
-    plain_answered, plain_claims, plain_feed_grant, plain_feed_nothing, plain_feed_release,
-    plain_feed_scheduled, plain_inverse, plain_make, plain_reading, plain_record, plain_replay,
-    plain_resource, plain_trace_write, plain_window,
+    plain_answered, plain_feed_grant, plain_feed_nothing, plain_feed_release, plain_feed_scheduled,
+    plain_inverse, plain_make, plain_reading, plain_record, plain_replay, plain_resource,
+    plain_trace_write, plain_window,
 };
 use crate::random::Random;
 use crate::{
-    answered, claims, feed, inverse, make, reading, record, replay, resource, trace_write, window,
-    Block, ClaimsAnswer, Fed, Grant, Handset, Heard, ReadingAnswer, RecordAnswer, Release,
-    ReplayAnswer, Settings, WriteAnswer,
+    answered, feed, inverse, make, reading, record, replay, resource, trace_write, window, Block,
+    ClaimsAnswer, Fed, Grant, Handset, Heard, ReadingAnswer, RecordAnswer, Release, ReplayAnswer,
+    Settings, WriteAnswer,
 };
 use std::fmt;
 use std::hint::black_box;
@@ -128,29 +129,30 @@ impl<'a> Comparison<'a> {
     /// the scratch is compared. Shows the answer.
     pub fn claims(
         &mut self,
+        form: Form,
         lent: &mut Lent,
         settings: Settings,
         n: u16,
         list: &[u16],
         scratch: &[u8],
     ) -> ClaimsAnswer {
-        let (due, left) = self.model.claims(settings, n, list, scratch);
+        let (due, left) = form.model(self.model, settings, n, list, scratch);
         let mut plain_left = scratch.to_vec();
-        let plain = plain_claims_on(settings, n, list, &mut plain_left);
+        let plain = form.plain(settings, n, list, &mut plain_left);
         for flush in BOTH {
             let given_left = lent.scratch.bytes(scratch, flush);
             let read = lent.list.numbers_to_read(list, flush);
-            let given = claims(settings, n, read, given_left);
+            let given = form.claims(settings, n, read, given_left);
             assert!(
                 given == due && plain == due,
-                "feedback_claims({settings:?}, n {n}, {}, room {}), flush at the {flush:?}: the \
+                "{form}({settings:?}, n {n}, {}, room {}), flush at the {flush:?}: the \
                  engine gives {given:?}, the model {due:?}, the plain implementation {plain:?}",
                 Shown(list),
                 scratch.len()
             );
             assert!(
                 given_left == left && plain_left == left,
-                "feedback_claims({settings:?}, n {n}, {}, room {}), flush at the {flush:?}: the \
+                "{form}({settings:?}, n {n}, {}, room {}), flush at the {flush:?}: the \
                  scratch was {}; the engine leaves {}, the model {}, the plain implementation {}",
                 Shown(list),
                 scratch.len(),
@@ -328,6 +330,7 @@ impl Lent {
     /// shows what it left of both.
     pub fn call(
         &mut self,
+        form: Form,
         settings: Settings,
         n: u16,
         list: &[u16],
@@ -336,7 +339,7 @@ impl Lent {
     ) -> (ClaimsAnswer, &[u16], &[u8]) {
         let left = self.scratch.bytes(scratch, flush);
         let read = self.list.numbers(list, flush);
-        (claims(settings, n, read, left), read, left)
+        (form.claims(settings, n, read, left), read, left)
     }
 }
 
@@ -484,19 +487,6 @@ pub fn plain_trace_write_on(trace: &[u8], output: &mut [u8]) -> WriteAnswer {
 pub fn plain_record_of(trace: &[u8], next: usize) -> RecordAnswer {
     // SAFETY: the trace is lent with its length.
     unsafe { plain_record(trace.as_ptr(), trace.len(), next) }
-}
-
-/// The plain implementation's answer to claims, with the marks it leaves.
-pub fn plain_claims_on(
-    settings: Settings,
-    n: u16,
-    list: &[u16],
-    scratch: &mut [u8],
-) -> ClaimsAnswer {
-    let (start, count) = (list.as_ptr(), list.len());
-    // SAFETY: each slice is lent with its own length, and by their types the two
-    // do not overlap.
-    unsafe { plain_claims(settings, n, start, count, scratch.as_mut_ptr(), scratch.len()) }
 }
 
 /// The plain implementation's answer to a feed.

@@ -68,6 +68,11 @@ pub fn window<'a>(
     })
 }
 
+/// Every claim of a window of `size` subframes with `cces` CCEs, by position, then CCE.
+pub fn claim(size: u16, cces: u16) -> Vec<u16> {
+    (0..size).flat_map(|m| (0..cces).map(move |cce| m * 256 + cce)).collect()
+}
+
 /// Every configuration and subframe, allowed or not, with all settings of these
 /// values.
 pub fn subframe(

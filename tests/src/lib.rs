@@ -6,11 +6,12 @@
 //! third, made to be fast, the measure in the benchmark and in the fuzzing.
 //! [`compare`] holds the engine to the model, answer by answer, on inputs in every
 //! combination ([`every`]) or at random ([`random`]), and on memory that is lent
-//! from [`guarded`]. [`trace`] builds recorded drives as bytes. [`vectors`] reads the
-//! cases that come with the requests.
+//! from [`guarded`]. [`form`] has the two forms in which claims are checked. [`trace`]
+//! builds recorded drives as bytes. [`vectors`] reads the cases that come with the requests.
 
 pub mod compare;
 pub mod every;
+pub mod form;
 pub mod guarded;
 pub mod model;
 pub mod plain;
@@ -58,6 +59,15 @@ pub mod c {
         ) -> ReadingAnswer;
 
         pub fn feedback_claims(
+            settings: Settings,
+            n: u16,
+            claims: *const u16,
+            count: usize,
+            scratch: *mut u8,
+            room: usize,
+        ) -> ClaimsAnswer;
+
+        pub fn feedback_claims_bits(
             settings: Settings,
             n: u16,
             claims: *const u16,
@@ -158,6 +168,15 @@ pub fn claims(settings: Settings, n: u16, claims: &[u16], scratch: &mut [u8]) ->
     // SAFETY: each slice is lent with its own length, the list to be read and the
     // scratch to be written, and by their types the two do not overlap.
     unsafe { c::feedback_claims(settings, n, list, count, marks, room) }
+}
+
+/// The same with a bit of the scratch for each resource.
+pub fn claims_bits(settings: Settings, n: u16, claims: &[u16], scratch: &mut [u8]) -> ClaimsAnswer {
+    let (list, count) = (claims.as_ptr(), claims.len());
+    let (marks, room) = (scratch.as_mut_ptr(), scratch.len());
+    // SAFETY: each slice is lent with its own length, the list to be read and the
+    // scratch to be written, and by their types the two do not overlap.
+    unsafe { c::feedback_claims_bits(settings, n, list, count, marks, room) }
 }
 
 /// The engine's fresh handset.

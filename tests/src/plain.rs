@@ -15,7 +15,7 @@ pub use handset::{
 };
 pub use replay::{plain_record, plain_replay};
 pub use spelling::plain_trace_write;
-pub use station::{plain_claims, plain_reading};
+pub use station::{plain_claims, plain_claims_bits, plain_reading};
 pub use window::{plain_answered, plain_window};
 
 use crate::{InverseAnswer, ResourceAnswer, Settings, NONE};

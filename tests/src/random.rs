@@ -59,6 +59,12 @@ impl Random {
         values[self.below(values.len())]
     }
 
+    pub fn shuffle<T>(&mut self, values: &mut [T]) {
+        for end in (1..values.len()).rev() {
+            values.swap(end, self.below(end + 1));
+        }
+    }
+
     /// Any 16-bit number, every other time one at a limit.
     pub fn any(&mut self) -> u16 {
         match self.once_in(2) {

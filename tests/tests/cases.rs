@@ -1,9 +1,10 @@
 //! The cases that the papers print, as numbers, through the C calls. The model
 //! has no part here.
 
+use feedback_tests::every;
 use feedback_tests::{
-    claims, feed, inverse, make, reading, resource, ClaimsAnswer, Fed, Grant, InverseAnswer,
-    ReadingAnswer, ResourceAnswer, Settings, NOT_TOLD,
+    claims, claims_bits, feed, inverse, make, reading, resource, ClaimsAnswer, Fed, Grant,
+    InverseAnswer, ReadingAnswer, ResourceAnswer, Settings, NOT_TOLD,
 };
 
 /// Configuration 1, N_RB 50, N1 10; its window of n = 2 has M = 2.
@@ -217,4 +218,58 @@ fn claims_of_configuration_1() {
     assert_eq!(claims(CELL, 2, &bad, &mut dirty), ClaimsAnswer::refused(16, 5));
     assert_eq!(claims(CELL, 2, &list, &mut dirty[..121]), ClaimsAnswer::refused(15, 0));
     assert_eq!(dirty, [9; 125]);
+}
+
+/// The same by bits: less N1 the resources are 0, 10, 11, 21, 22 and 121, which are bit 0
+/// of byte 0, bits 2 and 3 of byte 1, bits 5 and 6 of byte 2 and bit 1 of byte 15. The
+/// 122 resources end there: the six bits above it are 0.
+#[test]
+fn claims_of_configuration_1_by_bits() {
+    let list = [0, 10, 256, 266, 11, 316];
+    let mut scratch = [0b1001_1001; 18];
+    assert_eq!(claims_bits(CELL, 2, &list, &mut scratch), ClaimsAnswer::CLEAN);
+    let [b0, b1, b2, between @ .., b15, kept, last] = scratch;
+    assert_eq!([b0, b1, b2, b15], [0b0000_0001, 0b0000_1100, 0b0110_0000, 0b0000_0010]);
+    assert_eq!((between, kept, last), ([0; 12], 0b1001_1001, 0b1001_1001));
+
+    let clash = [316, 10, 256, 10, 0, 316];
+    assert_eq!(claims_bits(CELL, 2, &clash, &mut scratch), ClaimsAnswer::clash(3));
+    let [b0, b1, between @ .., b15, kept, last] = scratch;
+    assert_eq!([b0, b1, b15], [0, 0b0000_1100, 0b0000_0010]);
+    assert_eq!((between, kept, last), ([0; 13], 0b1001_1001, 0b1001_1001));
+
+    assert_eq!(claims_bits(CELL, 2, &[], &mut scratch[..16]), ClaimsAnswer::CLEAN);
+    assert_eq!(scratch, [&[0; 16][..], &[0b1001_1001; 2]].concat()[..]);
+
+    let bad = [316, 10, 256, 10, 0, 317];
+    let mut dirty = [9; 18];
+    assert_eq!(claims_bits(CELL, 2, &bad, &mut dirty), ClaimsAnswer::refused(16, 5));
+    assert_eq!(claims_bits(CELL, 2, &list, &mut dirty[..15]), ClaimsAnswer::refused(15, 0));
+    assert_eq!(dirty, [9; 18]);
+}
+
+/// The widest window takes 1,206 bytes, and by bits 151: with every claim of it each bit is
+/// set, but for two in the last byte.
+#[test]
+fn claims_of_the_widest_window() {
+    let settings = Settings::plain(5, 110, 2047, 0, 2);
+    let every = every::claim(9, 134);
+    assert_eq!(every.len(), 1206);
+    let mut bytes = [9; 1206];
+    assert_eq!(claims(settings, 2, &every, &mut bytes[..1205]), ClaimsAnswer::refused(15, 0));
+    assert_eq!(bytes, [9; 1206]);
+    assert_eq!(claims(settings, 2, &every, &mut bytes), ClaimsAnswer::CLEAN);
+    assert_eq!(bytes, [1; 1206]);
+
+    let mut bits = [9; 151];
+    assert_eq!(claims_bits(settings, 2, &every, &mut bits[..150]), ClaimsAnswer::refused(15, 0));
+    assert_eq!(claims(settings, 2, &every, &mut bits), ClaimsAnswer::refused(15, 0));
+    assert_eq!(bits, [9; 151]);
+    assert_eq!(claims_bits(settings, 2, &every, &mut bits), ClaimsAnswer::CLEAN);
+    let [whole @ .., last] = bits;
+    assert_eq!((whole, last), ([0xff; 150], 0x3f));
+    let [first, ..] = every[..] else { unreachable!("1,206 claims") };
+    let again = [&every[..], &[first]].concat();
+    assert_eq!(claims_bits(settings, 2, &again, &mut bits), ClaimsAnswer::clash(1206));
+    assert_eq!((bits[149], bits[150]), (0xff, 0x3f));
 }

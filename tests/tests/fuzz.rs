@@ -7,9 +7,10 @@
 //! a number, as many times more are made, from further seeds.
 
 use feedback_tests::compare::{
-    plain_claims_on, plain_feed, plain_record_of, plain_replay_on, plain_trace_write_on,
-    Comparison, Lent, LentTrace, Shown,
+    plain_feed, plain_record_of, plain_replay_on, plain_trace_write_on, Comparison, Lent,
+    LentTrace, Shown,
 };
+use feedback_tests::form::Form;
 use feedback_tests::guarded::BOTH;
 use feedback_tests::model::{edge, is_short, is_uplink, Model, NRB};
 use feedback_tests::plain::{
@@ -33,6 +34,7 @@ const READING_CALLS: u64 = 4_000_000;
 const MAKE_CALLS: u64 = 1_000_000;
 const FEED_CALLS: u64 = 8_000_000;
 const CLAIMS_CALLS: u64 = 2_000_000;
+const BIT_CLAIMS_CALLS: u64 = 1_024_000;
 const REPLAY_CALLS: u64 = 1_024_000;
 const RECORD_CALLS: u64 = 1_024_000;
 const WRITE_CALLS: u64 = 512_000;
@@ -46,6 +48,7 @@ const _: () = assert!(
         + MAKE_CALLS
         + FEED_CALLS
         + CLAIMS_CALLS
+        + BIT_CLAIMS_CALLS
         + REPLAY_CALLS
         + RECORD_CALLS
         + WRITE_CALLS
@@ -324,17 +327,26 @@ fn list(size: u16, cces: u16, random: &mut Random) -> Vec<u16> {
 
 #[test]
 fn lists_of_claims() {
+    claims_in(Form::Bytes, 6, CLAIMS_CALLS);
+}
+
+#[test]
+fn lists_of_claims_by_bits() {
+    claims_in(Form::Bits, 12, BIT_CLAIMS_CALLS);
+}
+
+fn claims_in(form: Form, seed: u64, number: u64) {
     let model = Model::new();
     let mut comparison = Comparison::with(&model);
     let mut lent = Lent::new(1500);
     let mut random = Random::new(0);
     let dirt: Vec<u8> = (0..8192).map(|_| random.any_byte()).collect();
-    let calls = fuzz(6, CLAIMS_CALLS, |random, ask_model| {
+    let calls = fuzz(seed, number, |random, ask_model| {
         let settings = random.wild_settings(48);
         let n = random.wild_n(&model, settings.config);
         let (size, cces) = (size(&model, settings, n), cces(settings));
         let list = list(size, cces, random);
-        let need = usize::from(size * cces);
+        let need = form.need(usize::from(size * cces));
         let room = match random.below(8) {
             0 => random.below(need + 64),
             1 => need - 1,
@@ -346,12 +358,12 @@ fn lists_of_claims() {
             scratch.copy_from_slice(&dirt[random.below(dirt.len() - room)..][..room]);
         }
         let mut plain_left = scratch.clone();
-        let plain = plain_claims_on(settings, n, &list, &mut plain_left);
+        let plain = form.plain(settings, n, &list, &mut plain_left);
         for flush in BOTH {
-            let (given, list_left, left) = lent.call(settings, n, &list, &scratch, flush);
+            let (given, list_left, left) = lent.call(form, settings, n, &list, &scratch, flush);
             assert!(
                 given == plain && left == plain_left && list_left == list,
-                "feedback_claims({settings:?}, n {n}, {}, room {room}), flush at the {flush:?}: \
+                "{form}({settings:?}, n {n}, {}, room {room}), flush at the {flush:?}: \
                  the scratch was {}; the engine gives {given:?} and leaves {} and the list {}, \
                  the plain implementation {plain:?} and {}",
                 Shown(&list),
@@ -362,11 +374,11 @@ fn lists_of_claims() {
             );
         }
         if ask_model {
-            comparison.claims(&mut lent, settings, n, &list, &scratch);
+            comparison.claims(form, &mut lent, settings, n, &list, &scratch);
         }
         2
     });
-    assert_eq!(calls, CLAIMS_CALLS * times());
+    assert_eq!(calls, number * times());
     let refusals = [0, 1, 2, 3, 4, 5, 6, 7, 15, 16, 17, 19];
     comparison.finish_with(calls / 2 / SAMPLE * 2, &refusals, &[0, 1, 2]);
 }

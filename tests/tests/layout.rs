@@ -1,9 +1,10 @@
 //! The structs of the C calls, byte by byte, and how they are passed.
 
+use feedback_tests::form::Form;
 use feedback_tests::trace::Trace;
 use feedback_tests::{
-    answered, claims, feed, inverse, layout_3, make, reading, record, replay, resource,
-    trace_write, window, AnsweredAnswer, Block, ClaimsAnswer, Fed, Grant, Handset, Heard,
+    answered, claims, claims_bits, feed, inverse, layout_3, make, reading, record, replay,
+    resource, trace_write, window, AnsweredAnswer, Block, ClaimsAnswer, Fed, Grant, Handset, Heard,
     InverseAnswer, Made, ReadingAnswer, RecordAnswer, Release, ReplayAnswer, ResourceAnswer,
     Settings, Slot, WindowAnswer, WriteAnswer, NOT_TOLD,
 };
@@ -259,8 +260,42 @@ fn every_number_of_the_settings_arrives() {
             inverse(settings, 2, 2000).refusal,
             reading(settings, 2, NOT_TOLD, 2000, 1, 0).refusal,
             claims(settings, 2, &[0], &mut [0; 500]).refusal,
+            claims_bits(settings, 2, &[0], &mut [0; 62]).refusal,
             make(settings).refusal,
         ];
-        assert_eq!(refusals, [number; 7], "{settings:?}");
+        assert_eq!(refusals, [number; 8], "{settings:?}");
+    }
+}
+
+/// Each of the other arguments on claims arrives in its place, and the index comes back
+/// whole: in configuration 5 with N_RB 6 there are 63 resources, and (8, 6) has the last.
+#[test]
+fn every_argument_on_claims_arrives() {
+    let settings = Settings::plain(5, 6, 10, 0, 1);
+    let mut list = vec![8 * 256 + 6; 70_000];
+    list[0] = 0;
+    list[69_999] = 8 * 256 + 7;
+    for (form, marks) in [(Form::Bytes, 63), (Form::Bits, 8)] {
+        let mut scratch = vec![7; marks + 1];
+        let refused = form.claims(settings, 2, &list, &mut scratch);
+        assert_eq!(refused, ClaimsAnswer { refusal: 16, kind: 0, index: 69_999 }, "{form}");
+        let clash = form.claims(settings, 2, &list[..69_999], &mut scratch);
+        assert_eq!(clash, ClaimsAnswer { refusal: 0, kind: 2, index: 2 }, "{form}");
+        let due = match form {
+            Form::Bytes => (1, 1, 7),
+            Form::Bits => (0b0000_0001, 0b0100_0000, 7),
+        };
+        assert_eq!((scratch[0], scratch[marks - 1], scratch[marks]), due, "{form}");
+        assert_eq!(
+            form.claims(settings, 2, &list[..2], &mut scratch),
+            ClaimsAnswer::CLEAN,
+            "{form}"
+        );
+        assert_eq!(
+            form.claims(settings, 2, &list, &mut scratch[..marks - 1]).refusal,
+            15,
+            "{form}"
+        );
+        assert_eq!(form.claims(settings, 3, &list, &mut scratch).refusal, 7, "{form}");
     }
 }

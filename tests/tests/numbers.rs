@@ -1,11 +1,12 @@
 //! Every refusal number, 1 to 23, from every call that can give it. What is due
 //! is written out by hand; the model has no part here.
 
+use feedback_tests::form::FORMS;
 use feedback_tests::trace::{put_number, Trace, LENGTH_AT, SETTINGS_AT};
 use feedback_tests::{
-    answered, claims, feed_grant, feed_nothing, feed_release, feed_scheduled, inverse, make,
-    reading, record, replay, resource, trace_write, window, AnsweredAnswer, Block, ClaimsAnswer,
-    Fed, Grant, Handset, InverseAnswer, Made, ReadingAnswer, RecordAnswer, Release, ReplayAnswer,
+    answered, feed_grant, feed_nothing, feed_release, feed_scheduled, inverse, make, reading,
+    record, replay, resource, trace_write, window, AnsweredAnswer, Block, ClaimsAnswer, Fed, Grant,
+    Handset, InverseAnswer, Made, ReadingAnswer, RecordAnswer, Release, ReplayAnswer,
     ResourceAnswer, Settings, Slot, WindowAnswer, WriteAnswer, NONE, NOT_TOLD,
 };
 use std::fmt::Debug;
@@ -86,14 +87,16 @@ impl Count {
         self.due(number, given, ReadingAnswer::refused(number));
     }
 
-    /// The scratch is left as it was.
-    fn claims(&mut self, number: u16, settings: Settings, n: u16, list: &[u16], room: usize) {
-        let mut scratch = vec![5; room];
-        let given = claims(settings, n, list, &mut scratch);
-        // Where a list below has a bad claim, it is the last.
-        let index = if number == 16 { list.len() - 1 } else { 0 };
-        let due = (ClaimsAnswer::refused(number, index), vec![5; room]);
-        self.due(number, (given, scratch), due);
+    /// In scratch of a room for each form, which is left as it was.
+    fn claims(&mut self, number: u16, settings: Settings, n: u16, list: &[u16], rooms: [usize; 2]) {
+        for (form, room) in FORMS.into_iter().zip(rooms) {
+            let mut scratch = vec![5; room];
+            let given = form.claims(settings, n, list, &mut scratch);
+            // Where a list below has a bad claim, it is the last.
+            let index = if number == 16 { list.len() - 1 } else { 0 };
+            let due = (ClaimsAnswer::refused(number, index), vec![5; room]);
+            self.due(number, (given, scratch), due);
+        }
     }
 
     fn make(&mut self, number: u16, settings: Settings) {
@@ -171,7 +174,7 @@ fn every_number_occurs() {
         count.resource(number, settings, 2, 0, 0);
         count.inverse(number, settings, 2, 10);
         count.reading(number, settings, 2, (10, 0, 0));
-        count.claims(number, settings, 2, &[0], 122);
+        count.claims(number, settings, 2, &[0], [122, 16]);
         count.make(number, settings);
         count.bad_state(Handset { settings, ..fresh });
     }
@@ -181,7 +184,7 @@ fn every_number_occurs() {
         count.resource(7, CELL, n, 0, 0);
         count.inverse(7, CELL, n, 10);
         count.reading(7, CELL, n, (10, 0, 0));
-        count.claims(7, CELL, n, &[0], 122);
+        count.claims(7, CELL, n, &[0], [122, 16]);
     }
 
     for uplink in [2, 3, 7, 8, 10, 257, 65535] {
@@ -257,18 +260,19 @@ fn every_number_occurs() {
     count.reading(14, multiplexing, 2, (10, 1, 1));
     count.reading(14, multiplexing, 2, (21, 0, 1));
 
-    count.claims(15, CELL, 2, &[], 121);
-    count.claims(15, CELL, 2, &[65535], 121);
-    count.claims(15, CELL, 2, &[0, 0], 0);
-    count.claims(16, CELL, 2, &[61], 122);
-    count.claims(16, CELL, 2, &[0, 512], 122);
-    count.claims(16, CELL, 2, &[7, 7, 65535], 200);
+    // Of two times 61 resources, a byte for each or a bit.
+    count.claims(15, CELL, 2, &[], [121, 15]);
+    count.claims(15, CELL, 2, &[65535], [121, 15]);
+    count.claims(15, CELL, 2, &[0, 0], [0, 0]);
+    count.claims(16, CELL, 2, &[61], [122, 16]);
+    count.claims(16, CELL, 2, &[0, 512], [122, 16]);
+    count.claims(16, CELL, 2, &[7, 7, 65535], [200, 25]);
 
     replays(&mut count);
     records_stopped_at(&mut count);
 
     println!("refusals by number: {:?}", count.0);
-    let of_settings = |causes: u64| 7 * causes;
+    let of_settings = |causes: u64| 8 * causes;
     // A replay and a writing, and where a record is refused a writing with room too.
     let on_traces = |causes: u64| 2 * causes;
     let at_records = |causes: u64| 3 * causes;
@@ -282,7 +286,7 @@ fn every_number_occurs() {
         of_settings(1) + on_traces(1),
         of_settings(1) + on_traces(1),
         of_settings(3) + on_traces(2),
-        5 * 5 + 7 + 1 + shorts,
+        5 * 6 + 7 + 1 + shorts,
         states + 7 * (9 * 6 + 4 * 2 + 2) + 2 + shorts * 7 * 3 * 2,
         2 + 4 + shorts * 3 + at_records(3),
         2 + 3 + at_records(2),
@@ -290,8 +294,8 @@ fn every_number_occurs() {
         2 + 2 + shorts * 2 + at_records(2),
         8 + 2,
         7 + 3,
-        3,
-        3,
+        3 * 2,
+        3 * 2,
         of_settings(4) + on_traces(4),
         3 + 4 + shorts * 2 + at_records(2),
         of_settings(8) + on_traces(4),

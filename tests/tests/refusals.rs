@@ -2,10 +2,11 @@
 //! far away, alone, in pairs, and all together.
 
 use feedback_tests::compare::{Comparison, Lent};
+use feedback_tests::form::{Form, FORMS};
 use feedback_tests::model::Model;
 use feedback_tests::{
-    answered, claims, inverse, make, reading, resource, window, AnsweredAnswer, ClaimsAnswer,
-    Handset, InverseAnswer, ReadingAnswer, ResourceAnswer, Settings, WindowAnswer, NONE, NOT_TOLD,
+    answered, inverse, make, reading, resource, window, AnsweredAnswer, ClaimsAnswer, Handset,
+    InverseAnswer, ReadingAnswer, ResourceAnswer, Settings, WindowAnswer, NONE, NOT_TOLD,
 };
 
 /// The settings' special values: 0, each limit, one past it, 65535, and numbers
@@ -24,14 +25,17 @@ const RESOURCE: &[u16] = &[0, 9, 10, 131, 132, 2046, 2047, 3252, 3253, 32768, 65
 const BIT: &[u16] = &[0, 1, 2, 257];
 const CLAIM: &[u16] = &[0, 6, 7, 133, 134, 256, 2181, 2304, 65535];
 const ROOM: &[u16] = &[0, 6, 7, 121, 122, 1205, 1206, 1207];
+const BIT_ROOM: &[u16] = &[0, 1, 15, 16, 122, 150, 151, 152];
 
 /// The arguments of each call, in order, by their special values. Of the claims,
-/// the second of three and the length of the scratch are arguments.
+/// the second of three and the length of the scratch are arguments; by bits the length
+/// has special values of its own.
 const SUBFRAME_CALL: [&[u16]; 6] = [CONFIG, NRB, N1, MODE, BLOCKS, N];
 const RESOURCE_CALL: [&[u16]; 8] = [CONFIG, NRB, N1, MODE, BLOCKS, N, POSITION, CCE];
 const INVERSE_CALL: [&[u16]; 7] = [CONFIG, NRB, N1, MODE, BLOCKS, N, RESOURCE];
 const READING_CALL: [&[u16]; 9] = [CONFIG, NRB, N1, MODE, BLOCKS, N, RESOURCE, BIT, BIT];
 const CLAIMS_CALL: [&[u16]; 8] = [CONFIG, NRB, N1, MODE, BLOCKS, N, CLAIM, ROOM];
+const BIT_CLAIMS_CALL: [&[u16]; 8] = [CONFIG, NRB, N1, MODE, BLOCKS, N, CLAIM, BIT_ROOM];
 const MAKE_CALL: [&[u16]; 5] = [CONFIG, NRB, N1, MODE, BLOCKS];
 
 /// Arguments that are not refused, from which the changes start.
@@ -63,6 +67,16 @@ const CLAIMS_STARTS: [[u16; 8]; 4] = [
     [0, 6, 0, 1, 1, 9, 6, 7],
     [3, 25, 100, 1, 2, 3, 1, 122],
 ];
+const BIT_CLAIMS_STARTS: [[u16; 8]; 4] = [
+    [1, 50, 10, 0, 1, 2, 256, 16],
+    [5, 110, 2047, 0, 2, 2, 2181, 151],
+    [0, 6, 0, 1, 1, 9, 6, 1],
+    [3, 25, 100, 1, 2, 3, 1, 16],
+];
+
+/// The calls on claims: the arguments by their special values, and where they start.
+const CLAIMS_CALLS: [(Form, [&[u16]; 8], [[u16; 8]; 4]); 2] =
+    [(Form::Bytes, CLAIMS_CALL, CLAIMS_STARTS), (Form::Bits, BIT_CLAIMS_CALL, BIT_CLAIMS_STARTS)];
 const MAKE_STARTS: [[u16; 5]; 4] =
     [[1, 50, 10, 0, 1], [5, 110, 2047, 0, 2], [0, 6, 0, 1, 1], [3, 25, 100, 1, 2]];
 
@@ -92,10 +106,16 @@ fn compare_reading(comparison: &mut Comparison, arguments: [u16; 9]) {
     comparison.reading(settings, n, NOT_TOLD, resource, b0, b1);
 }
 
-fn compare_claims(comparison: &mut Comparison, lent: &mut Lent, arguments: [u16; 8]) {
+fn compare_claims(comparison: &mut Comparison, form: Form, lent: &mut Lent, arguments: [u16; 8]) {
     let [config, nrb, n1, mode, blocks, n, claim, room] = arguments;
     let settings = Settings::plain(config, nrb, n1, mode, blocks);
-    comparison.claims(lent, settings, n, &[5, claim, 5], &vec![7; room.into()]);
+    comparison.claims(form, lent, settings, n, &[5, claim, 5], &vec![7; room.into()]);
+}
+
+/// Where the calls on claims start, each with its form.
+fn claims_starts() -> impl Iterator<Item = (Form, [u16; 8])> {
+    let of_form = |(form, _, starts): (Form, _, [[u16; 8]; 4])| starts.map(|start| (form, start));
+    CLAIMS_CALLS.into_iter().flat_map(of_form)
 }
 
 fn compare_make(comparison: &mut Comparison, arguments: [u16; 5]) {
@@ -296,12 +316,14 @@ fn claims_with_two_arguments_changed() {
     let model = Model::new();
     let mut comparison = Comparison::with(&model);
     let mut lent = Lent::new(3);
-    for start in CLAIMS_STARTS {
-        in_pairs(start, CLAIMS_CALL, |arguments| {
-            compare_claims(&mut comparison, &mut lent, arguments);
-        });
+    for (form, call, starts) in CLAIMS_CALLS {
+        for start in starts {
+            in_pairs(start, call, |arguments| {
+                compare_claims(&mut comparison, form, &mut lent, arguments);
+            });
+        }
     }
-    let compared = 4 * number_of_pairs(&CLAIMS_CALL) * 2;
+    let compared = 4 * (number_of_pairs(&CLAIMS_CALL) + number_of_pairs(&BIT_CLAIMS_CALL)) * 2;
     comparison.finish_with(compared, &[0, 1, 2, 3, 4, 5, 6, 7, 15, 16], &[0, 2]);
 }
 
@@ -312,9 +334,11 @@ fn claims_with_all_arguments_special() {
     let mut lent = Lent::new(3);
     let settings: [&[u16]; 5] = [&[1, 5, 7], &[50, 111], &[10, 2048], &[0, 1, 2], &[2, 3]];
     let [config, nrb, n1, mode, blocks] = settings;
-    let call = [config, nrb, n1, mode, blocks, &[2, 3, 10], &[6, 256, 65535], ROOM];
-    all_together(call, |arguments| compare_claims(&mut comparison, &mut lent, arguments));
-    let compared = 3 * 2 * 2 * 3 * 2 * 3 * 3 * 8 * 2;
+    for (form, rooms) in [(Form::Bytes, ROOM), (Form::Bits, BIT_ROOM)] {
+        let call = [config, nrb, n1, mode, blocks, &[2, 3, 10], &[6, 256, 65535], rooms];
+        all_together(call, |arguments| compare_claims(&mut comparison, form, &mut lent, arguments));
+    }
+    let compared = 2 * 3 * 2 * 2 * 3 * 2 * 3 * 3 * 8 * 2;
     comparison.finish_with(compared, &[0, 1, 2, 3, 4, 5, 6, 7, 15, 16], &[0, 2]);
 }
 
@@ -386,9 +410,11 @@ fn lowest_number_first() {
             "{settings:?}, n {n}, resource 2046"
         );
         let judged = ClaimsAnswer::refused(last(15), 0);
-        let mut scratch = [3; 5];
-        assert_eq!(claims(settings, n, &[65535], &mut scratch), judged, "{settings:?}, n {n}");
-        assert_eq!(scratch, [3; 5], "{settings:?}, n {n}");
+        for (form, mut scratch) in [(Form::Bytes, vec![3; 62]), (Form::Bits, vec![3; 7])] {
+            let given = form.claims(settings, n, &[65535], &mut scratch);
+            assert_eq!(given, judged, "{form}({settings:?}, n {n})");
+            assert!(scratch.iter().all(|byte| *byte == 3), "{form}({settings:?}, n {n})");
+        }
         let (made, refusal) = (make(settings), if number < 7 { number } else { 0 });
         let handset = if refusal == 0 { Handset::fresh(settings) } else { Handset::NONE };
         assert_eq!((made.refusal, made.handset), (refusal, handset), "{settings:?}");
@@ -398,11 +424,15 @@ fn lowest_number_first() {
     assert_eq!(reading(settings, 2, NOT_TOLD, 2047, 2, 2), ReadingAnswer::refused(14));
     assert_eq!(reading(settings, 2, NOT_TOLD, 2047, 0, 1), ReadingAnswer::refused(14));
     assert_eq!(reading(settings, 2, NOT_TOLD, 2047, 1, 0), ReadingAnswer::bundled(0, 0, 1, 0));
-    let mut scratch = [3; 9 * 7];
-    assert_eq!(claims(settings, 2, &[0, 0, 7], &mut scratch), ClaimsAnswer::refused(16, 2));
-    assert_eq!(scratch, [3; 9 * 7]);
-    assert_eq!(claims(settings, 2, &[0, 0, 6], &mut scratch), ClaimsAnswer::clash(1));
-    assert_eq!((scratch[0], scratch[1..].iter().max()), (1, Some(&0)));
+    // Of 9 × 7 resources, a byte for each or a bit.
+    for (form, mut scratch) in [(Form::Bytes, vec![3; 63]), (Form::Bits, vec![3; 8])] {
+        let bad = form.claims(settings, 2, &[0, 0, 7], &mut scratch);
+        assert_eq!(bad, ClaimsAnswer::refused(16, 2), "{form}");
+        assert!(scratch.iter().all(|byte| *byte == 3), "{form}");
+        let clash = form.claims(settings, 2, &[0, 0, 6], &mut scratch);
+        assert_eq!(clash, ClaimsAnswer::clash(1), "{form}");
+        assert_eq!((scratch[0], scratch[1..].iter().max()), (1, Some(&0)), "{form}");
+    }
 }
 
 /// The special values of the scheduled resource and of the position told.
@@ -487,19 +517,20 @@ fn claims_with_a_scheduled_resource() {
     let model = Model::new();
     let mut comparison = Comparison::with(&model);
     let mut lent = Lent::new(3);
-    for [config, nrb, n1, mode, blocks, n, claim, room] in CLAIMS_STARTS {
+    for (form, start) in claims_starts() {
+        let [config, nrb, n1, mode, blocks, n, claim, room] = start;
         let around = [n1.saturating_sub(1), n1, n1 + 1];
         for scheduled in SCHEDULED.iter().copied().chain(around) {
             for (n1, n) in [(n1, n), (n1, 10), (2048, n)] {
                 let settings = Settings::plain(config, nrb, n1, mode, blocks);
                 let settings = settings.with_scheduled(scheduled);
                 let scratch = vec![7; room.into()];
-                comparison.claims(&mut lent, settings, n, &[5, claim, 5], &scratch);
-                comparison.claims(&mut lent, settings, n, &[65535], &[]);
+                comparison.claims(form, &mut lent, settings, n, &[5, claim, 5], &scratch);
+                comparison.claims(form, &mut lent, settings, n, &[65535], &[]);
             }
         }
     }
-    comparison.finish_with(4 * 11 * 3 * 2 * 2, &[0, 3, 7, 15, 17], &[0, 2]);
+    comparison.finish_with(2 * 4 * 11 * 3 * 2 * 2, &[0, 3, 7, 15, 17], &[0, 2]);
 }
 
 #[test]
@@ -622,7 +653,8 @@ fn claims_with_a_special_configuration() {
     let model = Model::new();
     let mut comparison = Comparison::with(&model);
     let mut lent = Lent::new(3);
-    for [config, nrb, n1, mode, blocks, n, claim, room] in CLAIMS_STARTS {
+    for (form, start) in claims_starts() {
+        let [config, nrb, n1, mode, blocks, n, claim, room] = start;
         for prefix in PREFIX {
             for special in SPECIAL {
                 for (scheduled, n) in [(NONE, n), (NONE, 10), (2047, n)] {
@@ -630,17 +662,18 @@ fn claims_with_a_special_configuration() {
                     let settings = settings.with_scheduled(scheduled);
                     let settings = settings.with_special(*prefix, *special);
                     let scratch = vec![7; room.into()];
-                    comparison.claims(&mut lent, settings, n, &[5, claim, 5], &scratch);
-                    comparison.claims(&mut lent, settings, n, &[65535], &[]);
+                    comparison.claims(form, &mut lent, settings, n, &[5, claim, 5], &scratch);
+                    comparison.claims(form, &mut lent, settings, n, &[65535], &[]);
                 }
             }
         }
     }
-    // Each list is lent in two ways. 19 comes behind 17, and before 7 and 15.
-    comparison.finish_with(4 * 45 * 3 * 2 * 2, &[0, 7, 15, 17, 19], &[0, 2]);
-    assert_eq!(comparison.refused(17), 4 * 45 * 2 * 2);
-    assert_eq!(comparison.refused(19), 4 * 35 * 2 * 2 * 2);
-    assert_eq!(comparison.refused(7), 4 * 10 * 2 * 2);
+    // Each list is lent in two ways, and in two forms. 19 comes behind 17, and before 7
+    // and 15.
+    comparison.finish_with(2 * 4 * 45 * 3 * 2 * 2, &[0, 7, 15, 17, 19], &[0, 2]);
+    assert_eq!(comparison.refused(17), 2 * 4 * 45 * 2 * 2);
+    assert_eq!(comparison.refused(19), 2 * 4 * 35 * 2 * 2 * 2);
+    assert_eq!(comparison.refused(7), 2 * 4 * 10 * 2 * 2);
 }
 
 #[test]
@@ -730,10 +763,12 @@ fn later_numbers_in_their_place() {
         assert_eq!(answered(settings, 10), AnsweredAnswer::refused(number));
         assert_eq!(resource(settings, 10, 9, 7), ResourceAnswer::refused(number));
         assert_eq!(inverse(settings, 10, 2045), InverseAnswer::refused(number));
-        let mut scratch = [3; 5];
-        let refused = ClaimsAnswer::refused(number, 0);
-        assert_eq!(claims(settings, 10, &[65535], &mut scratch), refused);
-        assert_eq!(scratch, [3; 5]);
+        for form in FORMS {
+            let mut scratch = [3; 5];
+            let refused = ClaimsAnswer::refused(number, 0);
+            assert_eq!(form.claims(settings, 10, &[65535], &mut scratch), refused, "{form}");
+            assert_eq!(scratch, [3; 5], "{form}");
+        }
         let made = make(settings);
         assert_eq!((made.refusal, made.handset), (number, Handset::NONE));
     }

@@ -3,6 +3,7 @@
 
 use feedback_tests::compare::{Comparison, Lent, POSITIONS, WINDOWS};
 use feedback_tests::every::{self, MODE_AND_BLOCKS};
+use feedback_tests::form::FORMS;
 use feedback_tests::model::{edge, Model};
 use feedback_tests::random::Random;
 use feedback_tests::{
@@ -131,9 +132,12 @@ fn the_other_calls() {
         assert_eq!(read, ReadingAnswer::refused(13), "{with:?}");
         let claim = |random: &mut Random| random.below16(place.size()) * 256 + random.below16(cces);
         let list: Vec<u16> = (0..random.below(20)).map(|_| claim(&mut random)).collect();
-        let room = vec![7; usize::from(place.size() * cces) + 3];
-        let given = comparison.claims(&mut lent, with, n, &list, &room);
-        assert_eq!(given, comparison.claims(&mut lent, without, n, &list, &room), "{with:?}");
+        for form in FORMS {
+            let room = vec![7; form.need(usize::from(place.size() * cces)) + 3];
+            let [given, due] = [with, without]
+                .map(|cell| comparison.claims(form, &mut lent, cell, n, &list, &room));
+            assert_eq!(given, due, "{form}, {with:?}");
+        }
     }
-    comparison.finish_with(20_000 * 2 * 2, &[0], &[1, 2]);
+    comparison.finish_with(20_000 * 2 * 2 * 2, &[0], &[1, 2]);
 }

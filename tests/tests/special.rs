@@ -5,12 +5,13 @@
 
 use feedback_tests::compare::{Comparison, Lent, POSITIONS, WINDOWS};
 use feedback_tests::every::{self, MODE_AND_BLOCKS};
+use feedback_tests::form::Form;
 use feedback_tests::model::{edge, is_uplink, Model, Window};
 use feedback_tests::random::Random;
 use feedback_tests::{
-    answered, claims, feed, feed_grant, feed_nothing, feed_release, feed_scheduled, inverse, make,
-    reading, resource, window, Block, Fed, Grant, Handset, Heard, ReadingAnswer, Release, Settings,
-    Slot, NONE, NOT_TOLD,
+    answered, claims, claims_bits, feed, feed_grant, feed_nothing, feed_release, feed_scheduled,
+    inverse, make, reading, resource, window, Block, Fed, Grant, Handset, Heard, ReadingAnswer,
+    Release, Settings, Slot, NONE, NOT_TOLD,
 };
 
 const PREFIXES: [u16; 5] = [0, 1, 2, 3, 65535];
@@ -89,13 +90,14 @@ fn every_pair_in_every_call() {
                 comparison.resource(settings, n, 0, 0);
                 comparison.inverse(settings, n, 10);
                 comparison.reading(settings, n, NOT_TOLD, 10, 1, 0);
-                comparison.claims(&mut lent, settings, n, &[0], &[7; 65]);
+                comparison.claims(Form::Bytes, &mut lent, settings, n, &[0], &[7; 65]);
+                comparison.claims(Form::Bits, &mut lent, settings, n, &[0], &[7; 10]);
             }
         }
     }
     // A list of claims is lent in two ways. Position 0 has a symbol 10 in every window.
-    let calls = 11 * (5 + 2);
-    let answers = CELLS + 6 * CELL_WINDOWS + CELL_DOWNLINK;
+    let calls = 11 * (5 + 2 + 2);
+    let answers = CELLS + 8 * CELL_WINDOWS + CELL_DOWNLINK;
     comparison.finish(PAIRS * CELLS * (1 + calls), ALLOWED * answers);
     assert_eq!(comparison.refused(19), (PAIRS - ALLOWED) * CELLS * (1 + calls));
     assert_eq!(comparison.refused(7), ALLOWED * (CELLS * (1 + calls) - answers));
@@ -131,15 +133,16 @@ fn nineteen_in_its_place() {
                     inverse(settings, n, 9).refusal,
                     reading(settings, n, 9, 8, 2, 2).refusal,
                     claims(settings, n, &[65535], &mut []).refusal,
+                    claims_bits(settings, n, &[65535], &mut []).refusal,
                     make(settings).refusal,
                 ];
-                assert_eq!(refusals, [number; 7], "{settings:?}, n {n}");
+                assert_eq!(refusals, [number; 8], "{settings:?}, n {n}");
                 given += refusals.len() as u64;
             }
             assert_eq!(make(settings).handset, Handset::NONE, "{settings:?}");
         }
     }
-    assert_eq!(given, 8 * (PAIRS - ALLOWED) * 4 * 7);
+    assert_eq!(given, 8 * (PAIRS - ALLOWED) * 4 * 8);
 }
 
 /// What is fed in these tests, with the causes from 10 on that each meets where a
@@ -350,12 +353,18 @@ fn the_calls_with_settings_do_not_move() {
                     }
                 }
                 for list in [&[][..], &[0], &[0, 1, 0], &[1, 258, 0], &[0, 256, 256], &[7, 0]] {
-                    let (mut scratch, mut scratch_before) = ([7; 65], [7; 65]);
-                    let given = claims(settings, n, list, &mut scratch);
-                    let due = claims(before, n, list, &mut scratch_before);
-                    assert_eq!(given, due, "{settings:?}, n {n}, {list:?}");
-                    assert_eq!(scratch, scratch_before, "{settings:?}, n {n}, {list:?}");
-                    compared += 1;
+                    for (form, room) in [(Form::Bytes, 65), (Form::Bits, 10)] {
+                        let mut scratch = vec![7; room];
+                        let mut scratch_before = scratch.clone();
+                        let given = form.claims(settings, n, list, &mut scratch);
+                        let due = form.claims(before, n, list, &mut scratch_before);
+                        assert_eq!(given, due, "{form}({settings:?}, n {n}, {list:?})");
+                        assert_eq!(
+                            scratch, scratch_before,
+                            "{form}({settings:?}, n {n}, {list:?})"
+                        );
+                        compared += 1;
+                    }
                 }
             }
         }
@@ -365,7 +374,7 @@ fn the_calls_with_settings_do_not_move() {
     let sizes = CELL_DOWNLINK;
     let resources = (CELLS * 11 + sizes) * 8;
     let readings = (CELLS * 11 * 3 + sizes * 7) * 4;
-    assert_eq!(compared, ALLOWED * (resources + readings + CELLS * 11 * 6));
+    assert_eq!(compared, ALLOWED * (resources + readings + CELLS * 11 * 6 * 2));
 }
 
 /// What a position of a window may have heard, as a slot.

@@ -2,15 +2,15 @@
 //! model and the plain implementation are held to them too. Each test knows how
 //! many lines its file has, and how many of them this layout cannot hold.
 
-use feedback_tests::compare::{
-    plain_claims_on, plain_feed, plain_record_of, plain_replay_on, plain_trace_write_on,
-};
+use feedback_tests::compare::{plain_feed, plain_record_of, plain_replay_on, plain_trace_write_on};
+use feedback_tests::form::Form;
 use feedback_tests::model::Model;
 use feedback_tests::plain::{plain_inverse, plain_make, plain_reading, plain_resource};
 use feedback_tests::vectors::{cases, heard, Case};
 use feedback_tests::{
-    claims, feed, inverse, make, reading, record, replay, resource, trace_write, Fed, Handset,
-    Heard, ReadingAnswer, RecordAnswer, ReplayAnswer, Settings, Slot, WriteAnswer, NOT_TOLD,
+    feed, inverse, make, reading, record, replay, resource, trace_write, ClaimsAnswer, Fed,
+    Handset, Heard, ReadingAnswer, RecordAnswer, ReplayAnswer, Settings, Slot, WriteAnswer,
+    NOT_TOLD,
 };
 use std::fmt::Debug;
 
@@ -78,13 +78,24 @@ impl Who<'_> {
     }
 
     fn claims_refusal(&self, settings: Settings, n: u16, list: &[u16], room: u16) -> u16 {
-        let mut scratch = vec![7; room.into()];
-        let answer = match self {
-            Self::Engine => claims(settings, n, list, &mut scratch),
-            Self::Model(model) => model.claims(settings, n, list, &scratch).0,
-            Self::Plain => plain_claims_on(settings, n, list, &mut scratch),
-        };
-        answer.refusal
+        self.claims(Form::Bytes, settings, n, list, &vec![7; room.into()]).0.refusal
+    }
+
+    /// The answer about claims, and the scratch afterwards.
+    fn claims(
+        &self,
+        form: Form,
+        settings: Settings,
+        n: u16,
+        list: &[u16],
+        lent: &[u8],
+    ) -> (ClaimsAnswer, Vec<u8>) {
+        let mut scratch = lent.to_vec();
+        match self {
+            Self::Engine => (form.claims(settings, n, list, &mut scratch), scratch),
+            Self::Model(model) => form.model(model, settings, n, list, lent),
+            Self::Plain => (form.plain(settings, n, list, &mut scratch), scratch),
+        }
     }
 
     /// The answer of a replay, and the output afterwards.
@@ -294,6 +305,31 @@ fn writing_line(case: &Case, who: &Who) -> ((WriteAnswer, Vec<u8>), (WriteAnswer
     (given, (answer, case.bytes("output")))
 }
 
+/// The answer about claims that a line has: 0 clean, 1 a clash.
+fn claimed_of(case: &Case) -> ClaimsAnswer {
+    let index = usize::from(case.number("index"));
+    match (case.number("refusal"), case.number("answer")) {
+        (0, 0) => ClaimsAnswer { index: index as u64, ..ClaimsAnswer::CLEAN },
+        (0, _) => ClaimsAnswer::clash(index),
+        (refusal, _) => ClaimsAnswer::refused(refusal, index),
+    }
+}
+
+/// Claims checked by bits, in lent scratch.
+fn bits_line(case: &Case, who: &Who) -> ((ClaimsAnswer, Vec<u8>), (ClaimsAnswer, Vec<u8>)) {
+    let (settings, n, list) = (case.settings(), case.number("n"), case.numbers("claims"));
+    let given = who.claims(Form::Bits, settings, n, &list, &case.bytes("lent"));
+    (given, (claimed_of(case), case.bytes("scratch")))
+}
+
+/// The same checked by bytes answer the same. Eight for each byte of the line are enough
+/// exactly if its bits are.
+fn bits_line_by_bytes(case: &Case, who: &Who) -> (ClaimsAnswer, ClaimsAnswer) {
+    let (settings, n, list) = (case.settings(), case.number("n"), case.numbers("claims"));
+    let lent = vec![7; 8 * case.bytes("lent").len()];
+    (who.claims(Form::Bytes, settings, n, &list, &lent).0, claimed_of(case))
+}
+
 /// Two accepted traces, and whether they are written as the same bytes.
 fn pair_line(case: &Case, who: &Who) -> (u16, u16) {
     let [one, other] = ["first", "second"].map(|name| {
@@ -389,4 +425,13 @@ fn u04_pairs() {
     let text = include_str!("../data/u04-pairs.csv");
     let tally = Tally::of("u04-pairs.csv", text, |case, who| Some(pair_line(case, who)));
     tally.finish(367, 0);
+}
+
+#[test]
+fn u06_claims() {
+    let text = include_str!("../data/u06-claims.csv");
+    let tally = Tally::of("u06-claims.csv", text, |case, who| Some(bits_line(case, who)));
+    tally.finish(906, 0);
+    let tally = Tally::of("u06-claims.csv", text, |case, who| Some(bits_line_by_bytes(case, who)));
+    tally.finish(906, 0);
 }

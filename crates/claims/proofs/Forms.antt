@@ -1,13 +1,13 @@
 -- The two forms of the scratch beside each other: they answer alike where each has its scratch, and mark alike.
 -- Assumes nothing.
-use Prim.Native.Nat.{ℕ, zero, suc, _+_, _*_, _<_, _≤_}
-use mathlib.Core.Bool.{cond}
+use Prim.Native.Nat.{ℕ, zero, suc, _+_, _*_, _/_, _<_, _≤_}
+use mathlib.Core.Bool.{Bool, true, false, cond}
 use mathlib.Core.List.{List}
 use mathlib.Core.Path.{_≡_, refl, sym, ap, _∙_}
 use native.Mathlib.Omega.{arith}
 use lib.Dec.{ltb}
 use lib.ListN.{length, getD}
-use borrow.Author.Tests.{le-ltb}
+use borrow.Author.Tests.{ltb-true, ltb-false, lt-ltb, le-ltb}
 use Rattle.frame.specs.declared.Settings.{Settings}
 use Rattle.frame.specs.Settings.{orElse, windowRefusal}
 use Rattle.resource.proofs.Counts.{window-resources}
@@ -32,6 +32,19 @@ module _ (s : Settings) (n : ℕ) (claims : List ℕ) (room lent room' lent' : �
       go zero h = absurd (h refl)
       go (suc k) h = refl
 
+-- A scratch is too short for the bits exactly where one of eight times its length is too short for the bytes.
+short-alike : (s : Settings) (n lent : ℕ) → ltb lent (bitRoomOf s n) ≡ ltb (8 * lent) (roomOf s n)
+unfolding bitRoomOf
+short-alike s n lent = go (ltb (8 * lent) (roomOf s n)) refl
+  where
+    go : (b : Bool) → ltb (8 * lent) (roomOf s n) ≡ b → ltb lent ((roomOf s n + 7) / 8) ≡ b
+    go true e = lt-ltb lent _ (omega (arith, ltb-true (8 * lent) (roomOf s n) e))
+    go false e = le-ltb lent _ (omega (arith, ltb-false (8 * lent) (roomOf s n) e))
+
+as-eightfold : (s : Settings) (n : ℕ) (claims : List ℕ) (lent : ℕ) → bitCheckedOf s n claims lent ≡ checkedOf s n claims (8 * lent)
+unfolding checkedWith scratchRefusal
+as-eightfold s n claims lent = rw (short-alike s n lent)
+
 -- A bit of the one scratch is a byte of the other.
 bit-is-byte : (s : Settings) (n : ℕ) (claims old bitOld : List ℕ) → Answered (checkedOf s n claims (length old))
     → Answered (bitCheckedOf s n claims (length bitOld)) → (t : ℕ) → t < roomOf s n
@@ -55,6 +68,7 @@ pub forms-agree : FormsAgree
 forms-agree =
     record {
       answers = λ s n claims lent bitLent h b. with-scratch s n claims (bitRoomOf s n) bitLent (roomOf s n) lent b h;
+      eightfold = as-eightfold;
       refused = λ s n claims lent bitLent h. without-window s n claims (bitRoomOf s n) bitLent (roomOf s n) lent h;
       marks = bit-is-byte;
       eighth = an-eighth;

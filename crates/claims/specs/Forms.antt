@@ -48,7 +48,9 @@ pub record FormsAgree : Type 0 where
   -- they answer alike, whatever the list, where each has its scratch
   pub answers : (s : Settings) (n : ℕ) (claims : List ℕ) (lent bitLent : ℕ) → roomOf s n ≤ lent → bitRoomOf s n ≤ bitLent
       → bitCheckedOf s n claims bitLent ≡ checkedOf s n claims lent
-  -- and with any scratch where settings or subframe are refused
+  -- with any scratch the bits are answered as the bytes are with eight times as much, 15 included
+  pub eightfold : (s : Settings) (n : ℕ) (claims : List ℕ) (lent : ℕ) → bitCheckedOf s n claims lent ≡ checkedOf s n claims (8 * lent)
+  -- and alike with any two where settings or subframe are refused
   pub refused : (s : Settings) (n : ℕ) (claims : List ℕ) (lent bitLent : ℕ) → (windowRefusal s n ≡ 0 → ⊥)
       → bitCheckedOf s n claims bitLent ≡ checkedOf s n claims lent
   -- where both answer, bit t of the one scratch is byte t of the other

@@ -23,6 +23,7 @@ ghost use mathlib.Core.Path.{_≡_};
 ghost use Rattle.frame.specs.Distance.{answeredOf};
 ghost use Rattle.resource.specs.Calls.{resourceOf, inverseOf};
 ghost use Rattle.station.specs.Readings.{readOf};
+ghost use Rattle.claims.specs.Bits.{bitCheckedOf, bitScratchOf};
 ghost use Rattle.claims.specs.Claims.{checkedOf, scratchOf};
 ghost use lib.ListN.{length};
 ghost use Rattle.numbers.specs.Answers.{windowAnswer, resourceAnswer, inverseAnswer, toldPosition, readingAnswer, claimsAnswer, fedAnswer, grantOf, blockOf, releaseOf, recordAnswer};
@@ -118,6 +119,19 @@ pub extern "C" fn feedback_claims(
     ensures { λ _. ⌜ now (scratch .exit) ≡ scratchOf settings n (now (claims .entry)) (now (scratch .entry)) ⌝ }
 {
     numbers::claims_numbers(claims::claims_of(settings, n, claims, scratch))
+}
+
+#[no_mangle]
+pub extern "C" fn feedback_claims_bits(
+    settings: Settings,
+    n: u16,
+    claims: &[u16],
+    scratch: &mut [u8],
+) -> ClaimsAnswer
+    ensures { λ r. ⌜ r ≡ claimsAnswer (bitCheckedOf settings n (now (claims .entry)) (length (now (scratch .entry)))) ⌝ }
+    ensures { λ _. ⌜ now (scratch .exit) ≡ bitScratchOf settings n (now (claims .entry)) (now (scratch .entry)) ⌝ }
+{
+    numbers::claims_numbers(claims::claims_in_bits(settings, n, claims, scratch))
 }
 
 #[no_mangle]

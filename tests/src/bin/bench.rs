@@ -7,22 +7,23 @@
 //! machine, and no figure fails.
 
 use feedback_tests::c::{
-    feedback_answered, feedback_claims, feedback_feed_grant, feedback_feed_nothing,
-    feedback_feed_release, feedback_feed_scheduled, feedback_inverse, feedback_make,
-    feedback_reading, feedback_replay, feedback_resource, feedback_trace_write, feedback_window,
+    feedback_answered, feedback_feed_grant, feedback_feed_nothing, feedback_feed_release,
+    feedback_feed_scheduled, feedback_inverse, feedback_make, feedback_reading, feedback_replay,
+    feedback_resource, feedback_trace_write, feedback_window,
 };
 use feedback_tests::compare::plain_feed;
 use feedback_tests::every;
+use feedback_tests::form::{Form, OnClaims};
 use feedback_tests::model::{bundles, edge, is_short, is_uplink, Model, Window};
 use feedback_tests::plain::{
-    plain_answered, plain_claims, plain_inverse, plain_make, plain_reading, plain_replay,
-    plain_resource, plain_trace_write, plain_window,
+    plain_answered, plain_inverse, plain_make, plain_reading, plain_replay, plain_resource,
+    plain_trace_write, plain_window,
 };
 use feedback_tests::random::Random;
 use feedback_tests::trace::{Trace, LONGEST, WINDOW};
 use feedback_tests::{
-    AnsweredAnswer, Block, ClaimsAnswer, Fed, Grant, Handset, Heard, ReadingAnswer, Release,
-    ReplayAnswer, Settings, WindowAnswer, WriteAnswer, NOT_TOLD,
+    AnsweredAnswer, Block, Fed, Grant, Handset, Heard, ReadingAnswer, Release, ReplayAnswer,
+    Settings, WindowAnswer, WriteAnswer, NOT_TOLD,
 };
 use std::hint::black_box;
 use std::time::Instant;
@@ -87,10 +88,11 @@ do so less.
 The numbers are allowed ones over all configurations, bandwidths, modes and blocks.
 The feeds are those of {RUNS} runs of 20 frames: a grant in seven of ten downlink
 subframes, one in twenty of them lost, nine of ten blocks decoded. A feed checks
-the whole state that it is lent, and a list of claims clears its scratch. With a
-schedule one subframe of each window has a scheduled block, every other time, and
-one PDCCH in eight is a release. Special subframes carry data, but for the cells
-called short: there they bring nothing or a release.
+the whole state that it is lent, and a list of claims clears its scratch: as many bytes
+as there are resources, or as many bits. With a schedule one subframe of each window
+has a scheduled block, every other time, and one PDCCH in eight is a release. Special
+subframes carry data, but for the cells called short: there they bring nothing or a
+release.
 
 The traces are of configuration 2 with two blocks and a schedule, with grants, scheduled
 blocks, releases and nothing in the downlink, and good to the end. In plain Rust a
@@ -336,16 +338,18 @@ fn feeds_of(model: &Model, run: &Run) -> Vec<Feed> {
 
 fn claims(model: &Model, random: &mut Random) {
     let cells: Vec<List> = (0..INPUTS / 8).map(|_| list_of_ten(model, random)).collect();
-    claims_row("claims, list of 10", &cells);
     let widest = Settings::plain(5, 110, 10, 0, 1);
     let window = model.window(5, 2).expect("a window");
     let of_widest = |claims| List { settings: widest, n: 2, claims };
     let thousands: Vec<List> =
         (0..8).map(|_| of_widest(distinct(widest, window, 1000, random))).collect();
-    claims_row("claims, list of 1,000", &thousands);
     let all = distinct(widest, window, 1206, random);
-    let many = all.into_iter().cycle().take(100_000).collect();
-    claims_row("claims, list of 100,000, of which 1,206 differ", &[of_widest(many)]);
+    let many = [of_widest(all.into_iter().cycle().take(100_000).collect())];
+    for (name, form) in [("claims", Form::Bytes), ("claims by bits", Form::Bits)] {
+        claims_row(&format!("{name}, list of 10"), form, &cells);
+        claims_row(&format!("{name}, list of 1,000"), form, &thousands);
+        claims_row(&format!("{name}, list of 100,000, of which 1,206 differ"), form, &many);
+    }
 }
 
 /// A clean list of ten claims for a window of a cell of 3 MHz or more.
@@ -358,25 +362,23 @@ fn list_of_ten(model: &Model, random: &mut Random) -> List {
 
 /// Some of the allowed claims of a window, each once, in random order.
 fn distinct(settings: Settings, window: &Window, length: usize, random: &mut Random) -> Vec<u16> {
-    let cces = edge(settings.nrb, 4);
-    let at = |m: u16| (0..cces).map(move |cce| m * 256 + cce);
-    let mut claims: Vec<u16> = (0..window.size()).flat_map(at).collect();
-    for end in (1..claims.len()).rev() {
-        claims.swap(end, random.below(end + 1));
-    }
+    let mut claims = every::claim(window.size(), edge(settings.nrb, 4));
+    random.shuffle(&mut claims);
     claims.truncate(length);
     claims
 }
 
-fn claims_row(name: &str, lists: &[List]) {
+/// Each form has the scratch that the widest window needs.
+fn claims_row(name: &str, form: Form, lists: &[List]) {
     let number = lists.iter().map(|list| list.claims.len()).sum();
     let (mut our_scratch, mut plain_scratch) = ([0; 1206], [0; 1206]);
+    let room = form.need(1206);
     row(
         name,
         lists,
         number,
-        |list| engine_claims(list, &mut our_scratch),
-        |list| plain_rust_claims(list, &mut plain_scratch),
+        |list| judged(list, &mut our_scratch[..room], form.call()),
+        |list| judged(list, &mut plain_scratch[..room], form.plain_call()),
     );
 }
 
@@ -602,23 +604,12 @@ fn whole_run(run: &Run, mut handset: Handset, feed: impl Fn(Handset, Heard) -> F
     sum
 }
 
-fn engine_claims(list: &List, scratch: &mut [u8]) -> u64 {
+#[inline(always)]
+fn judged(list: &List, scratch: &mut [u8], call: OnClaims) -> u64 {
     let (claims, count) = (list.claims.as_ptr(), list.claims.len());
     let (marks, room) = (scratch.as_mut_ptr(), scratch.len());
     // SAFETY: list and scratch are lent with their lengths and do not overlap.
-    let answer = unsafe { feedback_claims(list.settings, list.n, claims, count, marks, room) };
-    claims_sum(answer)
-}
-
-fn plain_rust_claims(list: &List, scratch: &mut [u8]) -> u64 {
-    let (claims, count) = (list.claims.as_ptr(), list.claims.len());
-    let (marks, room) = (scratch.as_mut_ptr(), scratch.len());
-    // SAFETY: list and scratch are lent with their lengths and do not overlap.
-    let answer = unsafe { plain_claims(list.settings, list.n, claims, count, marks, room) };
-    claims_sum(answer)
-}
-
-fn claims_sum(answer: ClaimsAnswer) -> u64 {
+    let answer = unsafe { call(list.settings, list.n, claims, count, marks, room) };
     u64::from(answer.kind) << 32 | answer.index
 }
 

@@ -2,7 +2,10 @@
 
 use super::{bundles, first_met, is_short, Layout, Model, Symbol};
 use crate::{ClaimsAnswer, ReadingAnswer, Settings, NONE, NOT_TOLD};
-use std::collections::HashSet;
+use std::collections::{HashMap, HashSet};
+
+/// What each bit of a byte counts, the lowest bit first.
+const WEIGHTS: [u8; 8] = [1, 2, 4, 8, 16, 32, 64, 128];
 
 impl Model {
     pub fn reading(
@@ -90,6 +93,42 @@ impl Model {
         let before: HashSet<&u16> = claims[..clash.unwrap_or(claims.len())].iter().collect();
         let marks = numbers.iter().map(|number| u8::from(before.contains(number)));
         let left = marks.chain(scratch[pairs.len()..].iter().copied()).collect();
+        (clash.map_or(ClaimsAnswer::CLEAN, ClaimsAnswer::clash), left)
+    }
+
+    /// The same with a bit of the scratch for each resource. Here the resources of the
+    /// claims are taken one after another, until one is taken already; the bytes are made
+    /// afterwards, of eight resources each and the last of those that are left over.
+    pub fn claims_bits(
+        &self,
+        settings: Settings,
+        n: u16,
+        claims: &[u16],
+        scratch: &[u8],
+    ) -> (ClaimsAnswer, Vec<u8>) {
+        let kept = scratch.to_vec();
+        let Layout(pairs) = match self.layout(settings, n) {
+            Err(refusal) => return (ClaimsAnswer::refused(refusal, 0), kept),
+            Ok(layout) => layout,
+        };
+        let places: Vec<usize> = (0..pairs.len()).collect();
+        let eights: Vec<&[usize]> = places.chunks(8).collect();
+        if scratch.len() < eights.len() {
+            return (ClaimsAnswer::refused(15, 0), kept);
+        }
+        let numbers = pairs.iter().map(|(m, cce)| m * 256 + cce);
+        let place_of: HashMap<u16, usize> = numbers.zip(places.iter().copied()).collect();
+        if let Some(index) = claims.iter().position(|claim| !place_of.contains_key(claim)) {
+            return (ClaimsAnswer::refused(16, index), kept);
+        }
+        let mut taken = HashSet::new();
+        let clash = claims.iter().position(|claim| !taken.insert(place_of[claim]));
+        let byte = |eight: &[usize]| -> u8 {
+            let weighed = eight.iter().zip(WEIGHTS).filter(|(place, _)| taken.contains(*place));
+            weighed.map(|(_, weight)| weight).sum()
+        };
+        let marks = eights.iter().map(|eight| byte(eight));
+        let left = marks.chain(scratch[eights.len()..].iter().copied()).collect();
         (clash.map_or(ClaimsAnswer::CLEAN, ClaimsAnswer::clash), left)
     }
 }

@@ -82,11 +82,27 @@ pub unsafe extern "C" fn plain_claims(
     // SAFETY: the caller lends both for as long as the call lasts.
     let (claims, scratch) =
         unsafe { (slice::from_raw_parts(claims, count), slice::from_raw_parts_mut(scratch, room)) };
-    match judge(&settings, n, claims, scratch) {
-        Ok(None) => ClaimsAnswer::CLEAN,
-        Ok(Some(index)) => ClaimsAnswer::clash(index),
-        Err((refusal, index)) => ClaimsAnswer::refused(refusal, index),
-    }
+    answer(in_bytes(&settings, n, claims, scratch))
+}
+
+/// The same with a bit of the scratch for each resource.
+///
+/// # Safety
+///
+/// As for the bytes.
+#[inline(never)]
+pub unsafe extern "C" fn plain_claims_bits(
+    settings: Settings,
+    n: u16,
+    claims: *const u16,
+    count: usize,
+    scratch: *mut u8,
+    room: usize,
+) -> ClaimsAnswer {
+    // SAFETY: the caller lends both for as long as the call lasts.
+    let (claims, scratch) =
+        unsafe { (slice::from_raw_parts(claims, count), slice::from_raw_parts_mut(scratch, room)) };
+    answer(in_bits(&settings, n, claims, scratch))
 }
 
 fn reading(
@@ -147,32 +163,78 @@ fn meaning(
 }
 
 /// The index of the first clash, if there is one, or a refusal and its index.
-fn judge(
-    settings: &Settings,
-    n: u16,
-    claims: &[u16],
-    scratch: &mut [u8],
-) -> Result<Option<usize>, (u16, usize)> {
-    let without_index = |refusal| (refusal, 0);
-    check(settings).map_err(without_index)?;
-    let size = window_size(settings.config, n).map_err(without_index)?;
-    let edges = [0, 8, 20, 32, 44].map(|twelfths| settings.nrb * twelfths / 36);
-    let cces = edges[4];
-    let marks = scratch.get_mut(..usize::from(size * cces)).ok_or((15, 0))?;
-    let is_bad = |claim: &u16| claim >> 8 >= size || claim & 255 >= cces;
-    if let Some(index) = claims.iter().position(is_bad) {
-        return Err((16, index));
+type Judged = Result<Option<usize>, (u16, usize)>;
+
+fn answer(judged: Judged) -> ClaimsAnswer {
+    match judged {
+        Ok(None) => ClaimsAnswer::CLEAN,
+        Ok(Some(index)) => ClaimsAnswer::clash(index),
+        Err((refusal, index)) => ClaimsAnswer::refused(refusal, index),
     }
+}
+
+fn in_bytes(settings: &Settings, n: u16, claims: &[u16], scratch: &mut [u8]) -> Judged {
+    let places = Places::of(settings, n)?;
+    let marks = scratch.get_mut(..places.number()).ok_or((15, 0))?;
+    places.check(claims)?;
     marks.fill(0);
-    for (index, claim) in claims.iter().enumerate() {
-        let (position, cce) = (claim >> 8, claim & 255);
-        let p = edges[1..4].iter().filter(|edge| cce >= **edge).count();
-        let place = (size - position - 1) * edges[p] + position * edges[p + 1] + cce;
-        let mark = &mut marks[usize::from(place)];
-        if *mark == 1 {
-            return Ok(Some(index));
-        }
+    let is_taken = |claim: &u16| {
+        let mark = &mut marks[places.place(*claim)];
+        let was_taken = *mark == 1;
         *mark = 1;
+        was_taken
+    };
+    Ok(claims.iter().position(is_taken))
+}
+
+fn in_bits(settings: &Settings, n: u16, claims: &[u16], scratch: &mut [u8]) -> Judged {
+    let places = Places::of(settings, n)?;
+    let marks = scratch.get_mut(..places.number().div_ceil(8)).ok_or((15, 0))?;
+    places.check(claims)?;
+    marks.fill(0);
+    let is_taken = |claim: &u16| {
+        let place = places.place(*claim);
+        let (mark, bit) = (&mut marks[place >> 3], 1 << (place & 7));
+        let was_taken = *mark & bit != 0;
+        *mark |= bit;
+        was_taken
+    };
+    Ok(claims.iter().position(is_taken))
+}
+
+/// Where the resources of a window lie above N1.
+struct Places {
+    size: u16,
+    edges: [u16; 5],
+}
+
+impl Places {
+    #[inline(always)]
+    fn of(settings: &Settings, n: u16) -> Result<Self, (u16, usize)> {
+        let without_index = |refusal| (refusal, 0);
+        check(settings).map_err(without_index)?;
+        let size = window_size(settings.config, n).map_err(without_index)?;
+        let edges = [0, 8, 20, 32, 44].map(|twelfths| settings.nrb * twelfths / 36);
+        Ok(Self { size, edges })
     }
-    Ok(None)
+
+    #[inline(always)]
+    fn number(&self) -> usize {
+        usize::from(self.size * self.edges[4])
+    }
+
+    /// No claim of the list is bad.
+    #[inline(always)]
+    fn check(&self, claims: &[u16]) -> Result<(), (u16, usize)> {
+        let (size, cces) = (self.size, self.edges[4]);
+        let is_bad = |claim: &u16| claim >> 8 >= size || claim & 255 >= cces;
+        claims.iter().position(is_bad).map_or(Ok(()), |index| Err((16, index)))
+    }
+
+    #[inline(always)]
+    fn place(&self, claim: u16) -> usize {
+        let (position, cce) = (claim >> 8, claim & 255);
+        let p = self.edges[1..4].iter().filter(|edge| cce >= **edge).count();
+        usize::from((self.size - position - 1) * self.edges[p] + position * self.edges[p + 1] + cce)
+    }
 }
