@@ -187,8 +187,8 @@
  *             feedback_resource       64
  *             feedback_inverse        64
  *             feedback_reading        512
- *             feedback_claims         256
- *             feedback_claims_bits    256
+ *             feedback_claims         128
+ *             feedback_claims_bits    128
  *             feedback_make           128
  *             feedback_feed_nothing   1024
  *             feedback_feed_grant     1024
@@ -293,7 +293,8 @@ enum feedback_refusal {
     FEEDBACK_REFUSED_BITS = 14,         /* bit over 1, second bit set in a one-bit reply, or a
                                            symbol in no row of Tables 10.1-2 to 10.1-4 */
     FEEDBACK_REFUSED_SCRATCH = 15,      /* scratch shorter than M * N_4 bytes; in
-                                           feedback_claims_bits than (M * N_4 + 7) / 8 */
+                                           feedback_claims_bits shorter than
+                                           (M * N_4 + 7) / 8 bytes, rounded down */
     FEEDBACK_REFUSED_CLAIM = 16,        /* claim with m not below M or CCE not below N_4 */
     FEEDBACK_REFUSED_SCHEDULED_RESOURCE = 17, /* scheduled resource set and not below N1 */
     FEEDBACK_REFUSED_SCHEDULED = 18,    /* scheduled block with no scheduled resource set, or a
@@ -712,7 +713,8 @@ struct feedback_reading_answer feedback_reading(struct feedback_settings setting
  * be NULL; with any other length NULL is an error that no refusal catches, as is
  * a length beyond the memory lent. The two must not overlap, and nothing else may
  * write either during the call. Where they overlap all the same, the answer and the
- * marks may be wrong, but nothing is written outside of the scratch that is asked for.
+ * marks may be wrong, and the list is written where it lies in the scratch, but nothing
+ * outside of the scratch that is asked for.
  */
 FEEDBACK_MUST_USE
 struct feedback_claims_answer feedback_claims(struct feedback_settings settings, uint16_t n,
@@ -731,17 +733,17 @@ struct feedback_claims_answer feedback_claims(struct feedback_settings settings,
  *              (FEEDBACK_BIT_SCRATCH_MOST are always enough)
  *   room       the number of bytes lent in scratch
  *
- * For every list the answer is the one that feedback_claims gives with enough scratch of
- * its own: clean, or a clash with the same index, or the same refusal.
+ * For every list and every room the answer is the one that feedback_claims gives with
+ * 8 * room bytes: clean, or a clash with the same index, or the same refusal.
  *
  * Afterwards bit t modulo 8 (value 1 << t % 8) of byte t / 8 of scratch, t below
- * M * N_4, is 1 if t + N1 is the resource of a claim before that index (of any claim,
- * when clean), else 0. The bits of the last byte that are left over, from M * N_4 on, are
- * 0. Bytes from (M * N_4 + 7) / 8 on keep their values. What scratch held before does not
+ * M * N_4, is 1 if t + N1 is the resource of a claim before the clash (of any claim, when
+ * clean), else 0. The bits of the last byte that are left over, from M * N_4 on, are 0.
+ * Bytes from (M * N_4 + 7) / 8 on keep their values. What scratch held before does not
  * matter.
  *
  * Refuses 1 to 6, 17, 19, 7, 15 and 16 as feedback_claims does, but 15 means that room is
- * below (M * N_4 + 7) / 8. If refused, all of scratch is as it was.
+ * below (M * N_4 + 7) / 8, rounded down. If refused, all of scratch is as it was.
  *
  * Of lengths of 0, NULL and memory that overlaps the same holds as for feedback_claims.
  */

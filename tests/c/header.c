@@ -1770,7 +1770,7 @@ static void all_texts(void)
         "10: the blocks",       "11: the first CCE",
         "12: the DAI",          "13: the PUCCH resource",
         "14: the bits",
-        "15: the scratch is shorter than M * N_4 bytes, for feedback_claims_bits than as many bits",
+        "15: the scratch is shorter than M * N_4 bytes, or in feedback_claims_bits",
         "16: a claim",          "17: the resource set for scheduled blocks",
         "18: a scheduled block", "19: the prefix or the special subframe configuration",
         "20: a grant or scheduled block in a special subframe",

@@ -8,7 +8,6 @@ pub mod Marks
 pub mod Offsets
 pub mod Packed
 pub mod Read
-pub mod Refusals
 pub mod Share
 pub mod Turn
 pub mod Worked

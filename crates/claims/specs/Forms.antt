@@ -34,9 +34,10 @@ Answered Clean = Unit
 Answered (Clash i) = Unit
 Answered (Refused k i) = ⊥
 
--- The call of the bit form: on a refusal every byte is as it was; else each bit is what 02 says, and nothing else is.
+-- The call of the bit form: on a refusal every byte is as it was; else each bit is what 02 says, and no other scratch is so.
 pub record BitForm : Type 0 where
-  pub refused : (s : Settings) (n : ℕ) (claims old : List ℕ) (k i : ℕ) → bitCheckedOf s n claims (length old) ≡ Refused k i → bitScratchOf s n claims old ≡ old
+  pub refused : (s : Settings) (n : ℕ) (claims old : List ℕ) (k i : ℕ) → bitCheckedOf s n claims (length old) ≡ Refused k i
+      → bitScratchOf s n claims old ≡ old
   pub answered : (s : Settings) (n : ℕ) (claims old : List ℕ) → Answered (bitCheckedOf s n claims (length old))
       → BitByBit s n claims old (bitScratchOf s n claims old) (firstClash s n claims)
   pub only : (s : Settings) (n : ℕ) (claims old new : List ℕ) → Answered (bitCheckedOf s n claims (length old))
@@ -49,13 +50,15 @@ pub record FormsAgree : Type 0 where
   pub answers : (s : Settings) (n : ℕ) (claims : List ℕ) (lent bitLent : ℕ) → roomOf s n ≤ lent → bitRoomOf s n ≤ bitLent
       → bitCheckedOf s n claims bitLent ≡ checkedOf s n claims lent
   -- with any scratch the bits are answered as the bytes are with eight times as much, 15 included
-  pub eightfold : (s : Settings) (n : ℕ) (claims : List ℕ) (lent : ℕ) → bitCheckedOf s n claims lent ≡ checkedOf s n claims (8 * lent)
+  pub eightfold : (s : Settings) (n : ℕ) (claims : List ℕ) (lent : ℕ)
+      → bitCheckedOf s n claims lent ≡ checkedOf s n claims (8 * lent)
   -- and alike with any two where settings or subframe are refused
   pub refused : (s : Settings) (n : ℕ) (claims : List ℕ) (lent bitLent : ℕ) → (windowRefusal s n ≡ 0 → ⊥)
       → bitCheckedOf s n claims bitLent ≡ checkedOf s n claims lent
   -- where both answer, bit t of the one scratch is byte t of the other
-  pub marks : (s : Settings) (n : ℕ) (claims old bitOld : List ℕ) → Answered (checkedOf s n claims (length old)) → Answered (bitCheckedOf s n claims (length bitOld))
-      → (t : ℕ) → t < roomOf s n → bitAt (bitScratchOf s n claims bitOld) t ≡ getD (scratchOf s n claims old) t 0
-  -- the scratch is an eighth, rounded up to whole bytes, and never more than 151 bytes where the byte form takes 1,206
+  pub marks : (s : Settings) (n : ℕ) (claims old bitOld : List ℕ) → Answered (checkedOf s n claims (length old))
+      → Answered (bitCheckedOf s n claims (length bitOld)) → (t : ℕ) → t < roomOf s n
+      → bitAt (bitScratchOf s n claims bitOld) t ≡ getD (scratchOf s n claims old) t 0
+  -- the scratch is an eighth, rounded up to whole bytes: at most 151 bytes, where the byte form asks for at most 1,206
   pub eighth : (s : Settings) (n : ℕ) → (roomOf s n ≤ 8 * bitRoomOf s n) × (8 * bitRoomOf s n < roomOf s n + 8)
   pub most : (s : Settings) (n : ℕ) → windowRefusal s n ≡ 0 → (roomOf s n ≤ 1206) × (bitRoomOf s n ≤ 151)

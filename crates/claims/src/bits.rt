@@ -1,8 +1,9 @@
 // Claims of a cell with an eighth of the scratch: a bit for each resource (document 02, U6).
 use crate::Checked;
 use crate::ClaimedWindow;
+use crate::clear;
+use crate::first_bad;
 use crate::offset_of;
-use crate::prepare;
 use crate::told;
 use crate::window_in;
 use frame::Settings;
@@ -18,11 +19,20 @@ pub fn claims_in_bits(s: Settings, n: u16, claims: &[u16], scratch: &mut [u8]) -
     ensures { λ r. ⌜ r ≡ bitCheckedOf s n (now (claims .entry)) (length (now (scratch .entry))) ⌝ }
     ensures { λ _. ⌜ now (scratch .exit) ≡ bitScratchOf s n (now (claims .entry)) (now (scratch .entry)) ⌝ }
 {
-    let w = window_in(s, n);
-    let refusal = prepare(w, claims, (w.marks + 7) / 8, scratch);
-    if refusal.number != 0 {
-        return Checked::Refused(refusal.number, refusal.index);
+    let refusal = frame::window_refusal(s, n);
+    if refusal != 0 {
+        return Checked::Refused(refusal, 0);
     }
+    let w = window_in(s, n);
+    let room = (w.marks + 7) / 8;
+    if scratch.len() < room {
+        return Checked::Refused(15, 0);
+    }
+    let bad = first_bad(w, claims);
+    if bad < claims.len() {
+        return Checked::Refused(16, bad);
+    }
+    clear(&mut scratch[..room]);
     told(mark_bits(w, claims, scratch), claims.len())
 }
 

@@ -10,9 +10,10 @@ ghost use mathlib.Core.Path.{_≡_};
 ghost use mathlib.Core.Bool.{cond};
 ghost use lib.Dec.{ltb};
 ghost use lib.ListN.{length, replicate};
+ghost use Rattle.frame.specs.Settings.{windowRefusal};
 ghost use Rattle.claims.specs.declared.Checked.the-variants.{Clean, Clash};
 ghost use Rattle.claims.specs.Claims.{roomOf, isBad, firstBad, firstClash, markedUpTo, checkedOf, scratchOf};
-ghost use Rattle.claims.specs.Marking.{windowIn, AcceptedWindow, refusalOf, clearedFor, Ready, Offset};
+ghost use Rattle.claims.specs.Marking.{windowIn, AcceptedWindow, Ready, Offset};
 
 // The answer: clean; the index of the first claim equal to an earlier one; or a refusal's number with an index, that of the first
 // bad claim for 16, else 0.
@@ -31,28 +32,32 @@ struct ClaimedWindow {
     marks: usize,
 }
 
-// A refusal's number, 0 for none, and for 16 the index of the first bad claim, else 0.
-struct Refusal {
-    number: u16,
-    index: usize,
-}
-
 // The answer to the claims of uplink subframe n. Unless it is a refusal, the scratch then holds the marks of the claims before
 // the clash, of all claims where there is none: a byte for each resource.
 pub fn claims_of(s: Settings, n: u16, claims: &[u16], scratch: &mut [u8]) -> Checked
     ensures { λ r. ⌜ r ≡ checkedOf s n (now (claims .entry)) (length (now (scratch .entry))) ⌝ }
     ensures { λ _. ⌜ now (scratch .exit) ≡ scratchOf s n (now (claims .entry)) (now (scratch .entry)) ⌝ }
 {
-    let w = window_in(s, n);
-    let refusal = prepare(w, claims, w.marks, scratch);
-    if refusal.number != 0 {
-        return Checked::Refused(refusal.number, refusal.index);
+    let refusal = frame::window_refusal(s, n);
+    if refusal != 0 {
+        return Checked::Refused(refusal, 0);
     }
+    let w = window_in(s, n);
+    let room = w.marks;
+    if scratch.len() < room {
+        return Checked::Refused(15, 0);
+    }
+    let bad = first_bad(w, claims);
+    if bad < claims.len() {
+        return Checked::Refused(16, bad);
+    }
+    clear(&mut scratch[..room]);
     told(mark(w, claims, scratch), claims.len())
 }
 
-// The window of uplink subframe n. M is 0 where there is none, and N_4 where N_RB is refused. A resource has one mark.
+// The window of uplink subframe n, with a mark for each of its resources.
 fn window_in(s: Settings, n: u16) -> ClaimedWindow
+    requires { ⌜ windowRefusal s n ≡ 0 ⌝ }
     ensures { λ w. ⌜ w ≡ windowIn s n ⌝ }
 {
     let size = frame::size_of(s.config, n);
@@ -64,37 +69,6 @@ fn window_in(s: Settings, n: u16) -> ClaimedWindow
         size,
         top,
         marks,
-    }
-}
-
-// Refuses 1 to 6, 17, 19 and 7, then 15 where fewer than `room` bytes are lent, then 16 for a bad claim anywhere in the list; else
-// clears that room.
-fn prepare(w: ClaimedWindow, claims: &[u16], room: usize, scratch: &mut [u8]) -> Refusal
-    requires { ⌜ w ≡ windowIn (w .s) (w .n) ⌝ }
-    ensures { λ r. ⌜ r ≡ refusalOf (w .s) (w .n) (now (claims .entry)) room (length (now (scratch .entry))) ⌝ }
-    ensures { λ r. ⌜ now (scratch .exit) ≡ clearedFor (r .number) room (now (scratch .entry)) ⌝ }
-{
-    let number = frame::window_refusal(w.s, w.n);
-    if number != 0 {
-        return Refusal { number, index: 0 };
-    }
-    if scratch.len() < room {
-        return Refusal {
-            number: 15,
-            index: 0,
-        };
-    }
-    let bad = first_bad(w, claims);
-    if bad < claims.len() {
-        return Refusal {
-            number: 16,
-            index: bad,
-        };
-    }
-    clear(&mut scratch[..room]);
-    Refusal {
-        number: 0,
-        index: 0,
     }
 }
 

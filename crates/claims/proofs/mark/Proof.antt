@@ -1,33 +1,30 @@
 -- `claims::mark` meets its contract. The loop's invariant: no claim before i clashes with an earlier one, and the scratch has the marks
 -- of the claims before i. The measure is the claims left. Assumes nothing.
-use Prim.Native.Nat.{ℕ, _-_, _≤_, _<_}
-use mathlib.Core.Bool.{false}
-use mathlib.Core.Path.{_≡_, refl}
-use native.Mathlib.Numerals.{add-one}
+use Prim.Native.Nat.{_-_}
+use mathlib.Core.Path.{refl}
 use native.Mathlib.Omega.{arith}
-use lib.ListN.{length, getD, length-set}
-use borrow.Author.Count.{below-more}
+use lib.ListN.{length}
 use borrow.Author.Needs.{needs}
-use Rattle.claims.specs.Claims.{earlier, firstClash, markedUpTo}
-use Rattle.claims.proofs.First.{first-found, first-none}
+use Rattle.claims.specs.Claims.{markedUpTo}
 use Rattle.claims.proofs.Marks.{none-marked}
-use Rattle.claims.proofs.Turn.{earlier-if-set, new-if-clear, byte-read, byte-set}
+use Rattle.claims.proofs.Turn.{Before, ended, byte-clash, byte-turn}
 use Rattle.claims.proofs.mark.Statement.{statement}
 use Rattle.claims.proofs.mark.Tie as tie
 
 abbrev Inv-loop : tie.InvT-loop
-Inv-loop w claims scratch₀ i₀ scratch i =
-    (i ≤ length claims)
-    × ((k : ℕ) → k < i → earlier (w .s) (w .n) claims k (getD claims k 0) ≡ false)
-    × (length scratch ≡ length scratch₀)
-    × (scratch ≡ markedUpTo (w .s) (w .n) claims scratch₀ i)
+Inv-loop w claims scratch₀ i₀ scratch i = Before markedUpTo w claims scratch₀ scratch i
 
 abbrev μ-loop : tie.MeasureT-loop
 μ-loop w claims scratch₀ i₀ scratch i = length claims - i
 
 loop-holds : tie.Need-loop-holds Inv-loop μ-loop
 loop-holds c =
-    (omega arith, λ k h. absurd (omega arith), refl, none-marked _ _ _ _ (c .before .before .pre .cleared))
+    record {
+      most = omega arith;
+      apart = λ k h. absurd (omega arith);
+      long = refl;
+      marks = none-marked _ _ _ _ (c .before .before .pre .cleared);
+    }
 
 mul-claim : tie.Need-mul-claim Inv-loop μ-loop
 mul-claim c = omega arith
@@ -42,20 +39,13 @@ slice-read-if1 : tie.Need-slice-read-if1 Inv-loop μ-loop
 slice-read-if1 c = omega arith
 
 same-length : tie.Need-same-length Inv-loop μ-loop
-same-length c = c .before .before .before .before .before .loop .inv .2
+same-length c = c .before .before .before .before .before .loop .inv .long
 
 returns : tie.Need-returns Inv-loop μ-loop
-unfolding firstClash
 returns c =
     let b = c .before .before in
     let l = b .before .before .before in
-    let h = b .before .before .loop-test .taken in
-    let ready = l .before .before .before .pre in (
-      first-found _ _ _ (l .loop .inv .1) h
-          (earlier-if-set _ _ _ _ ready _ _ h (b .offset-of .ensures) _
-          (byte-read _ _ _ ready _ _ h (b .offset-of .ensures) _ (l .loop .inv .3)) (c .if1 .taken)),
-      l .loop .inv .3,
-    )
+    byte-clash _ _ _ (l .before .before .before .pre) _ _ (l .loop .inv) (b .before .before .loop-test .taken) _ (b .offset-of .ensures) (c .if1 .taken)
 
 slice-write-scratch : tie.Need-slice-write-scratch Inv-loop μ-loop
 slice-write-scratch c = omega arith
@@ -70,24 +60,13 @@ loop-again : tie.Need-loop-again Inv-loop μ-loop
 loop-again c =
     let b = c .before .before in
     let l = b .before .before .before in
-    let h = b .before .before .loop-test .taken in
-    let ready = l .before .before .before .pre in (
-      omega arith,
-      below-more _ _ (l .loop .inv .1)
-          (new-if-clear _ _ _ _ ready _ _ h (b .offset-of .ensures) _
-          (byte-read _ _ _ ready _ _ h (b .offset-of .ensures) _ (l .loop .inv .3)) (c .if1 .left)),
-      simp length-set (l .loop .inv .2),
-      rw add-one (byte-set _ _ _ ready _ _ h (b .offset-of .ensures) _ (l .loop .inv .3)),
-    )
+    byte-turn _ _ _ (l .before .before .before .pre) _ _ (l .loop .inv) (b .before .before .loop-test .taken) _ (b .offset-of .ensures) (c .if1 .left)
 
 same-length-2 : tie.Need-same-length-2 Inv-loop μ-loop
-same-length-2 c = c .before .loop .inv .2
+same-length-2 c = c .before .loop .inv .long
 
 returns-2 : tie.Need-returns-2 Inv-loop μ-loop
-unfolding firstClash
-returns-2 c =
-    let l = c .before .loop in
-    (first-none _ _ _ (l .inv .1) (l .inv .0) (c .loop-test .left), l .inv .3)
+returns-2 c = ended _ _ _ _ _ _ (c .before .loop .inv) (c .loop-test .left)
 
 pub mark-spec : {M : Type 1} → statement M
 mark-spec =

@@ -1,65 +1,106 @@
--- `claims::bits::claims_in_bits` meets its contract: a refusal, with the scratch as it was, or the first clash, or clean. Assumes nothing.
+-- `claims::bits::claims_in_bits` meets its contract: 1 to 6, 17, 19, 7, 15 and 16, with the scratch as it was, then the first clash, or clean.
+-- Assumes nothing.
+use mathlib.Core.Path.{_≡_, sym, _∙_}
 use native.Mathlib.Omega.{arith}
+use lib.Seq.{length-take-le}
 use borrow.Author.Needs.{needs}
+use Rattle.frame.specs.Settings.{windowRefusal}
 use Rattle.claims.specs.Bits.{bitRoomOf, bitMarkedUpTo, bitScratchOf}
-use Rattle.claims.proofs.Checks.{refused, ready, answered}
+use Rattle.claims.proofs.Checks.{refused, short, bad-claim, ready, answered}
 use Rattle.claims.proofs.BitMarks.{kept}
-use Rattle.claims.proofs.Read.{room-most, bit-room}
+use Rattle.claims.proofs.Read.{window-read, bit-room, marks-most}
 use Rattle.claims.proofs.bits.claims_in_bits.Statement.{statement}
 use Rattle.claims.proofs.bits.claims_in_bits.Tie as tie
 
-window-in-requires : tie.Need-window-in-requires
-window-in-requires c κs = search needs
-
-add-prepare : tie.Need-add-prepare
-add-prepare c = omega (arith, room-most _ _ _ (c .before .window-in .ensures))
-
-prepare-requires : tie.Need-prepare-requires
-prepare-requires c κs = rw (c .before .before .window-in .ensures)
-
-same-length : tie.Need-same-length
-same-length c = search needs
+window-refusal-requires : tie.Need-window-refusal-requires
+window-refusal-requires c κs = search needs
 
 returns : tie.Need-returns
 unfolding bitScratchOf
-returns c =
-    let p = c .before .before .before .before in
-    let e = p .before .before .before .window-in .ensures in
-    refused bitRoomOf bitMarkedUpTo kept _ _ _ _ _ e _ (bit-room _ _ _ e) _ (p .prepare .ensures .0) _ (p .prepare .ensures .1) (c .if1 .taken)
+returns c = refused bitRoomOf bitMarkedUpTo _ _ _ _ _ (c .before .window-refusal .ensures) (c .if1 .taken)
 
-mark-bits-requires : tie.Need-mark-bits-requires
-mark-bits-requires c κs =
-    let i = c .before in
-    let p = i .before .before .before .before in
-    let e = p .before .before .before .window-in .ensures in
-    ready bitRoomOf bitMarkedUpTo kept _ _ _ _ _ e _ (bit-room _ _ _ e) _ (p .prepare .ensures .0) _ (p .prepare .ensures .1) (i .if1 .left)
+window-in-requires : tie.Need-window-in-requires
+window-in-requires c κs = sym (c .before .window-refusal .ensures) ∙ c .if1 .left
 
-told-requires : tie.Need-told-requires
-told-requires c κs = search needs
+-- nothing is refused before the scratch
+accepted : (c : tie.After-window-in) →
+    let a = c .before .before .before .before .before .args in
+    windowRefusal (a .s) (a .n) ≡ 0
+accepted c = sym (c .before .before .window-refusal .ensures) ∙ c .before .if1 .left
 
-same-length-2 : tie.Need-same-length-2
-same-length-2 c = search needs
+add-room : tie.Need-add-room
+add-room c = omega (arith, marks-most _ _ (accepted (c .before)) _ (c .before .window-in .ensures))
 
 returns-2 : tie.Need-returns-2
 unfolding bitScratchOf
 returns-2 c =
+    let w = c .before .before in
+    let e = w .window-in .ensures in
+    short bitRoomOf bitMarkedUpTo _ _ _ _ (accepted w) _ e _ (bit-room _ _ (accepted w) _ e) (c .if2 .taken)
+
+first-bad-requires : tie.Need-first-bad-requires
+first-bad-requires c κs = let w = c .before .before in window-read _ _ (accepted w) _ (w .window-in .ensures)
+
+returns-3 : tie.Need-returns-3
+unfolding bitScratchOf
+returns-3 c =
+    let d = c .before .before in
+    let w = d .before .before in
+    let e = w .window-in .ensures in
+    bad-claim bitRoomOf bitMarkedUpTo _ _ _ _ (accepted w) _ e _ (bit-room _ _ (accepted w) _ e) (d .if2 .left) _ (c .before .first-bad .ensures) (c .if3 .taken)
+
+slice-relend-prefix-clear : tie.Need-slice-relend-prefix-clear
+slice-relend-prefix-clear c = search needs
+
+slice-aggregate-clear : tie.Need-slice-aggregate-clear
+slice-aggregate-clear c = sym (length-take-le _ _ (c .before .before .before .if2 .left))
+
+clear-requires : tie.Need-clear-requires
+clear-requires c κs = search needs
+
+mark-bits-requires : tie.Need-mark-bits-requires
+mark-bits-requires c κs =
+    let k = c .before .before .before in
+    let b = k .before .before in
+    let d = b .before .before in
+    let w = d .before .before in
+    let e = w .window-in .ensures in
+    ready bitRoomOf bitMarkedUpTo _ _ _ _ (accepted w) _ e _ (bit-room _ _ (accepted w) _ e) (d .if2 .left) _ (b .before .first-bad .ensures) (b .if3 .left)
+    _ (k .clear .ensures)
+
+told-requires : tie.Need-told-requires
+told-requires c κs = search needs
+
+same-length : tie.Need-same-length
+same-length c = search needs
+
+returns-4 : tie.Need-returns-4
+unfolding bitScratchOf
+returns-4 c =
     let m = c .before .before .before in
-    let i = m .before .before in
-    let p = i .before .before .before .before in
-    let e = p .before .before .before .window-in .ensures in
-    answered bitRoomOf bitMarkedUpTo kept _ _ _ _ _ e _ (bit-room _ _ _ e) _ (p .prepare .ensures .0) _ (p .prepare .ensures .1) (i .if1 .left)
-    _ (m .mark-bits .ensures .0) _ (m .mark-bits .ensures .1) _ (c .told .ensures)
+    let k = m .before .before .before .before in
+    let b = k .before .before in
+    let d = b .before .before in
+    let w = d .before .before in
+    let e = w .window-in .ensures in
+    answered bitRoomOf bitMarkedUpTo _ _ _ _ (accepted w) _ e _ (bit-room _ _ (accepted w) _ e) (d .if2 .left) _ (b .before .first-bad .ensures) (b .if3 .left)
+    _ (k .clear .ensures) kept _ (m .mark-bits .ensures .0) _ (m .mark-bits .ensures .1) _ (c .told .ensures)
 
 pub claims-in-bits-spec : {M : Type 1} → statement M
 claims-in-bits-spec =
     tie.close
     (tie.spec
-    window-in-requires
-    add-prepare
-    prepare-requires
-    same-length
+    window-refusal-requires
     returns
+    window-in-requires
+    add-room
+    returns-2
+    first-bad-requires
+    returns-3
+    slice-relend-prefix-clear
+    slice-aggregate-clear
+    clear-requires
     mark-bits-requires
     told-requires
-    same-length-2
-    returns-2)
+    same-length
+    returns-4)

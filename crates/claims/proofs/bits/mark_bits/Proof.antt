@@ -1,35 +1,31 @@
 -- `claims::bits::mark_bits` meets its contract. The loop's invariant: no claim before i clashes with an earlier one, and the scratch has
 -- the marks of the claims before i. The measure is the claims left. Assumes nothing.
-use Prim.Native.Nat.{ℕ, _+_, _-_, _/_, _%_, _^_, _≤_, _<_}
-use mathlib.Core.Bool.{false}
-use mathlib.Core.Path.{_≡_, refl}
-use native.Mathlib.Numerals.{add-one}
+use Prim.Native.Nat.{_+_, _-_, _/_, _%_, _^_, _<_}
+use mathlib.Core.Path.{refl}
 use native.Mathlib.Omega.{arith}
-use lib.ListN.{length, getD, length-set}
-use borrow.Author.Count.{below-more}
+use lib.ListN.{length, getD}
 use borrow.Author.Needs.{needs}
 use Rattle.claims.specs.Bits.{bitMarkedUpTo}
-use Rattle.claims.specs.Claims.{earlier, firstClash}
 use Rattle.claims.proofs.BitMarks.{byte-in-room, none-marked}
-use Rattle.claims.proofs.First.{first-found, first-none}
 use Rattle.claims.proofs.Packed.{sum-below}
-use Rattle.claims.proofs.Turn.{weight, earlier-if-set, new-if-clear, bit-read, bit-set}
+use Rattle.claims.proofs.Turn.{Before, ended, weight, bit-clash, bit-turn}
 use Rattle.claims.proofs.bits.mark_bits.Statement.{statement}
 use Rattle.claims.proofs.bits.mark_bits.Tie as tie
 
 abbrev Inv-loop : tie.InvT-loop
-Inv-loop w claims scratch₀ i₀ scratch i =
-    (i ≤ length claims)
-    × ((k : ℕ) → k < i → earlier (w .s) (w .n) claims k (getD claims k 0) ≡ false)
-    × (length scratch ≡ length scratch₀)
-    × (scratch ≡ bitMarkedUpTo (w .s) (w .n) claims scratch₀ i)
+Inv-loop w claims scratch₀ i₀ scratch i = Before bitMarkedUpTo w claims scratch₀ scratch i
 
 abbrev μ-loop : tie.MeasureT-loop
 μ-loop w claims scratch₀ i₀ scratch i = length claims - i
 
 loop-holds : tie.Need-loop-holds Inv-loop μ-loop
 loop-holds c =
-    (omega arith, λ k h. absurd (omega arith), refl, none-marked _ _ _ _ (c .before .before .pre .cleared))
+    record {
+      most = omega arith;
+      apart = λ k h. absurd (omega arith);
+      long = refl;
+      marks = none-marked _ _ _ _ (c .before .before .pre .cleared);
+    }
 
 mul-claim : tie.Need-mul-claim Inv-loop μ-loop
 mul-claim c = omega arith
@@ -50,20 +46,13 @@ shr-if1 : tie.Need-shr-if1 Inv-loop μ-loop
 shr-if1 c = search needs
 
 same-length : tie.Need-same-length Inv-loop μ-loop
-same-length c = c .before .before .before .before .before .loop .inv .2
+same-length c = c .before .before .before .before .before .loop .inv .long
 
 returns : tie.Need-returns Inv-loop μ-loop
-unfolding firstClash
 returns c =
     let b = c .before .before in
     let l = b .before .before .before in
-    let h = b .before .before .loop-test .taken in
-    let ready = l .before .before .before .pre in (
-      first-found _ _ _ (l .loop .inv .1) h
-          (earlier-if-set _ _ _ _ ready _ _ h (b .offset-of .ensures) _
-          (bit-read _ _ _ ready _ _ h (b .offset-of .ensures) _ (l .loop .inv .3)) (c .if1 .taken)),
-      l .loop .inv .3,
-    )
+    bit-clash _ _ _ (l .before .before .before .pre) _ _ (l .loop .inv) (b .before .before .loop-test .taken) _ (b .offset-of .ensures) (c .if1 .taken)
 
 cast-scratch : tie.Need-cast-scratch Inv-loop μ-loop
 cast-scratch c = search needs
@@ -91,24 +80,13 @@ loop-again : tie.Need-loop-again Inv-loop μ-loop
 loop-again c =
     let b = c .before .before in
     let l = b .before .before .before in
-    let h = b .before .before .loop-test .taken in
-    let ready = l .before .before .before .pre in (
-      omega arith,
-      below-more _ _ (l .loop .inv .1)
-          (new-if-clear _ _ _ _ ready _ _ h (b .offset-of .ensures) _
-          (bit-read _ _ _ ready _ _ h (b .offset-of .ensures) _ (l .loop .inv .3)) (c .if1 .left)),
-      simp length-set (l .loop .inv .2),
-      rw add-one (bit-set _ _ _ ready _ _ h (b .offset-of .ensures) _ (l .loop .inv .3) (c .if1 .left)),
-    )
+    bit-turn _ _ _ (l .before .before .before .pre) _ _ (l .loop .inv) (b .before .before .loop-test .taken) _ (b .offset-of .ensures) (c .if1 .left)
 
 same-length-2 : tie.Need-same-length-2 Inv-loop μ-loop
-same-length-2 c = c .before .loop .inv .2
+same-length-2 c = c .before .loop .inv .long
 
 returns-2 : tie.Need-returns-2 Inv-loop μ-loop
-unfolding firstClash
-returns-2 c =
-    let l = c .before .loop in
-    (first-none _ _ _ (l .inv .1) (l .inv .0) (c .loop-test .left), l .inv .3)
+returns-2 c = ended _ _ _ _ _ _ (c .before .loop .inv) (c .loop-test .left)
 
 pub mark-bits-spec : {M : Type 1} → statement M
 mark-bits-spec =
