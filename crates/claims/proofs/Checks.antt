@@ -1,11 +1,9 @@
 -- The answers that the code gives in a form of the scratch, each with what it leaves there, from what the code knows.
 -- Assumes nothing.
 use Prim.Native.Nat.{ℕ, zero, suc, _<_, _≤_}
-use mathlib.Core.Bool.{Bool, true, false, cond}
 use mathlib.Core.List.{List, _++_}
-use mathlib.Core.Path.{_≡_, refl, sym, ap, _∙_}
+use mathlib.Core.Path.{_≡_, refl, ap, _∙_}
 use native.Mathlib.Omega.{arith}
-use lib.Dec.{ltb}
 use lib.ListN.{length, take, drop, replicate, length-append, length-replicate}
 use lib.Seq.{length-take-le, take-at, drop-at}
 use borrow.Author.Tests.{lt-ltb, le-ltb}
@@ -87,8 +85,7 @@ module _ (room : Room) (upTo : Marking) (s : Settings) (n : ℕ) (claims old : L
             })
 
         module _ (past : Kept room upTo) (clash : ℕ) (first : clash ≡ firstClash (w .s) (w .n) claims) (new : List ℕ)
-            (marks : new ≡ upTo (w .s) (w .n) claims cleared clash) (v : Checked)
-            (told : v ≡ cond (ltb clash (length claims)) (Clash clash) Clean) where
+            (marks : new ≡ upTo (w .s) (w .n) claims cleared clash) where
           first-here : clash ≡ firstClash s n claims
           first-here = rw read at first
 
@@ -98,17 +95,16 @@ module _ (room : Room) (upTo : Marking) (s : Settings) (n : ℕ) (claims old : L
           marks-here : new ≡ upTo s n claims old (firstClash s n claims)
           marks-here = (rw read at marks) ∙ past s n claims cleared old clash tail ∙ ap (upTo s n claims old) first-here
 
-          answer-here : v ≡ checkedWith s n claims (room s n) (length old)
+          pub clashed : clash < length claims → Right room upTo s n claims old (Clash clash) new
           unfolding checkedOn
-          answer-here = rw (checked, ← found-here, le-ltb bad (length claims) good, ← first-here) told
+          clashed h =
+              right (Clash clash) new
+              (rw (checked, ← found-here, le-ltb bad (length claims) good, ← first-here, lt-ltb clash (length claims) h))
+              marks-here
 
-          after : scratchAfter v (upTo s n claims old (firstClash s n claims)) old ≡ upTo s n claims old (firstClash s n claims)
-          after = rw told (go (ltb clash (length claims)))
-            where
-              go : (b : Bool) → scratchAfter (cond b (Clash clash) Clean) (upTo s n claims old (firstClash s n claims)) old ≡ upTo s n claims old (firstClash s n claims)
-              go true = refl
-              go false = refl
-
-          -- a clash, or clean
-          pub answered : Right room upTo s n claims old v new
-          answered = right v new answer-here (marks-here ∙ sym after)
+          pub clean : length claims ≤ clash → Right room upTo s n claims old Clean new
+          unfolding checkedOn
+          clean h =
+              right Clean new
+              (rw (checked, ← found-here, le-ltb bad (length claims) good, ← first-here, le-ltb clash (length claims) h))
+              marks-here

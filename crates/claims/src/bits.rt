@@ -4,7 +4,6 @@ use crate::ClaimedWindow;
 use crate::clear;
 use crate::first_bad;
 use crate::offset_of;
-use crate::told;
 use crate::window_in;
 use frame::Settings;
 ghost use mathlib.Core.Path.{_≡_};
@@ -33,7 +32,11 @@ pub fn claims_in_bits(s: Settings, n: u16, claims: &[u16], scratch: &mut [u8]) -
         return Checked::Refused(16, bad);
     }
     clear(&mut scratch[..room]);
-    told(mark_bits(w, claims, scratch), claims.len())
+    let clash = mark_bits(w, claims, scratch);
+    if clash < claims.len() {
+        return Checked::Clash(clash);
+    }
+    Checked::Clean
 }
 
 // Marks the claims in a cleared scratch up to the first clash, and answers its index; the length of the list where there is none.

@@ -7,11 +7,8 @@ use frame::Settings;
 use resource::Cce;
 use resource::Mapped;
 ghost use mathlib.Core.Path.{_≡_};
-ghost use mathlib.Core.Bool.{cond};
-ghost use lib.Dec.{ltb};
 ghost use lib.ListN.{length, replicate};
 ghost use Rattle.frame.specs.Settings.{windowRefusal};
-ghost use Rattle.claims.specs.declared.Checked.the-variants.{Clean, Clash};
 ghost use Rattle.claims.specs.Claims.{roomOf, isBad, firstBad, firstClash, markedUpTo, checkedOf, scratchOf};
 ghost use Rattle.claims.specs.Marking.{windowIn, AcceptedWindow, Ready, Offset};
 
@@ -52,7 +49,11 @@ pub fn claims_of(s: Settings, n: u16, claims: &[u16], scratch: &mut [u8]) -> Che
         return Checked::Refused(16, bad);
     }
     clear(&mut scratch[..room]);
-    told(mark(w, claims, scratch), claims.len())
+    let clash = mark(w, claims, scratch);
+    if clash < claims.len() {
+        return Checked::Clash(clash);
+    }
+    Checked::Clean
 }
 
 // The window of uplink subframe n, with a mark for each of its resources.
@@ -70,16 +71,6 @@ fn window_in(s: Settings, n: u16) -> ClaimedWindow
         top,
         marks,
     }
-}
-
-// The answer where nothing is refused: the first clash, clean where that is no index of a claim.
-fn told(clash: usize, count: usize) -> Checked
-    ensures { λ r. ⌜ r ≡ cond (ltb clash count) (Clash clash) Clean ⌝ }
-{
-    if clash < count {
-        return Checked::Clash(clash);
-    }
-    Checked::Clean
 }
 
 // 16: m not below M or CCE not below N_4.

@@ -5,7 +5,7 @@ use lib.Seq.{length-take-le}
 use borrow.Author.Needs.{needs}
 use Rattle.frame.specs.Settings.{windowRefusal}
 use Rattle.claims.specs.Claims.{roomOf, markedUpTo, scratchOf}
-use Rattle.claims.proofs.Checks.{refused, short, bad-claim, ready, answered}
+use Rattle.claims.proofs.Checks.{refused, short, bad-claim, ready, clashed, clean}
 use Rattle.claims.proofs.Marks.{kept}
 use Rattle.claims.proofs.Read.{window-read, room}
 use Rattle.claims.proofs.claims_of.Statement.{statement}
@@ -64,9 +64,6 @@ mark-requires c κs =
     ready roomOf markedUpTo _ _ _ _ (accepted w) _ e _ (room _ _ (accepted w) _ e) (d .if2 .left) _ (b .before .first-bad .ensures) (b .if3 .left)
     _ (k .clear .ensures)
 
-told-requires : tie.Need-told-requires
-told-requires c κs = search needs
-
 same-length : tie.Need-same-length
 same-length c = search needs
 
@@ -79,8 +76,23 @@ returns-4 c =
     let d = b .before .before in
     let w = d .before in
     let e = w .window-in .ensures in
-    answered roomOf markedUpTo _ _ _ _ (accepted w) _ e _ (room _ _ (accepted w) _ e) (d .if2 .left) _ (b .before .first-bad .ensures) (b .if3 .left)
-    _ (k .clear .ensures) kept _ (m .mark .ensures .0) _ (m .mark .ensures .1) _ (c .told .ensures)
+    clashed roomOf markedUpTo _ _ _ _ (accepted w) _ e _ (room _ _ (accepted w) _ e) (d .if2 .left) _ (b .before .first-bad .ensures) (b .if3 .left)
+    _ (k .clear .ensures) kept _ (m .mark .ensures .0) _ (m .mark .ensures .1) (c .if4 .taken)
+
+same-length-2 : tie.Need-same-length-2
+same-length-2 c = search needs
+
+returns-5 : tie.Need-returns-5
+unfolding scratchOf
+returns-5 c =
+    let m = c .before .before .before in
+    let k = m .before .before .before .before in
+    let b = k .before .before in
+    let d = b .before .before in
+    let w = d .before in
+    let e = w .window-in .ensures in
+    clean roomOf markedUpTo _ _ _ _ (accepted w) _ e _ (room _ _ (accepted w) _ e) (d .if2 .left) _ (b .before .first-bad .ensures) (b .if3 .left)
+    _ (k .clear .ensures) kept _ (m .mark .ensures .0) _ (m .mark .ensures .1) (c .if4 .left)
 
 pub claims-of-spec : {M : Type 1} → statement M
 claims-of-spec =
@@ -96,6 +108,7 @@ claims-of-spec =
     slice-aggregate-clear
     clear-requires
     mark-requires
-    told-requires
     same-length
-    returns-4)
+    returns-4
+    same-length-2
+    returns-5)

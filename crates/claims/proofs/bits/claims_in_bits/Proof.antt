@@ -6,7 +6,7 @@ use lib.Seq.{length-take-le}
 use borrow.Author.Needs.{needs}
 use Rattle.frame.specs.Settings.{windowRefusal}
 use Rattle.claims.specs.Bits.{bitRoomOf, bitMarkedUpTo, bitScratchOf}
-use Rattle.claims.proofs.Checks.{refused, short, bad-claim, ready, answered}
+use Rattle.claims.proofs.Checks.{refused, short, bad-claim, ready, clashed, clean}
 use Rattle.claims.proofs.BitMarks.{kept}
 use Rattle.claims.proofs.Read.{window-read, bit-room, marks-most}
 use Rattle.claims.proofs.bits.claims_in_bits.Statement.{statement}
@@ -68,9 +68,6 @@ mark-bits-requires c κs =
     ready bitRoomOf bitMarkedUpTo _ _ _ _ (accepted w) _ e _ (bit-room _ _ (accepted w) _ e) (d .if2 .left) _ (b .before .first-bad .ensures) (b .if3 .left)
     _ (k .clear .ensures)
 
-told-requires : tie.Need-told-requires
-told-requires c κs = search needs
-
 same-length : tie.Need-same-length
 same-length c = search needs
 
@@ -83,8 +80,23 @@ returns-4 c =
     let d = b .before .before in
     let w = d .before .before in
     let e = w .window-in .ensures in
-    answered bitRoomOf bitMarkedUpTo _ _ _ _ (accepted w) _ e _ (bit-room _ _ (accepted w) _ e) (d .if2 .left) _ (b .before .first-bad .ensures) (b .if3 .left)
-    _ (k .clear .ensures) kept _ (m .mark-bits .ensures .0) _ (m .mark-bits .ensures .1) _ (c .told .ensures)
+    clashed bitRoomOf bitMarkedUpTo _ _ _ _ (accepted w) _ e _ (bit-room _ _ (accepted w) _ e) (d .if2 .left) _ (b .before .first-bad .ensures) (b .if3 .left)
+    _ (k .clear .ensures) kept _ (m .mark-bits .ensures .0) _ (m .mark-bits .ensures .1) (c .if4 .taken)
+
+same-length-2 : tie.Need-same-length-2
+same-length-2 c = search needs
+
+returns-5 : tie.Need-returns-5
+unfolding bitScratchOf
+returns-5 c =
+    let m = c .before .before .before in
+    let k = m .before .before .before .before in
+    let b = k .before .before in
+    let d = b .before .before in
+    let w = d .before .before in
+    let e = w .window-in .ensures in
+    clean bitRoomOf bitMarkedUpTo _ _ _ _ (accepted w) _ e _ (bit-room _ _ (accepted w) _ e) (d .if2 .left) _ (b .before .first-bad .ensures) (b .if3 .left)
+    _ (k .clear .ensures) kept _ (m .mark-bits .ensures .0) _ (m .mark-bits .ensures .1) (c .if4 .left)
 
 pub claims-in-bits-spec : {M : Type 1} → statement M
 claims-in-bits-spec =
@@ -101,6 +113,7 @@ claims-in-bits-spec =
     slice-aggregate-clear
     clear-requires
     mark-bits-requires
-    told-requires
     same-length
-    returns-4)
+    returns-4
+    same-length-2
+    returns-5)
