@@ -29,8 +29,8 @@ claimed s n claim = resourceOf s n (claimPosition claim) (claimCce claim)
 unfoldable pub resourcesOf : Settings → ℕ → ℕ
 resourcesOf s n = sizeOf s n * edge (s .nrb) 4
 
--- The marks that the scratch has room for, one for each resource of the window: in the byte form each takes a byte, and this is the
--- scratch that is asked for; in the bit form (Bits.antt) each takes a bit.
+-- The number of marks, one for each resource of the window. In the byte form a mark takes a byte, so that this is the scratch that
+-- is asked for; in the bit form (Bits.antt) it takes a bit.
 unfoldable pub roomOf : Settings → ℕ → ℕ
 roomOf s n = resourcesOf s n
 
