@@ -739,8 +739,8 @@ struct feedback_claims_answer feedback_claims(struct feedback_settings settings,
  * Afterwards bit t modulo 8 (value 1 << t % 8) of byte t / 8 of scratch, t below
  * M * N_4, is 1 if t + N1 is the resource of a claim before the clash (of any claim, when
  * clean), else 0. The bits of the last byte that are left over, from M * N_4 on, are 0.
- * Bytes from (M * N_4 + 7) / 8 on keep their values. What scratch held before does not
- * matter.
+ * Bytes from (M * N_4 + 7) / 8, rounded down, on keep their values. What scratch held
+ * before does not matter.
  *
  * Refuses 1 to 6, 17, 19, 7, 15 and 16 as feedback_claims does, but 15 means that room is
  * below (M * N_4 + 7) / 8, rounded down. If refused, all of scratch is as it was.

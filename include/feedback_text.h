@@ -54,7 +54,7 @@ static inline const char *feedback_refusal_text(unsigned refusal)
         return "Refused 14: the bits are such as no reply has on this resource.";
     case FEEDBACK_REFUSED_SCRATCH:
         return "Refused 15: the scratch is shorter than M * N_4 bytes, or in feedback_claims_bits "
-               "shorter than (M * N_4 + 7) / 8 bytes.";
+               "shorter than (M * N_4 + 7) / 8 bytes, rounded down.";
     case FEEDBACK_REFUSED_CLAIM:
         return "Refused 16: a claim's position is not below M or its CCE not below N_4.";
     case FEEDBACK_REFUSED_SCHEDULED_RESOURCE:

@@ -47,7 +47,7 @@ pub record InTheCell : Type 0 where
   pub empty : ComesTo [] Clean (replicate 16 0 ++ 255 ∷ [])
   -- CCE 61 is bad, after a clash too, and nothing is written
   pub bad : ComesTo (claimOf 0 5 ∷ claimOf 0 5 ∷ claimOf 0 61 ∷ []) (Refused 16 2) dirty
-  pub short : bitCheckedOf cell 2 [] 15 ≡ Refused 15 0
+  pub short : (bitCheckedOf cell 2 [] 15 ≡ Refused 15 0) × (bitScratchOf cell 2 [] (replicate 15 255) ≡ replicate 15 255)
 
 pub in-the-cell : InTheCell
 unfolding cellRefusal modeRefusal blocksRefusal hasScheduled scheduledRefusal specialRefusal laterRefusal settingsRefusal noWindowRefusal windowRefusal table windowOf pairRefusal resourceOf edge regionOf resourceNumber bitRoomOf bitMarkedUpTo bitScratchOf resourcesOf roomOf isBad firstBad clashes firstClash scratchRefusal checkedOn checkedWith
@@ -59,7 +59,7 @@ in-the-cell =
       last = (refl, refl);
       empty = (refl, refl);
       bad = (refl, refl);
-      short = refl;
+      short = (refl, refl);
     }
 
 -- The widest window: configuration 5, n = 2, with N_RB 110. The bit form needs 151 bytes; on these the byte form is refused, so
