@@ -8,7 +8,7 @@ use feedback_tests::model::Model;
 use feedback_tests::plain::{plain_inverse, plain_make, plain_reading, plain_resource};
 use feedback_tests::vectors::{cases, heard, Case};
 use feedback_tests::{
-    feed, inverse, make, reading, record, replay, resource, trace_write, ClaimsAnswer, Fed,
+    feed, inverse, make, reading, record, replay, resource, trace_write, window, ClaimsAnswer, Fed,
     Handset, Heard, ReadingAnswer, RecordAnswer, ReplayAnswer, Settings, Slot, WriteAnswer,
     NOT_TOLD,
 };
@@ -342,6 +342,46 @@ fn pair_line(case: &Case, who: &Who) -> (u16, u16) {
     (u16::from(one == other), case.number("equal"))
 }
 
+/// The cells and uplink subframes with a multiplexed window of this size, each with K. Of the
+/// configurations 5 alone has no multiplexing.
+fn multiplexed_windows(size: u16) -> Vec<(Settings, u16, Vec<u16>)> {
+    let mut windows = Vec::new();
+    for config in [0, 1, 2, 3, 4, 6] {
+        let settings = Settings::plain(config, 50, 10, 1, 1);
+        for n in 0..10 {
+            let answer = window(settings, n);
+            if answer.size == size {
+                windows.push((settings, n, answer.k[..size.into()].to_vec()));
+            }
+        }
+    }
+    windows
+}
+
+/// A symbol and the states that send it, by letters, in every window of their size: each state
+/// is remembered by a lent handset, its reply is asked for and read. Shown are kind of the
+/// reply, position read, bits and delivered positions.
+fn rule_line(case: &Case, who: &Who) -> (Vec<[u16; 5]>, Vec<[u16; 5]>) {
+    let [index, b0, b1] = ["index", "b0", "b1"].map(|name| case.number(name));
+    let delivered = case.numbers("delivered").iter().map(|position| 1 << position).sum();
+    let mut given = Vec::new();
+    for (settings, n, ks) in multiplexed_windows(case.number("M")) {
+        for state in case.text("states").split(' ') {
+            let mut handset = Handset { next: n, ..Handset::fresh(settings) };
+            for (k, letter) in ks.iter().zip(state.chars()).filter(|(_, letter)| *letter != 'D') {
+                let results = u8::from(letter == 'A');
+                let grant = Slot { kind: Slot::GRANT, cce: 10 + *k as u8, dai: 1, results };
+                handset.past[usize::from(*k) - 1] = grant;
+            }
+            let fed = who.feed(handset, Heard::Nothing);
+            let read = who.reading(settings, n, NOT_TOLD, [fed.resource, fed.b0, fed.b1]);
+            given.push([fed.kind, read.position, fed.b0, fed.b1, read.delivered]);
+        }
+    }
+    let due = vec![[Fed::MULTIPLEXED, index, b0, b1, delivered]; given.len()];
+    (given, due)
+}
+
 #[test]
 fn u01_settings() {
     let text = include_str!("../data/u01-settings.csv");
@@ -434,4 +474,16 @@ fn u06_claims() {
     tally.finish(906, 0);
     let tally = Tally::of("u06-claims.csv", text, |case, who| Some(bits_line_by_bytes(case, who)));
     tally.finish(906, 0);
+}
+
+/// The positions of `most` are those of `delivered`; tests/limit.rs holds the other columns to
+/// the model.
+#[test]
+fn u07_rules() {
+    let text = include_str!("../data/u07-rules.csv");
+    let tally = Tally::of("u07-rules.csv", text, |case, who| Some(rule_line(case, who)));
+    tally.finish(129, 0);
+    let same = |case: &Case| case.text("most") == case.text("delivered");
+    assert!(cases("u07-rules.csv", text).iter().all(same));
+    assert_eq!([2, 3, 4].map(|size| multiplexed_windows(size).len()), [4, 1, 4]);
 }

@@ -17,31 +17,40 @@ use Rattle.resource.specs.declared.Cce.{Cce}
 use Rattle.station.specs.declared.Place.{Place}
 use Rattle.station.specs.declared.Place.the-variants as place
 use Rattle.station.specs.declared.Reading.the-variants as reading
+use Rattle.station.specs.Readings.{placePosition}
+use Rattle.limit.specs.Rules.{Rule, Sound}
 use Rattle.confirmation.specs.declared.Send.{Send}
 use Rattle.confirmation.specs.Confirmed.{speaksFor, confirmed}
 use Rattle.confirmation.proofs.Confirmed.{carried}
 use Rattle.heard.specs.declared.Heard.{Heard}
 use Rattle.heard.specs.Heard.{isBlock}
 use Rattle.reply.specs.declared.Reply.{Reply}
-use Rattle.agreement.specs.Confirmation.{Replied, readingAt, decodedBlock, Conclusions}
+use Rattle.agreement.specs.Confirmation.{Replied, readingAt, sentThere, decodedBlock, Conclusions}
 use Rattle.agreement.specs.Demand3.{Engine, feedbackEngine, fedAt, readingIn, HoldsAfter, Demand3}
 use Rattle.agreement.specs.Run.{Item, sentAgo, heardAgo, heardInRun, windowAt, Brings}
 use Rattle.agreement.specs.Window.{isHeard, isPdcch, inTime, Bundled, Multiplexed}
 use Rattle.agreement.proofs.Confirmation.{inside, LastRead, BlockRead, last-read, delivered-ack, bundled-confirmed, multiplexed-confirmed}
 use Rattle.agreement.proofs.Demand3.{demand3}
 use Rattle.agreement.proofs.Feeds.{ago-brings}
+use Rattle.agreement.proofs.Limit.{names-no-more}
 
 module _ (e : Engine) (d : Demand3 e) (set : Settings) (sent : ℕ → Send) (items : List Item) (s : ℕ) (r : Reply) (replied : Replied e set sent items s r) where
   abbrev H : ℕ → Heard
   H = heardAgo (heardInRun set items) s
 
   -- What demand 3 says of a window: it is bundled, or it is multiplexed.
-  abbrev Answered : Type 0
-  Answered =
+  abbrev IsBundled : Type 0
+  IsBundled =
       Bundled set (e .resource set (s % 10)) (readingIn e set sent s) (windowAt set s) (inTime (sentAgo sent s) H (windowAt set s))
       (fedAt e set items (replied .item) (replied .brought) .answer)
-      ⊎ Multiplexed set (e .resource set (s % 10)) (readingIn e set sent s) (windowAt set s) H (inTime (sentAgo sent s) H (windowAt set s))
+
+  abbrev IsMultiplexed : Type 0
+  IsMultiplexed =
+      Multiplexed set (e .resource set (s % 10)) (readingIn e set sent s) (windowAt set s) H (inTime (sentAgo sent s) H (windowAt set s))
       (fedAt e set items (replied .item) (replied .brought) .answer)
+
+  abbrev Answered : Type 0
+  Answered = IsBundled ⊎ IsMultiplexed
 
   brought : (k : ℕ) → Brings (sentAgo sent s k) (heardAgo (heardInRun set items) s k)
   brought k = ago-brings sent (heardInRun set items) (replied .brings) s k
@@ -135,19 +144,34 @@ module _ (e : Engine) (d : Demand3 e) (set : Settings) (sent : ℕ → Send) (it
       let l = by-block 0 has-window named b0 b1 is in
       rw (← l .1) (l .0 .heard)
 
-  delivered-heard : (named : Place) (positions : ℕ) → readingAt e set sent s r ≡ reading.Multiplexed named positions
-      → (m : ℕ) → m < length (windowAt set s) → positions / 2 ^ m % 2 ≡ 1 → isHeard (H (getD (windowAt set s) m 0)) ≡ true
-  delivered-heard named positions is m h bit = go (window m h)
+  -- Where it is read as multiplexed, it is.
+  multiplexed : (named : Place) (positions : ℕ) → readingAt e set sent s r ≡ reading.Multiplexed named positions → IsMultiplexed
+  multiplexed named positions is = go (window 0 has-window)
     where
-      go : Answered → isHeard (H (getD (windowAt set s) m 0)) ≡ true
+      go : Answered → IsMultiplexed
       go (inl w) = by (last-read set (replied .accepted) sent (replied .schedule) s H brought r (e .resource set (s % 10)) (readingIn e set sent s) _ w (replied .answered))
         where
-          by : ByPdcch ⊎ ByBlock → isHeard (H (getD (windowAt set s) m 0)) ≡ true
+          by : ByPdcch ⊎ ByBlock → IsMultiplexed
           by (inl l) = let z : _≡_ {A = ℕ} 0 1 = cc (is, l .isRead) in absurd (omega arith)
           by (inr l) = let z : _≡_ {A = ℕ} 0 1 = cc (is, l .isRead) in absurd (omega arith)
-      go (inr w) =
-          let same : w .1 r (replied .answered) .delivered ≡ positions = cc (is, w .1 r (replied .answered) .isRead) in
-          delivered-ack set (replied .accepted) sent (replied .schedule) s H brought r m (e .resource set (s % 10)) (readingIn e set sent s) _ w (replied .answered) h (rw same bit) .0
+      go (inr w) = w
+
+  delivered-heard : (named : Place) (positions : ℕ) → readingAt e set sent s r ≡ reading.Multiplexed named positions
+      → (m : ℕ) → m < length (windowAt set s) → positions / 2 ^ m % 2 ≡ 1 → isHeard (H (getD (windowAt set s) m 0)) ≡ true
+  delivered-heard named positions is m h bit =
+      let w = multiplexed named positions is in
+      let same : w .1 r (replied .answered) .delivered ≡ positions = cc (is, w .1 r (replied .answered) .isRead) in
+      delivered-ack set (replied .accepted) sent (replied .schedule) s H brought r m (e .resource set (s % 10)) (readingIn e set sent s) _ w (replied .answered) h (rw same bit) .0
+
+  none-names-more : (named : Place) (positions : ℕ) → readingAt e set sent s r ≡ reading.Multiplexed named positions
+      → (rule : Rule) → Sound rule (length (windowAt set s)) (sentThere set sent s) (placePosition named) (r .b0) (r .b1)
+      → (m : ℕ) → rule (length (windowAt set s)) (sentThere set sent s) (placePosition named) (r .b0) (r .b1) m ≡ true
+      → positions / 2 ^ m % 2 ≡ 1
+  none-names-more named positions is rule sound m e =
+      let reply = multiplexed named positions is .1 r (replied .answered) in
+      let there : reply .named ≡ named = cc (is, reply .isRead) in
+      let same : reply .delivered ≡ positions = cc (is, reply .isRead) in
+      rw same at (names-no-more set sent s H brought reply rule (rw there sound) m (rw there e))
 
   confirmed-decoded : (m block : ℕ) → confirmed (windowAt set s) (sentAgo sent s) (readingAt e set sent s r) m block ≡ true
       → decodedBlock (H (getD (windowAt set s) m 0)) block ≡ true
@@ -170,6 +194,7 @@ conclusions e d =
       noneHeard = none-heard e d;
       blockHeard = block-heard e d;
       deliveredHeard = delivered-heard e d;
+      namesNoMore = none-names-more e d;
     }
 
 -- Of the engine of this repository.

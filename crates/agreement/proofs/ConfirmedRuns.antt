@@ -1,16 +1,24 @@
 -- Runs in which blocks are confirmed: what a station confirms is something. Which blocks, in the worked runs of Worked.antt.
 -- Assumes nothing.
 use Prim.Native.Nat.{ℕ, zero, suc}
-use mathlib.Core.Bool.{Bool, cond}
+use mathlib.Core.Bool.{Bool, false, cond}
 use mathlib.Core.List.{List, [], _∷_}
 use mathlib.Core.Path.{_≡_, refl}
+use native.Mathlib.Omega.{arith}
 use lib.ListN.{length, getD}
+use Rattle.frame.proofs.Bools.{never-true}
+use Rattle.station.specs.declared.Place.the-variants as place
 use Rattle.station.specs.declared.Reading.the-variants as reading
+use Rattle.limit.specs.Rules.{Positions, Rule, Sound}
 use Rattle.confirmation.specs.Confirmed.{confirmed}
+use Rattle.heard.specs.declared.Heard.the-variants.{Nothing}
+use Rattle.agreement.specs.Confirmation.{Replied, sentThere}
+use Rattle.agreement.specs.Demand3.{feedbackEngine}
 use Rattle.agreement.specs.Run.{sentAgo, windowAt}
-use Rattle.agreement.proofs.Computing.{schedules}
+use Rattle.agreement.proofs.Computing.{schedules, handsets}
+use Rattle.agreement.proofs.Conclusions.{scheduler-may-conclude}
 use Rattle.agreement.proofs.Finite.{sending}
-use Rattle.agreement.proofs.Worked.{Run, fourHeard, fourLost, eightLost, lastTwoLost, oneUndecoded, soleBlock, secondUndecoded, middleUndecoded, shared, loneBlock, blockLost, secondBlock, releaseLast, fourLostRelease, blockAtIndex}
+use Rattle.agreement.proofs.Worked.{Run, answer-at, reading-at, fed-nothing, fourHeard, fourLost, eightLost, lastTwoLost, oneUndecoded, soleBlock, secondUndecoded, middleUndecoded, shared, sharedByThree, symbol-shared-by-three, loneBlock, blockLost, secondBlock, releaseLast, fourLostRelease, blockAtIndex}
 
 -- the numbers, of `count` from i on, that pass the test
 abbrev passing : (ℕ → Bool) → ℕ → ℕ → List ℕ
@@ -69,6 +77,39 @@ delivered-two-of-three = (refl, refl)
 pub delivered-shared : Confirms shared 12 (0 ∷ 1 ∷ []) []
 unfolding schedules confirmed
 delivered-shared = (refl, refl)
+
+-- So of A,A,A,D: the grant at position 2 was decoded, but A,A,D,D sends the same symbol.
+pub delivered-shared-by-three : Confirms sharedByThree 12 (0 ∷ 1 ∷ []) []
+unfolding schedules confirmed
+delivered-shared-by-three = (refl, refl)
+
+-- And no rule that is sound there names position 2, told at which positions something was sent (02, U7).
+abbrev sentByThree : Positions
+sentByThree = sentThere (sharedByThree .set) (sending (sharedByThree .sends)) 12
+
+three-replied : Replied feedbackEngine (sharedByThree .set) (sending (sharedByThree .sends)) (sharedByThree .items) 12
+    (record { kind = 2; resource = record { 0 = 26 }; b0 = 1; b1 = 0 })
+unfolding handsets
+three-replied =
+    record {
+      accepted = symbol-shared-by-three .accepted;
+      schedule = symbol-shared-by-three .schedule;
+      brings = symbol-shared-by-three .brings;
+      item = 12;
+      brought = Nothing;
+      subframe = fed-nothing sharedByThree 12 (omega arith) refl refl;
+      answered = answer-at sharedByThree symbol-shared-by-three 12;
+    }
+
+pub two-unnamed : (rule : Rule) → Sound rule 4 sentByThree 1 1 0 → rule 4 sentByThree 1 1 0 2 ≡ false
+unfolding schedules
+two-unnamed rule sound =
+    never-true _
+    (λ e.
+    let bit : _≡_ {A = ℕ} 0 1 =
+    scheduler-may-conclude .namesNoMore _ _ _ 12 _ three-replied (place.Pdcch 1 (record { 0 = 5 })) 3
+    (reading-at sharedByThree symbol-shared-by-three 0) rule sound 2 e in
+    absurd (omega arith))
 
 -- Read as the scheduled block: that block alone, of the grants in its window none.
 pub block-alone : Confirms loneBlock 12 (1 ∷ []) []

@@ -9,6 +9,7 @@ pub mod Exactly
 pub mod Feeds
 pub mod Finite
 pub mod Folded
+pub mod Limit
 pub mod Memory
 pub mod MultiplexedWindow
 pub mod SameWindows

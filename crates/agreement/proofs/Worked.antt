@@ -438,6 +438,21 @@ pub symbol-shared : Worked shared
 unfolding handsets stations
 symbol-shared = worked shared refl tt tt refl refl
 
+-- The same window with a third grant, in 8, decoded too: A,A,A,D sends the same symbol, and position 2 is not delivered.
+abbrev pub sharedByThree : Run
+sharedByThree =
+    record {
+      set = cell 2 1;
+      sends = times 4 nothing (grant 1 0 1 ∷ grant 1 5 2 ∷ nothing ∷ nothing ∷ grant 1 30 3 ∷ []);
+      items = times 4 hearsNothing (hears 0 1 true ∷ hears 5 2 true ∷ times 2 hearsNothing (hears 30 3 true ∷ times 4 hearsNothing []));
+      answers = times 2 answer.Taken (answer.Silent ∷ times 4 answer.Taken (answer.Silent ∷ times 4 answer.Taken (reply 2 26 1 0 ∷ [])));
+      readings = multiplexedRead 1 5 3 ∷ [];
+    }
+
+pub symbol-shared-by-three : Worked sharedByThree
+unfolding handsets stations
+symbol-shared-by-three = worked sharedByThree refl tt tt refl refl
+
 -- Scheduled blocks and releases (document 02, U1). Most of these runs are in configuration 2, where the window of subframe 12 is 4,
 -- 5, 8 and 6; nothing is sent before it, so that it alone is answered.
 abbrev answersInTwo : Answer → List Answer

@@ -1,4 +1,5 @@
--- What a scheduler may conclude from a reading, in every run of demand 3: what include/feedback.h says at feedback_reading.
+-- What a scheduler may conclude from a reading, in every run of demand 3: what include/feedback.h says at feedback_reading. And that no
+-- cleverer reading could conclude more from a multiplexed reply: document 02, U7.
 -- Assumes nothing.
 use Prim.Native.Nat.{ℕ, _/_, _%_, _^_, _<_}
 use mathlib.Core.Bool.{Bool, true, false, cond, _&&_}
@@ -13,8 +14,11 @@ use Rattle.station.specs.declared.Place.{Place}
 use Rattle.station.specs.declared.Place.the-variants as place
 use Rattle.station.specs.declared.Reading.{Reading}
 use Rattle.station.specs.declared.Reading.the-variants as reading
+use Rattle.station.specs.Readings.{placePosition}
+use Rattle.limit.specs.Rules.{Positions, Rule, Sound}
 use Rattle.confirmation.specs.declared.Send.{Send}
 use Rattle.confirmation.specs.Confirmed.{speaksFor, confirmed}
+use Rattle.confirmation.specs.Sent.{isSent}
 use Rattle.heard.specs.declared.Heard.{Heard}
 use Rattle.heard.specs.declared.Heard.the-variants.{Nothing, Granted, Scheduled, Released}
 use Rattle.heard.specs.Heard.{isBlock}
@@ -41,6 +45,10 @@ readingAt e set sent s r = readingIn e set sent s (r .resource .0) (r .b0) (r .b
 -- What was heard at position m of the window of s.
 abbrev pub heardThere : Settings → List Item → ℕ → ℕ → Heard
 heardThere set items s m = heardAgo (heardInRun set items) s (getD (windowAt set s) m 0)
+
+-- The positions of the window of s at which something was sent.
+abbrev pub sentThere : Settings → (ℕ → Send) → ℕ → Positions
+sentThere set sent s m = ltb m (length (windowAt set s)) && isSent (sentAgo sent s (getD (windowAt set s) m 0))
 
 -- What was heard carries the block and decoded it; block 0 is the first or only one, block 1 the second. A release carries none.
 abbrev pub decodedBlock : Heard → ℕ → Bool
@@ -78,3 +86,10 @@ pub record Conclusions (e : Engine) : Type 0 where
       → (named : Place) (positions : ℕ) → readingAt e set sent s r ≡ reading.Multiplexed named positions
       → (m : ℕ) → m < length (windowAt set s) → positions / 2 ^ m % 2 ≡ 1
       → isHeard (heardThere set items s m) ≡ true
+  -- 02, U7: a rule that knows M, at which positions something was sent, and the reply's index and bits, and that is sound there
+  -- (limit/specs/Rules.antt), names only positions that the reading delivers.
+  pub namesNoMore : (set : Settings) (sent : ℕ → Send) (items : List Item) (s : ℕ) (r : Reply) → Replied e set sent items s r
+      → (named : Place) (positions : ℕ) → readingAt e set sent s r ≡ reading.Multiplexed named positions
+      → (rule : Rule) → Sound rule (length (windowAt set s)) (sentThere set sent s) (placePosition named) (r .b0) (r .b1)
+      → (m : ℕ) → rule (length (windowAt set s)) (sentThere set sent s) (placePosition named) (r .b0) (r .b1) m ≡ true
+      → positions / 2 ^ m % 2 ≡ 1

@@ -1,7 +1,7 @@
 -- What a station sent in a subframe, by tests that every kind of it answers: document 01, "The runs of demand 3"; document 02, U1.
 -- Assumes nothing.
 use Prim.Native.Nat.{ℕ, suc}
-use mathlib.Core.Bool.{Bool, true, false, cond}
+use mathlib.Core.Bool.{Bool, true, false, cond, _||_}
 use mathlib.Core.List.{List, [], _∷_}
 use lib.Dec.{eqb}
 use Rattle.confirmation.specs.declared.Send.{Send}
@@ -22,6 +22,10 @@ isBlock Nothing = false
 isBlock (Granted g) = false
 isBlock (Scheduled b) = true
 isBlock (Released p) = false
+
+-- Something was sent.
+abbrev pub isSent : Send → Bool
+isSent x = isPdcch x || isBlock x
 
 -- The blocks it carries; a release carries none.
 abbrev pub blocksOf : Send → ℕ

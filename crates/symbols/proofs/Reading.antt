@@ -25,7 +25,7 @@ same-symbol : (i b0 b1 : ℕ) → isSymbol (Sent i b0 b1) i b0 b1 ≡ true
 same-symbol i b0 b1 = rw (eq-eqb i i refl, eq-eqb b0 b0 refl, eq-eqb b1 b1 refl)
 
 -- A symbol that passes the test is (i, b0 b1).
-is-symbol : (x : Symbol) (i b0 b1 : ℕ) → T (isSymbol x i b0 b1) → x ≡ Sent i b0 b1
+pub is-symbol : (x : Symbol) (i b0 b1 : ℕ) → T (isSymbol x i b0 b1) → x ≡ Sent i b0 b1
 is-symbol (Sent j a0 a1) i b0 b1 t =
     rw (
       eqb→eq j i (and-l (eqb j i) (eqb a0 b0) (and-l (eqb j i && eqb a0 b0) (eqb a1 b1) t)),

@@ -1,0 +1,3 @@
+pub mod Best
+pub mod Station
+pub mod Worked
