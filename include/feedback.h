@@ -211,8 +211,8 @@
 #include <stdint.h>
 
 /* This header's version: major * 10000 + minor * 100 + patch, and the same as text. */
-#define FEEDBACK_VERSION 30300
-#define FEEDBACK_VERSION_TEXT "3.3.0"
+#define FEEDBACK_VERSION 30301
+#define FEEDBACK_VERSION_TEXT "3.3.1"
 
 #define FEEDBACK_WINDOW_MOST 9     /* the most subframes of a window: M in configuration 5 */
 #define FEEDBACK_MEMORY 13         /* the subframes that a handset remembers: the greatest k */
@@ -641,6 +641,13 @@ struct feedback_inverse_answer feedback_inverse(struct feedback_settings setting
  * decoded) in every state of the window that sends this symbol. Where states
  * share a symbol, a position that is A in only some of them is left out. What was
  * sent at a delivered position was heard, a release too.
+ *
+ * No cleverer reading of a multiplexed reply frees a buffer sooner, not even one that
+ * also knows at which positions something was sent: it is proved that a rule which
+ * names only positions that are A in every state that sends this symbol, of those that
+ * are D where nothing was sent, names only positions that delivered has. For each
+ * position left out, one of these states sends the same symbol and is not A there, so
+ * what was sent there must be kept (crates/limit/specs/Rules.antt, proofs/Best.antt).
  *
  * A reading says what the resource and the bits mean; it does not know what was
  * sent. If it names a PDCCH, and the station sent this handset none with that first

@@ -134,26 +134,32 @@ fn every_set_that_a_rule_may_name_is_delivered() {
     }
     // Four windows of M = 2, one of M = 3 and four of M = 4.
     assert_eq!(pairs, 4 * 9 + 31 + 4 * 89);
-    assert_eq!(named + not_named, 4 * 9 * 8 + 31 * 16 + 4 * 89 * 32);
-    println!("{named} sets may be named, {not_named} may not");
+    assert_eq!((named, not_named), (964, 11_212));
 }
 
 /// A symbol that no counted state sends is left out for a reason: there a rule may name
-/// anything. Where nothing was sent that is so of every symbol, and of all but one the reading
-/// delivers less than the whole window.
+/// anything, the whole window too, and the reading delivers less for all symbols but one.
 #[test]
 fn a_symbol_that_no_counted_state_sends() {
     let model = Model::new();
     for (settings, window) in windows(&model) {
         let size = window.size();
         let all = (1 << size) - 1;
-        assert!(counted(&model, size, 0).is_empty());
-        let symbols = counted(&model, size, all);
-        let of_all = symbols.keys().filter(|it| delivered(settings, window, **it, 0) == all);
-        assert_eq!(
-            (size, symbols.len(), of_all.count()),
-            (size, [5, 10, 15][size as usize - 2], 1)
-        );
+        let (mut unsent, mut whole) = (0, 0);
+        for sent in 0..=all {
+            let by_symbol = counted(&model, size, sent);
+            for symbol in counted(&model, size, all).into_keys() {
+                if !by_symbol.contains_key(&symbol) {
+                    unsent += 1;
+                    whole += usize::from(delivered(settings, window, symbol, 0) == all);
+                }
+            }
+        }
+        // Of 5, 10 and 15 symbols for each set. All A sends one of its own, which is sent only
+        // where something was sent everywhere.
+        let (_, pairs) = PAIRS[usize::from(size) - 2];
+        let symbols = [5, 10, 15][usize::from(size) - 2];
+        assert_eq!((unsent, whole), (symbols * (1 << size) - pairs, (1 << size) - 1), "M {size}");
     }
 }
 
@@ -168,22 +174,63 @@ fn one_state_of_a_shared_symbol() {
     assert_eq!(delivered(cell(window), window, symbol, 0), 0b0011);
 }
 
-/// What the station sends at a position.
+/// What the station sends at a position; a grant and a scheduled block with the blocks carried.
 #[derive(Clone, Copy, Debug, PartialEq, Eq)]
 enum Sent {
     Nothing,
-    Grant,
+    Grant(u16),
     Release,
-    Block,
+    Block(u16),
+}
+
+/// What becomes of it: it is lost, or heard with a result for each block.
+#[derive(Clone, Copy, Debug, PartialEq, Eq)]
+enum Fate {
+    Lost,
+    Heard([u16; 2]),
 }
 
 impl Sent {
-    /// What can become of it, as letters: a release that is heard is A.
-    fn letters(self) -> &'static str {
+    /// All that can be sent in a cell.
+    fn all(blocks: u16) -> Vec<Self> {
+        let carrying = (1..=blocks).flat_map(|blocks| [Self::Grant(blocks), Self::Block(blocks)]);
+        [Self::Nothing, Self::Release].into_iter().chain(carrying).collect()
+    }
+
+    /// All that can become of it; a release has no results.
+    fn fates(self) -> Vec<Fate> {
+        let results: &[[u16; 2]] = match self {
+            Self::Nothing => &[],
+            Self::Release => &[[0, 0]],
+            Self::Grant(1) | Self::Block(1) => &[[0, 0], [1, 0]],
+            Self::Grant(_) | Self::Block(_) => &[[0, 0], [0, 1], [1, 0], [1, 1]],
+        };
+        results.iter().map(|results| Fate::Heard(*results)).chain([Fate::Lost]).collect()
+    }
+
+    fn is_block(self) -> bool {
+        matches!(self, Self::Block(_))
+    }
+
+    /// Whether it is A: heard, with every block that it carries decoded.
+    fn is_acked(self, fate: Fate) -> bool {
+        match (self, fate) {
+            (_, Fate::Lost) | (Self::Nothing, _) => false,
+            (Self::Release, _) => true,
+            (Self::Grant(blocks) | Self::Block(blocks), Fate::Heard(results)) => {
+                results[..usize::from(blocks)].iter().all(|result| *result == 1)
+            }
+        }
+    }
+
+    /// What the handset hears of it, its first CCE and DAI where it has them.
+    fn heard(self, fate: Fate, cce: u16, dai: u16) -> Heard {
+        let Fate::Heard([first, second]) = fate else { return Heard::Nothing };
         match self {
-            Self::Nothing => "D",
-            Self::Release => "AD",
-            Self::Grant | Self::Block => "AND",
+            Self::Nothing => Heard::Nothing,
+            Self::Grant(blocks) => Heard::Grant(Grant { blocks, first, second, cce, dai }),
+            Self::Release => Heard::Release(Release { cce, dai }),
+            Self::Block(blocks) => Heard::Block(Block { blocks, first, second }),
         }
     }
 }
@@ -202,81 +249,82 @@ fn choices<T: Copy>(of: &[Vec<T>]) -> Vec<Vec<T>> {
 /// First CCEs, one for each position.
 const CCES: [u16; 4] = [60, 0, 11, 26];
 
-/// What becomes of what is sent, by the letters A, N and D, in time order, and the answer in
-/// the uplink subframe.
-fn fed(settings: Settings, window: &Window, sent: &[Sent], letters: &[char]) -> Fed {
+/// Feeds the 13 subframes before the reply in time order, with what is sent at each position of
+/// the window and what becomes of it; gives the answer in the uplink subframe.
+fn fed(settings: Settings, window: &Window, sent: &[Sent], fates: &[Fate]) -> Fed {
     let mut handset = make(settings).handset;
     handset.next = (window.n + 20 - 13) % 10;
     let mut pdcchs = 0;
     for k in (1..=13).rev() {
-        let position = window.k.iter().position(|each| *each == k);
-        let at = position.map_or((Sent::Nothing, 'D', 0), |p| (sent[p], letters[p], CCES[p]));
-        let (what, letter, cce) = at;
-        pdcchs += u16::from(what == Sent::Grant || what == Sent::Release);
-        let (first, dai) = (u16::from(letter == 'A'), (pdcchs + 3) % 4 + 1);
-        let blocks = 1 + cce % settings.blocks;
-        let heard = match what {
-            _ if letter == 'D' => Heard::Nothing,
-            Sent::Nothing => Heard::Nothing,
-            Sent::Grant => Heard::Grant(Grant { blocks, first, second: first, cce, dai }),
-            Sent::Release => Heard::Release(Release { cce, dai }),
-            Sent::Block => Heard::Block(Block { blocks, first, second: first }),
-        };
-        let taken = feed(handset, heard);
-        assert_eq!(taken.refusal, 0, "{settings:?}, {sent:?}, {letters:?}");
+        let mut brought = Heard::Nothing;
+        if let Some(p) = window.k.iter().position(|each| *each == k) {
+            pdcchs += u16::from(matches!(sent[p], Sent::Grant(_) | Sent::Release));
+            brought = sent[p].heard(fates[p], CCES[p], (pdcchs + 3) % 4 + 1);
+        }
+        let taken = feed(handset, brought);
+        assert_eq!(taken.refusal, 0, "{settings:?}, {sent:?}, {fates:?}");
         handset = taken.handset;
     }
     feed(handset, Heard::Nothing)
 }
 
-/// Both ends, by their calls alone: whatever is sent in a window, a grant, a release or at most
-/// one scheduled block at each position, and whatever becomes of it, the reading delivers the
-/// positions that are decoded in every case with the same reply. So it delivers what a station
-/// could know from the reply that also keeps in mind what it sent and where.
+/// Both ends, by their calls alone. At each position nothing is sent, a grant, a release or a
+/// scheduled block, the last at one position at most; it is lost, or heard with any results.
+/// The reading delivers exactly the positions that are A in every case with the same reply. So
+/// it delivers all that a station could know from the reply that also keeps in mind what it
+/// sent, and where.
 #[test]
 fn every_case_of_what_was_sent() {
     let model = Model::new();
-    let mut replies: BTreeMap<(u16, bool), u64> = BTreeMap::new();
+    let (mut cases, mut replies) = (0, BTreeMap::new());
     for (settings, window) in windows(&model) {
-        let size = window.size();
-        let any = vec![Sent::Nothing, Sent::Grant, Sent::Release, Sent::Block];
-        for sent in choices(&vec![any; size.into()]) {
-            let blocks = sent.iter().filter(|what| **what == Sent::Block).count();
-            if blocks > 1 {
-                continue;
-            }
-            let told = sent.iter().position(|what| *what == Sent::Block);
-            let told = told.map_or(NOT_TOLD, |position| position as u16);
-            let mut decoded: BTreeMap<(u16, u16, u16), Positions> = BTreeMap::new();
-            let letters: Vec<Vec<char>> =
-                sent.iter().map(|what| what.letters().chars().collect()).collect();
-            for state in choices(&letters) {
-                let Fed { kind, resource, b0, b1, .. } = fed(settings, window, &sent, &state);
-                let state: String = state.iter().collect();
-                if state.chars().all(|letter| letter == 'D') {
-                    assert_eq!(kind, Fed::SILENT, "{settings:?}, {sent:?}");
+        for settings in [1, 2].map(|blocks| Settings { blocks, ..settings }) {
+            let size = window.size();
+            for sent in choices(&vec![Sent::all(settings.blocks); size.into()]) {
+                if sent.iter().filter(|what| what.is_block()).count() > 1 {
                     continue;
                 }
-                assert_eq!(kind, Fed::MULTIPLEXED, "{settings:?}, {sent:?}, {state}");
-                *decoded.entry((resource, b0, b1)).or_insert(Positions::MAX) &= acks(&state);
-            }
-            for ((resource, b0, b1), in_all) in decoded {
-                let read = reading(settings, window.n, told, resource, b0, b1);
-                assert_eq!(
-                    (read.refusal, read.kind, read.delivered),
-                    (0, Fed::MULTIPLEXED, in_all),
-                    "{settings:?}, n {}, sent {sent:?}, reply {resource}, {b0} {b1}",
-                    window.n
-                );
-                let only_grants = !sent.contains(&Sent::Release) && blocks == 0;
-                *replies.entry((size, only_grants)).or_default() += 1;
+                let block = sent.iter().position(|what| what.is_block());
+                let told = block.map_or(NOT_TOLD, |position| position as u16);
+                let mut in_all: BTreeMap<(u16, u16, u16), Positions> = BTreeMap::new();
+                let fates: Vec<Vec<Fate>> = sent.iter().map(|what| what.fates()).collect();
+                for fates in choices(&fates) {
+                    cases += 1;
+                    let answer = fed(settings, window, &sent, &fates);
+                    if fates.iter().all(|fate| *fate == Fate::Lost) {
+                        assert_eq!(answer.kind, Fed::SILENT, "{settings:?}, {sent:?}");
+                        continue;
+                    }
+                    assert_eq!(answer.kind, Fed::MULTIPLEXED, "{settings:?}, {sent:?}, {fates:?}");
+                    let is_acked = |p: &u16| sent[usize::from(*p)].is_acked(fates[usize::from(*p)]);
+                    let acked: Positions = (0..size).filter(is_acked).map(|p| 1 << p).sum();
+                    let reply = (answer.resource, answer.b0, answer.b1);
+                    *in_all.entry(reply).or_insert(Positions::MAX) &= acked;
+                }
+                for ((resource, b0, b1), due) in in_all {
+                    let read = reading(settings, window.n, told, resource, b0, b1);
+                    assert_eq!(
+                        (read.refusal, read.kind, read.delivered),
+                        (0, Fed::MULTIPLEXED, due),
+                        "{settings:?}, n {}, sent {sent:?}, reply {resource}, {b0} {b1}",
+                        window.n
+                    );
+                    let is_plain = |what: &Sent| matches!(what, Sent::Nothing | Sent::Grant(1));
+                    *replies.entry((size, sent.iter().all(is_plain))).or_insert(0) += 1;
+                }
             }
         }
     }
-    println!("{replies:?}");
+    // At a position nothing has 1 fate, a release 2, a grant or block of one block 3 and one of
+    // two blocks 5. In a cell of one block all but a scheduled block have 6, in one of two 11.
+    let of_cell = |fates: usize, block: usize, size: u32| {
+        fates.pow(size) + size as usize * block * fates.pow(size - 1)
+    };
+    let of_size = |size| of_cell(6, 3, size) + of_cell(11, 8, size);
+    assert_eq!(cases, 4 * of_size(2) + of_size(3) + 4 * of_size(4));
     for (size, pairs) in PAIRS {
         let windows = if size == 3 { 1 } else { 4 };
-        assert_eq!(replies[&(size, true)], windows * pairs as u64, "M {size}, grants alone");
-        assert!(replies[&(size, false)] > replies[&(size, true)], "M {size}");
+        assert_eq!(replies[&(size, true)], windows * 2 * pairs, "M {size}, one-block grants alone");
+        assert!(replies[&(size, false)] > 3 * replies[&(size, true)], "M {size}: {replies:?}");
     }
 }

@@ -1,4 +1,5 @@
--- Runs in which blocks are confirmed: what a station confirms is something. Which blocks, in the worked runs of Worked.antt.
+-- Runs in which blocks are confirmed: what a station confirms is something. Which blocks, in the worked runs of Worked.antt. And one
+-- in which a decoded block is not, and no reader could know better (02, U7).
 -- Assumes nothing.
 use Prim.Native.Nat.{ℕ, zero, suc}
 use mathlib.Core.Bool.{Bool, false, cond}
@@ -77,6 +78,14 @@ delivered-two-of-three = (refl, refl)
 pub delivered-shared : Confirms shared 12 (0 ∷ 1 ∷ []) []
 unfolding schedules confirmed
 delivered-shared = (refl, refl)
+
+-- The positions at which something was sent: grants; lost ones and a release; grants and a lost scheduled block.
+abbrev SentAt : Run → ℕ → List ℕ → Type 0
+SentAt r s ms = passing (sentThere (r .set) (sending (r .sends)) s) (length (windowAt (r .set) s)) 0 ≡ ms
+
+pub sent-at : SentAt sharedByThree 12 (0 ∷ 1 ∷ 2 ∷ []) × SentAt fourLostRelease 12 (1 ∷ 2 ∷ 3 ∷ 4 ∷ 7 ∷ []) × SentAt blockLost 12 (0 ∷ 1 ∷ 3 ∷ [])
+unfolding schedules
+sent-at = (refl, refl, refl)
 
 -- So of A,A,A,D: the grant at position 2 was decoded, but A,A,D,D sends the same symbol.
 pub delivered-shared-by-three : Confirms sharedByThree 12 (0 ∷ 1 ∷ []) []

@@ -92,7 +92,7 @@ module _ (set : Settings) (sent : ℕ → Send) (s : ℕ) (H : ℕ → Heard) (b
         in-every ss size is =
             ours-best .sound (length (windowAt set s)) (λ (p : ℕ). true) (placePosition (reply .named)) (r .b0) (r .b1) ss
             (record { counted = record { ofSize = size; unsent = λ p never. absurd (false≢true (sym never)) }; symbol = rw index-read is }) m
-            (untold _ _ _ _ m (λ (p : ℕ). true) (sentThere set sent s) ∙ ours-best .most rule _ _ _ _ _ sound states sent-by m e)
+            (untold _ _ _ _ m (λ (p : ℕ). true) (sentThere set sent s) ∙ ours-best .most rule _ _ _ _ _ states sent-by sound m e)
 
         go : Dec (m < length (windowAt set s)) → reply .delivered / 2 ^ m % 2 ≡ 1
         go (yes h) = reply .exactly m h .1 in-every

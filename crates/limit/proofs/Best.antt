@@ -112,14 +112,22 @@ module _ (size : ℕ) (sent : Positions) (i b0 b1 : ℕ) (ss : List State) (by :
         symbol = is-symbol _ i b0 b1 (rw (by .counted .ofSize) at (sent-passes _ (symbol-tested sent) ss i b0 b1 (by .symbol)));
       }
 
-  names-most : (rule : Rule) → Sound rule size sent i b0 b1 → (p : ℕ) → rule size sent i b0 b1 p ≡ true → ours size sent i b0 b1 p ≡ true
+  left-out : (p : ℕ) → ours size sent i b0 b1 p ≡ false → (other : List State) × SentBy size sent i b0 b1 other × (getD other p Dtx ≡ Ack → ⊥)
   unfolding witness
-  names-most rule sound p e = turned-ack (ours size sent i b0 b1) ss p (sound witness witness-sent p e)
+  left-out p e = (witness, witness-sent, λ ack. false≢true (sym e ∙ turned-ack (ours size sent i b0 b1) ss p ack))
+
+  names-most : (rule : Rule) → Sound rule size sent i b0 b1 → (p : ℕ) → rule size sent i b0 b1 p ≡ true → ours size sent i b0 b1 p ≡ true
+  names-most rule sound p e = go (ours size sent i b0 b1 p) refl
+    where
+      go : (b : Bool) → ours size sent i b0 b1 p ≡ b → b ≡ true
+      go true is = refl
+      go false is = let other = left-out p is in absurd (other .2 (sound (other .0) (other .1) p e))
 
 -- The station's reading is the best reader.
 pub ours-best : Best ours
 ours-best =
     record {
       sound = names-sound;
-      most = λ rule size sent i b0 b1 sound ss by. names-most size sent i b0 b1 ss by rule sound;
+      most = λ rule size sent i b0 b1 ss by. names-most size sent i b0 b1 ss by rule;
+      leftOut = left-out;
     }

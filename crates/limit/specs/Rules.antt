@@ -57,8 +57,13 @@ ours size sent i b0 b1 p = ltb p size && namedBy (deliveryOf size i b0 b1) p
 pub record Best (best : Rule) : Type 0 where
   -- It is sound itself,
   pub sound : (size : ℕ) (sent : Positions) (i b0 b1 : ℕ) → Sound best size sent i b0 b1
-  -- and, "take every other rule": if it is sound, "then for each symbol that one of them sends it names only positions that ours
+  -- and, "take every other rule": "for each symbol that one of them sends", if the rule is sound, "it names only positions that ours
   -- names". Soundness is asked of this size, these positions and this symbol alone.
-  pub most : (rule : Rule) (size : ℕ) (sent : Positions) (i b0 b1 : ℕ) → Sound rule size sent i b0 b1
+  pub most : (rule : Rule) (size : ℕ) (sent : Positions) (i b0 b1 : ℕ)
       → (ss : List State) → SentBy size sent i b0 b1 ss
+      → Sound rule size sent i b0 b1
       → (p : ℕ) → rule size sent i b0 b1 p ≡ true → best size sent i b0 b1 p ≡ true
+  -- For each position that it leaves out, one of them sends the same symbol and does not have it as A: what was sent there must be
+  -- kept.
+  pub leftOut : (size : ℕ) (sent : Positions) (i b0 b1 : ℕ) (ss : List State) → SentBy size sent i b0 b1 ss
+      → (p : ℕ) → best size sent i b0 b1 p ≡ false → (other : List State) × SentBy size sent i b0 b1 other × (getD other p Dtx ≡ Ack → ⊥)
