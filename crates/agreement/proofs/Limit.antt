@@ -22,7 +22,7 @@ use Rattle.station.specs.declared.Place.{Place}
 use Rattle.station.specs.declared.Reading.{Reading}
 use Rattle.station.specs.Readings.{placePosition}
 use Rattle.limit.specs.Rules.{Rule, SentBy, Sound}
-use Rattle.limit.proofs.Best.{untold, ours-best}
+use Rattle.limit.proofs.Best.{untold, all-counted, ours-best}
 use Rattle.confirmation.specs.declared.Send.{Send}
 use Rattle.confirmation.specs.Sent.{isSent}
 use Rattle.heard.specs.declared.Heard.{Heard}
@@ -91,7 +91,7 @@ module _ (set : Settings) (sent : ℕ → Send) (s : ℕ) (H : ℕ → Heard) (b
             → getD ss m Dtx ≡ Ack
         in-every ss size is =
             ours-best .sound (length (windowAt set s)) (λ (p : ℕ). true) (placePosition (reply .named)) (r .b0) (r .b1) ss
-            (record { counted = record { ofSize = size; unsent = λ p never. absurd (false≢true (sym never)) }; symbol = rw index-read is }) m
+            (all-counted ss size (rw index-read is)) m
             (untold _ _ _ _ m (λ (p : ℕ). true) (sentThere set sent s) ∙ ours-best .most rule _ _ _ _ _ states sent-by sound m e)
 
         go : Dec (m < length (windowAt set s)) → reply .delivered / 2 ^ m % 2 ≡ 1

@@ -18,7 +18,7 @@ use Rattle.symbols.specs.declared.State.the-variants.{Ack, Nack, Dtx}
 use Rattle.symbols.specs.declared.Symbol.the-variants.{Sent}
 use Rattle.symbols.specs.Delivered.{isSymbol, isAck, inSomeRow, deliveredAt, deliveredSet, deliveryOf}
 use Rattle.symbols.specs.Selection.{table2, table3, table4, tableOf, symbolOf}
-use Rattle.symbols.proofs.Reading.{is-symbol}
+use Rattle.symbols.proofs.Reading.{is-symbol, is-ack}
 use Rattle.symbols.proofs.States.{everyWindow, everySent, sent-passes}
 use Rattle.limit.specs.Rules.{Positions, Rule, SentBy, Sound, ours, Best}
 
@@ -35,6 +35,12 @@ inside : (size : ℕ) (sent : Positions) (i b0 b1 p : ℕ) → ours size sent i 
 unfolding ours
 inside size sent i b0 b1 p e = omega (arith, below _ size _ e)
 
+-- Where something was sent at every position each state is counted.
+pub all-counted : {size i b0 b1 : ℕ} (ss : List State) → length ss ≡ size → symbolOf ss ≡ Sent i b0 b1
+    → SentBy size (λ (p : ℕ). true) i b0 b1 ss
+all-counted ss e sent =
+    record { counted = record { ofSize = e; unsent = λ p never. absurd (false≢true (sym never)) }; symbol = sent }
+
 -- a set names only A's of a state
 abbrev acksOnly : Positions → List State → Bool
 acksOnly set [] = true
@@ -46,12 +52,7 @@ acks-tested sent = tt
 
 names-ack : (set : Positions) (ss : List State) → T (acksOnly set ss) → (p : ℕ) → p < length ss → set p ≡ true → getD ss p Dtx ≡ Ack
 names-ack set [] t p h e = absurd (not-suc-le-zero h)
-names-ack set (s ∷ ss) t zero h e = go s (rw e at (and-l (not (set zero) || isAck s) (acksOnly (λ (p : ℕ). set (suc p)) ss) t))
-  where
-    go : (s : State) → T (isAck s) → s ≡ Ack
-    go Ack t = refl
-    go Nack t = absurd t
-    go Dtx t = absurd t
+names-ack set (s ∷ ss) t zero h e = is-ack s (rw e at (and-l (not (set zero) || isAck s) (acksOnly (λ (p : ℕ). set (suc p)) ss) t))
 names-ack set (s ∷ ss) t (suc p) h e =
     names-ack (λ (p : ℕ). set (suc p)) ss (and-r (not (set zero) || isAck s) (acksOnly (λ (p : ℕ). set (suc p)) ss) t) p (le-of-suc-le-suc h) e
 
@@ -123,7 +124,7 @@ module _ (size : ℕ) (sent : Positions) (i b0 b1 : ℕ) (ss : List State) (by :
       go true is = refl
       go false is = let other = left-out p is in absurd (other .2 (sound (other .0) (other .1) p e))
 
--- The station's reading is the best reader.
+-- The reading that `symbols::delivered` gives is the best one.
 pub ours-best : Best ours
 ours-best =
     record {

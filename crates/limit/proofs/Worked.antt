@@ -3,18 +3,23 @@
 use Prim.Native.Nat.{ℕ, zero, suc}
 use mathlib.Core.Bool.{Bool, true, false, _&&_, _||_, false≢true}
 use mathlib.Core.List.{List, [], _∷_}
-use mathlib.Core.Path.{_≡_, refl, sym, ap}
+use mathlib.Core.Path.{_≡_, refl, sym, ap, _∙_}
 use lib.Dec.{eqb, ltb}
-use lib.ListN.{length, getD}
+use lib.ListN.{getD}
 use Rattle.frame.proofs.Bools.{never-true}
 use Rattle.symbols.specs.declared.State.{State}
 use Rattle.symbols.specs.declared.State.the-variants.{Ack, Nack, Dtx}
-use Rattle.symbols.specs.declared.Symbol.the-variants.{Sent}
 use Rattle.symbols.specs.Delivered.{isAck, inSomeRow, deliveredAt, deliveredSet, deliveryOf}
 use Rattle.symbols.specs.Selection.{table2, table3, table4, tableOf, symbolOf}
 use Rattle.symbols.proofs.Rows.{index-heard}
 use Rattle.limit.specs.Rules.{Positions, Rule, SentBy, Sound, ours, Best}
-use Rattle.limit.proofs.Best.{ours-best}
+use Rattle.limit.proofs.Best.{all-counted, ours-best}
+
+-- A position that `ours` leaves out no sound rule names.
+unnamed : (rule : Rule) (size : ℕ) (sent : Positions) (i b0 b1 : ℕ) (ss : List State) → SentBy size sent i b0 b1 ss
+    → (p : ℕ) → ours size sent i b0 b1 p ≡ false → Sound rule size sent i b0 b1 → rule size sent i b0 b1 p ≡ false
+unnamed rule size sent i b0 b1 ss by p left sound =
+    never-true _ (λ e. false≢true (sym left ∙ ours-best .most rule size sent i b0 b1 ss by sound p e))
 
 -- Something was sent at every position, and at positions 0, 1 and 2.
 abbrev allSent : Positions
@@ -23,21 +28,14 @@ allSent p = true
 abbrev threeSent : Positions
 threeSent p = ltb p 3
 
-all-counted : (size i b0 b1 : ℕ) (ss : List State) → length ss ≡ size → symbolOf ss ≡ Sent i b0 b1 → SentBy size allSent i b0 b1 ss
-all-counted size i b0 b1 ss e sent = record { counted = record { ofSize = e; unsent = λ p never. absurd (false≢true (sym never)) }; symbol = sent }
-
--- M = 2: A,N sends (0, 01), and a sound rule does not name position 1. M = 3: A,N,A sends (0, 11), and it does not name position 1.
+-- M = 2: A,N sends (0, 01), and no sound rule names position 1. M = 3: A,N,A sends (0, 11), and none names position 1.
 one-of-two : (rule : Rule) → Sound rule 2 allSent 0 0 1 → rule 2 allSent 0 0 1 1 ≡ false
 unfolding ours deliveryOf inSomeRow deliveredSet deliveredAt symbolOf tableOf table2
-one-of-two rule sound =
-    never-true _
-    (λ e. false≢true (ours-best .most rule 2 allSent 0 0 1 (Ack ∷ Nack ∷ []) (all-counted 2 0 0 1 (Ack ∷ Nack ∷ []) refl refl) sound 1 e))
+one-of-two rule = unnamed rule 2 allSent 0 0 1 (Ack ∷ Nack ∷ []) (all-counted (Ack ∷ Nack ∷ []) refl refl) 1 refl
 
 two-of-three : (rule : Rule) → Sound rule 3 allSent 0 1 1 → rule 3 allSent 0 1 1 1 ≡ false
 unfolding ours deliveryOf inSomeRow deliveredSet deliveredAt symbolOf tableOf table3
-two-of-three rule sound =
-    never-true _
-    (λ e. false≢true (ours-best .most rule 3 allSent 0 1 1 (Ack ∷ Nack ∷ Ack ∷ []) (all-counted 3 0 1 1 (Ack ∷ Nack ∷ Ack ∷ []) refl refl) sound 1 e))
+two-of-three rule = unnamed rule 3 allSent 0 1 1 (Ack ∷ Nack ∷ Ack ∷ []) (all-counted (Ack ∷ Nack ∷ Ack ∷ []) refl refl) 1 refl
 
 -- M = 4: A,A,A,D is counted where three were sent, and sends (1, 10), as A,A,N,D and A,A,D,D do.
 three-acked : SentBy 4 threeSent 1 1 0 (Ack ∷ Ack ∷ Ack ∷ Dtx ∷ [])
@@ -52,10 +50,9 @@ three-acked = record { counted = record { ofSize = refl; unsent = at }; symbol =
     at (suc (suc (suc (suc p)))) e = refl
 
 -- So no sound rule names position 2 there, though it was decoded: a reader can't know that, told where something was sent or not told.
-two-is-not-named : (rule : Rule) → Sound rule 4 threeSent 1 1 0 → rule 4 threeSent 1 1 0 2 ≡ false
+two-of-four : (rule : Rule) → Sound rule 4 threeSent 1 1 0 → rule 4 threeSent 1 1 0 2 ≡ false
 unfolding ours deliveryOf inSomeRow deliveredSet deliveredAt symbolOf tableOf table4
-two-is-not-named rule sound =
-    never-true _ (λ e. false≢true (ours-best .most rule 4 threeSent 1 1 0 (Ack ∷ Ack ∷ Ack ∷ Dtx ∷ []) three-acked sound 2 e))
+two-of-four rule = unnamed rule 4 threeSent 1 1 0 (Ack ∷ Ack ∷ Ack ∷ Dtx ∷ []) three-acked 2 refl
 
 -- Where nothing was sent no counted state sends anything, and every rule is sound. So the conclusion is for symbols that one sends:
 -- the rule that names every position names more than `ours` for (0, 01) of M = 2.
@@ -81,7 +78,7 @@ oneRow size sent i b0 b1 p = ours size sent i b0 b1 p || (eqb size 4 && eqb i 1 
 
 not-one-row : Best oneRow → ⊥
 unfolding ours deliveryOf inSomeRow deliveredSet deliveredAt symbolOf tableOf table4
-not-one-row best = false≢true (ap isAck (best .sound 4 allSent 1 1 0 (Ack ∷ Ack ∷ Dtx ∷ Dtx ∷ []) (all-counted 4 1 1 0 (Ack ∷ Ack ∷ Dtx ∷ Dtx ∷ []) refl refl) 2 refl))
+not-one-row best = false≢true (ap isAck (best .sound 4 allSent 1 1 0 (Ack ∷ Ack ∷ Dtx ∷ Dtx ∷ []) (all-counted (Ack ∷ Ack ∷ Dtx ∷ Dtx ∷ []) refl refl) 2 refl))
 
 -- Nor is soundness too much to ask: that rule names a position more than `ours` for a symbol that is sent.
 one-row-more : (oneRow 4 allSent 1 1 0 2 ≡ true) × (ours 4 allSent 1 1 0 2 ≡ false)

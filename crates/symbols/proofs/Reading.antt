@@ -56,7 +56,7 @@ in-no-row size i b0 b1 none =
     (every-from size (unsent i b0 b1)
     (λ t e. not-T (isSymbol (symbolOf t) i b0 b1) (λ same. none t e (is-symbol (symbolOf t) i b0 b1 same)))))
 
-is-ack : (s : State) → T (isAck s) → s ≡ Ack
+pub is-ack : (s : State) → T (isAck s) → s ≡ Ack
 is-ack Ack t = refl
 is-ack Nack t = absurd t
 is-ack Dtx t = absurd t
