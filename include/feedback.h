@@ -643,11 +643,12 @@ struct feedback_inverse_answer feedback_inverse(struct feedback_settings setting
  * sent at a delivered position was heard, a release too.
  *
  * No cleverer reading of a multiplexed reply frees a buffer sooner, not even one that
- * also knows at which positions something was sent: it is proved that a rule which
- * names only positions that are A in every state that sends this symbol, of those that
- * are D where nothing was sent, names only positions that delivered has. For each
- * position left out, one of these states sends the same symbol and is not A there, so
- * what was sent there must be kept (crates/limit/specs/Rules.antt, proofs/Best.antt).
+ * also knows at which positions something was sent. Count the states that are D where
+ * nothing was sent: it is proved that for a symbol which one of them sends, a rule that
+ * names only positions which are A in all of them that send it names only positions in
+ * delivered, and that for each position left out, one of them that sends it is not A
+ * there, so that what was sent there must be kept (crates/limit/specs/Rules.antt,
+ * crates/limit/proofs/Best.antt).
  *
  * A reading says what the resource and the bits mean; it does not know what was
  * sent. If it names a PDCCH, and the station sent this handset none with that first

@@ -79,6 +79,11 @@ pub delivered-shared : Confirms shared 12 (0 ∷ 1 ∷ []) []
 unfolding schedules confirmed
 delivered-shared = (refl, refl)
 
+-- So of A,A,A,D: the grant at position 2 was decoded, but A,A,D,D sends the same symbol.
+pub delivered-shared-by-three : Confirms sharedByThree 12 (0 ∷ 1 ∷ []) []
+unfolding schedules confirmed
+delivered-shared-by-three = (refl, refl)
+
 -- The positions at which something was sent: grants; lost ones and a release; grants and a lost scheduled block.
 abbrev SentAt : Run → ℕ → List ℕ → Type 0
 SentAt r s ms = passing (sentThere (r .set) (sending (r .sends)) s) (length (windowAt (r .set) s)) 0 ≡ ms
@@ -87,12 +92,7 @@ pub sent-at : SentAt sharedByThree 12 (0 ∷ 1 ∷ 2 ∷ []) × SentAt fourLostR
 unfolding schedules
 sent-at = (refl, refl, refl)
 
--- So of A,A,A,D: the grant at position 2 was decoded, but A,A,D,D sends the same symbol.
-pub delivered-shared-by-three : Confirms sharedByThree 12 (0 ∷ 1 ∷ []) []
-unfolding schedules confirmed
-delivered-shared-by-three = (refl, refl)
-
--- And no rule that is sound there names position 2, told at which positions something was sent (02, U7).
+-- Of A,A,A,D no sound rule names position 2, told at which positions something was sent (02, U7).
 abbrev sentByThree : Positions
 sentByThree = sentThere (sharedByThree .set) (sending (sharedByThree .sends)) 12
 

@@ -3,7 +3,7 @@
 use Prim.Native.Nat.{ℕ, zero, suc}
 use mathlib.Core.Bool.{Bool, true, false, _&&_, _||_, false≢true}
 use mathlib.Core.List.{List, [], _∷_}
-use mathlib.Core.Path.{_≡_, refl, sym, ap, _∙_}
+use mathlib.Core.Path.{_≡_, refl, sym, ap}
 use lib.Dec.{eqb, ltb}
 use lib.ListN.{getD}
 use Rattle.frame.proofs.Bools.{never-true}
@@ -19,7 +19,8 @@ use Rattle.limit.proofs.Best.{all-counted, ours-best}
 unnamed : (rule : Rule) (size : ℕ) (sent : Positions) (i b0 b1 : ℕ) (ss : List State) → SentBy size sent i b0 b1 ss
     → (p : ℕ) → ours size sent i b0 b1 p ≡ false → Sound rule size sent i b0 b1 → rule size sent i b0 b1 p ≡ false
 unnamed rule size sent i b0 b1 ss by p left sound =
-    never-true _ (λ e. false≢true (sym left ∙ ours-best .most rule size sent i b0 b1 ss by sound p e))
+    let other = ours-best .leftOut size sent i b0 b1 ss by p left in
+    never-true _ (λ e. other .2 (sound (other .0) (other .1) p e))
 
 -- Something was sent at every position, and at positions 0, 1 and 2.
 abbrev allSent : Positions

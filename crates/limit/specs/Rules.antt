@@ -63,7 +63,7 @@ pub record Best (best : Rule) : Type 0 where
       → (ss : List State) → SentBy size sent i b0 b1 ss
       → Sound rule size sent i b0 b1
       → (p : ℕ) → rule size sent i b0 b1 p ≡ true → best size sent i b0 b1 p ≡ true
-  -- For each position that it leaves out, one of them sends the same symbol and does not have it as A: what was sent there must be
-  -- kept.
+  -- For each symbol that one of them sends and each position left out, one of them sending that symbol does not have the position as
+  -- A: what was sent there must be kept.
   pub leftOut : (size : ℕ) (sent : Positions) (i b0 b1 : ℕ) (ss : List State) → SentBy size sent i b0 b1 ss
       → (p : ℕ) → best size sent i b0 b1 p ≡ false → (other : List State) × SentBy size sent i b0 b1 other × (getD other p Dtx ≡ Ack → ⊥)
