@@ -5,6 +5,7 @@
 use Prim.Native.Nat.{ℕ, zero, suc, _<_}
 use mathlib.Core.Bool.{Bool, true, false, cond, not, _&&_, _||_, false≢true}
 use mathlib.Core.List.{List, [], _∷_}
+use mathlib.Core.Logic.{_⊎_, inl, inr, ⊎-elim}
 use mathlib.Core.Path.{_≡_, refl, sym, ap, _∙_}
 use native.Mathlib.Nat.{le-of-suc-le-suc, not-suc-le-zero}
 use native.Mathlib.Omega.{arith}
@@ -20,7 +21,7 @@ use Rattle.symbols.specs.Delivered.{isSymbol, isAck, inSomeRow, deliveredAt, de
 use Rattle.symbols.specs.Selection.{table2, table3, table4, tableOf, symbolOf}
 use Rattle.symbols.proofs.Reading.{is-symbol, is-ack}
 use Rattle.symbols.proofs.States.{everyWindow, everySent, sent-passes}
-use Rattle.limit.specs.Rules.{Positions, Rule, SentBy, Sound, ours, Best}
+use Rattle.limit.specs.Rules.{Positions, Rule, SentBy, Sound, ours, LosesMore, Best}
 
 -- `ours` is told what was sent, and does not look at it.
 pub untold : (size i b0 b1 p : ℕ) (sent other : Positions) → ours size sent i b0 b1 p ≡ ours size other i b0 b1 p
@@ -70,11 +71,21 @@ turned-length : (set : Positions) (ss : List State) → length (turnedOutside se
 turned-length set [] = refl
 turned-length set (s ∷ ss) = ap suc (turned-length (λ (p : ℕ). set (suc p)) ss)
 
--- What is D stays D.
-turned-dtx : (set : Positions) (ss : List State) (p : ℕ) → getD ss p Dtx ≡ Dtx → getD (turnedOutside set ss) p Dtx ≡ Dtx
-turned-dtx set [] p e = refl
-turned-dtx set (s ∷ ss) zero e = rw e
-turned-dtx set (s ∷ ss) (suc p) e = turned-dtx (λ (p : ℕ). set (suc p)) ss p e
+-- Nothing changes but that more is lost.
+turned-lost : (set : Positions) (ss : List State) → LosesMore ss (turnedOutside set ss)
+turned-lost set [] p = inl refl
+turned-lost set (s ∷ ss) zero = go (set zero) s
+  where
+    go : (b : Bool) (s : State) → (turned b s ≡ s) ⊎ (turned b s ≡ Dtx)
+    go true Ack = inl refl
+    go false Ack = inr refl
+    go b Nack = inl refl
+    go b Dtx = inl refl
+turned-lost set (s ∷ ss) (suc p) = turned-lost (λ (p : ℕ). set (suc p)) ss p
+
+-- So what is D stays D.
+lost-dtx : (ss other : List State) → LosesMore ss other → (p : ℕ) → getD ss p Dtx ≡ Dtx → getD other p Dtx ≡ Dtx
+lost-dtx ss other more p e = ⊎-elim (λ same. same ∙ e) (λ dtx. dtx) (more p)
 
 -- What is A is in the set.
 turned-ack : (set : Positions) (ss : List State) (p : ℕ) → getD (turnedOutside set ss) p Dtx ≡ Ack → set p ≡ true
@@ -108,21 +119,27 @@ module _ (size : ℕ) (sent : Positions) (i b0 b1 : ℕ) (ss : List State) (by :
       record {
         counted = record {
           ofSize = turned-length (ours size sent i b0 b1) ss ∙ by .counted .ofSize;
-          unsent = λ p e. turned-dtx (ours size sent i b0 b1) ss p (by .counted .unsent p e);
+          unsent = λ p e. lost-dtx ss witness (turned-lost (ours size sent i b0 b1) ss) p (by .counted .unsent p e);
         };
         symbol = is-symbol _ i b0 b1 (rw (by .counted .ofSize) at (sent-passes _ (symbol-tested sent) ss i b0 b1 (by .symbol)));
       }
 
-  left-out : (p : ℕ) → ours size sent i b0 b1 p ≡ false → (other : List State) × SentBy size sent i b0 b1 other × (getD other p Dtx ≡ Ack → ⊥)
+  left-out : (p : ℕ) → ours size sent i b0 b1 p ≡ false
+      → (other : List State) × SentBy size sent i b0 b1 other × LosesMore ss other × (getD other p Dtx ≡ Ack → ⊥)
   unfolding witness
-  left-out p e = (witness, witness-sent, λ ack. false≢true (sym e ∙ turned-ack (ours size sent i b0 b1) ss p ack))
+  left-out p e = (
+    witness,
+    witness-sent,
+    turned-lost (ours size sent i b0 b1) ss,
+    λ ack. false≢true (sym e ∙ turned-ack (ours size sent i b0 b1) ss p ack),
+  )
 
   names-most : (rule : Rule) → Sound rule size sent i b0 b1 → (p : ℕ) → rule size sent i b0 b1 p ≡ true → ours size sent i b0 b1 p ≡ true
   names-most rule sound p e = go (ours size sent i b0 b1 p) refl
     where
       go : (b : Bool) → ours size sent i b0 b1 p ≡ b → b ≡ true
       go true is = refl
-      go false is = let other = left-out p is in absurd (other .2 (sound (other .0) (other .1) p e))
+      go false is = let other = left-out p is in absurd (other .3 (sound (other .0) (other .1) p e))
 
 -- The reading that `symbols::delivered` gives is the best one.
 pub ours-best : Best ours

@@ -20,7 +20,7 @@ unnamed : (rule : Rule) (size : ℕ) (sent : Positions) (i b0 b1 : ℕ) (ss : Li
     → (p : ℕ) → ours size sent i b0 b1 p ≡ false → Sound rule size sent i b0 b1 → rule size sent i b0 b1 p ≡ false
 unnamed rule size sent i b0 b1 ss by p left sound =
     let other = ours-best .leftOut size sent i b0 b1 ss by p left in
-    never-true _ (λ e. other .2 (sound (other .0) (other .1) p e))
+    never-true _ (λ e. other .3 (sound (other .0) (other .1) p e))
 
 -- Something was sent at every position, and at positions 0, 1 and 2.
 abbrev allSent : Positions

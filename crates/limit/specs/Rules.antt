@@ -5,6 +5,7 @@
 use Prim.Native.Nat.{ℕ, _/_, _%_, _^_}
 use mathlib.Core.Bool.{Bool, true, false, _&&_}
 use mathlib.Core.List.{List}
+use mathlib.Core.Logic.{_⊎_}
 use mathlib.Core.Path.{_≡_}
 use lib.Dec.{eqb, ltb}
 use lib.ListN.{length, getD}
@@ -52,6 +53,10 @@ namedBy NoRow p = false
 unfoldable pub ours : Rule
 ours size sent i b0 b1 p = ltb p size && namedBy (deliveryOf size i b0 b1) p
 
+-- The other state differs from ss only in more that was lost, if at all.
+abbrev pub LosesMore : List State → List State → Type 0
+LosesMore ss other = (p : ℕ) → (getD other p Dtx ≡ getD ss p Dtx) ⊎ (getD other p Dtx ≡ Dtx)
+
 -- What makes a rule the best reader. Of every M: only windows of 2, 3 and 4 positions have symbols (`sent-size` in
 -- symbols/proofs/Rows.antt), so this is one fact for these three.
 pub record Best (best : Rule) : Type 0 where
@@ -63,7 +68,9 @@ pub record Best (best : Rule) : Type 0 where
       → (ss : List State) → SentBy size sent i b0 b1 ss
       → Sound rule size sent i b0 b1
       → (p : ℕ) → rule size sent i b0 b1 p ≡ true → best size sent i b0 b1 p ≡ true
-  -- For each symbol that one of them sends and each position left out, one of them sending that symbol does not have the position as
-  -- A: what was sent there must be kept.
+  -- Take a counted state and a position that is left out of its symbol. Some counted state, which differs from it only in more that was
+  -- lost, sends the same symbol and does not have the position as A: what was sent there must be kept. So a rule that also knew
+  -- whether a grant, a scheduled block or a release was sent could not name the position either, for each of these can be lost.
   pub leftOut : (size : ℕ) (sent : Positions) (i b0 b1 : ℕ) (ss : List State) → SentBy size sent i b0 b1 ss
-      → (p : ℕ) → best size sent i b0 b1 p ≡ false → (other : List State) × SentBy size sent i b0 b1 other × (getD other p Dtx ≡ Ack → ⊥)
+      → (p : ℕ) → best size sent i b0 b1 p ≡ false
+      → (other : List State) × SentBy size sent i b0 b1 other × LosesMore ss other × (getD other p Dtx ≡ Ack → ⊥)
