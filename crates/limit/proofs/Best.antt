@@ -28,6 +28,7 @@ pub untold : (size i b0 b1 p : ℕ) (sent other : Positions) → ours size sent 
 unfolding ours
 untold size i b0 b1 p sent other = refl
 
+-- a number that passes a test with a bound is below it
 below : (a n : ℕ) (b : Bool) → (ltb a n && b) ≡ true → a < n
 below a n b e = ltb-true a n (both (ltb a n) b e .0)
 

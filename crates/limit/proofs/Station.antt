@@ -21,17 +21,18 @@ use Rattle.symbols.proofs.Reading.{set-below}
 use Rattle.station.specs.declared.Place.{Place}
 use Rattle.station.specs.declared.Place.the-variants.{Pdcch, Block}
 use Rattle.station.specs.declared.Reading.{Reading}
-use Rattle.station.specs.declared.Reading.the-variants.{Bundled, Multiplexed, Refused}
+use Rattle.station.specs.declared.Reading.the-variants.{Multiplexed, Refused}
 use Rattle.station.specs.declared.Told.{Told}
 use Rattle.station.specs.declared.Told.the-variants as told
 use Rattle.station.specs.Readings.{placePosition, badBits, bundledReading, multiplexedReading, readAt, readInverted, dynamicReading, toldRefusal, readOn, readAs, readOf}
-use Rattle.limit.specs.Rules.{Positions, inSet, namedBy, ours}
+use Rattle.limit.specs.Rules.{inSet, ours}
 use Rattle.limit.specs.Station.{ReadingIsOurs}
 
 -- What a multiplexed reading delivers is what the symbol at its place delivers.
 abbrev Delivers : ℕ → ℕ → ℕ → Reading → Type 0
 Delivers size b0 b1 x = (named : Place) (set : ℕ) → x ≡ Multiplexed named set → deliveryOf size (placePosition named) b0 b1 ≡ delivery.Set set
 
+-- So it is of each step by which the reading is made.
 refused-delivers : (size b0 b1 k : ℕ) → Delivers size b0 b1 (Refused k)
 refused-delivers size b0 b1 k named set e = let z : _≡_ {A = ℕ} 0 1 = cc in absurd (omega arith)
 

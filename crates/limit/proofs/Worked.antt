@@ -1,8 +1,9 @@
 -- The statement on numbers: that its hypotheses can be met, that both are needed, and readers that it shuts out.
 -- Assumes nothing.
 use Prim.Native.Nat.{ℕ, zero, suc}
-use mathlib.Core.Bool.{Bool, true, false, _&&_, _||_, false≢true}
+use mathlib.Core.Bool.{true, false, _&&_, _||_, false≢true}
 use mathlib.Core.List.{List, [], _∷_}
+use mathlib.Core.Logic.{inl, inr, ⊎-elim}
 use mathlib.Core.Path.{_≡_, refl, sym, ap}
 use lib.Dec.{eqb, ltb}
 use lib.ListN.{getD}
@@ -12,7 +13,7 @@ use Rattle.symbols.specs.declared.State.the-variants.{Ack, Nack, Dtx}
 use Rattle.symbols.specs.Delivered.{isAck, inSomeRow, deliveredAt, deliveredSet, deliveryOf}
 use Rattle.symbols.specs.Selection.{table2, table3, table4, tableOf, symbolOf}
 use Rattle.symbols.proofs.Rows.{index-heard}
-use Rattle.limit.specs.Rules.{Positions, Rule, SentBy, Sound, ours, Best}
+use Rattle.limit.specs.Rules.{Positions, Rule, SentBy, Sound, ours, LosesMore, Best}
 use Rattle.limit.proofs.Best.{all-counted, ours-best}
 
 -- A position that `ours` leaves out no sound rule names.
@@ -54,6 +55,16 @@ three-acked = record { counted = record { ofSize = refl; unsent = at }; symbol =
 two-of-four : (rule : Rule) → Sound rule 4 threeSent 1 1 0 → rule 4 threeSent 1 1 0 2 ≡ false
 unfolding ours deliveryOf inSomeRow deliveredSet deliveredAt symbolOf tableOf table4
 two-of-four rule = unnamed rule 4 threeSent 1 1 0 (Ack ∷ Ack ∷ Ack ∷ Dtx ∷ []) three-acked 2 refl
+
+-- What more lost means: A,A,D,D is A,A,A,D with more lost, and A,A is not A,N with more lost.
+more-lost : LosesMore (Ack ∷ Ack ∷ Ack ∷ Dtx ∷ []) (Ack ∷ Ack ∷ Dtx ∷ Dtx ∷ [])
+more-lost zero = inl refl
+more-lost (suc zero) = inl refl
+more-lost (suc (suc zero)) = inr refl
+more-lost (suc (suc (suc p))) = inl refl
+
+not-more-lost : LosesMore (Ack ∷ Nack ∷ []) (Ack ∷ Ack ∷ []) → ⊥
+not-more-lost more = ⊎-elim (λ e. false≢true (ap isAck (sym e))) (λ e. false≢true (ap isAck (sym e))) (more 1)
 
 -- Where nothing was sent no counted state sends anything, and every rule is sound. So the conclusion is for symbols that one sends:
 -- the rule that names every position names more than `ours` for (0, 01) of M = 2.
