@@ -5,15 +5,15 @@ use crate::form::Form;
 use crate::guarded::{Flush, Guarded, BOTH};
 use crate::model::Model;
 use crate::plain::{
-    plain_answered, plain_feed_grant, plain_feed_nothing, plain_feed_release, plain_feed_scheduled,
-    plain_inverse, plain_make, plain_reading, plain_record, plain_replay, plain_resource,
-    plain_trace_write, plain_window,
+    plain_answered, plain_change_mode, plain_feed_grant, plain_feed_nothing, plain_feed_release,
+    plain_feed_scheduled, plain_inverse, plain_make, plain_reading, plain_record, plain_replay,
+    plain_resource, plain_trace_write, plain_window,
 };
 use crate::random::Random;
 use crate::{
-    answered, feed, inverse, make, reading, record, replay, resource, trace_write, window, Block,
-    ClaimsAnswer, Fed, Grant, Handset, Heard, ReadingAnswer, RecordAnswer, Release, ReplayAnswer,
-    Settings, WriteAnswer,
+    answered, change_mode, feed, inverse, make, reading, record, replay, resource, trace_write,
+    window, Block, Changed, ClaimsAnswer, Fed, Grant, Handset, Heard, ReadingAnswer, RecordAnswer,
+    Release, ReplayAnswer, Settings, WriteAnswer,
 };
 use std::fmt;
 use std::hint::black_box;
@@ -192,6 +192,19 @@ impl<'a> Comparison<'a> {
         );
         self.counts[usize::from(due.refusal)] += 1;
         self.kinds[usize::from(due.kind)] += 1;
+        given
+    }
+
+    pub fn change_mode(&mut self, handset: Handset, mode: u16) -> Changed {
+        let due = self.model.change_mode(handset, mode);
+        let given = change_mode(handset, mode);
+        let plain = plain_change_mode(handset, mode);
+        assert!(
+            given == due && plain == due,
+            "feedback_change_mode({handset:?}, mode {mode}): the engine gives {given:?}, the model \
+             {due:?}, the plain implementation {plain:?}"
+        );
+        self.counts[usize::from(due.refusal)] += 1;
         given
     }
 

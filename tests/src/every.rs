@@ -1,7 +1,7 @@
 //! Inputs in every combination of some values.
 
-use crate::model::{Model, Window};
-use crate::{Settings, NONE};
+use crate::model::{edge, Model, Window};
+use crate::{Handset, Settings, NONE};
 
 /// The four ways to set mode and blocks; one of the modes is not for configuration 5.
 pub const MODE_AND_BLOCKS: [(u16, u16); 4] = [(0, 1), (0, 2), (1, 1), (1, 2)];
@@ -54,6 +54,43 @@ pub fn mixed_cells() -> Vec<Settings> {
     assert_eq!(cells.len(), 13);
     cells
 }
+
+/// The handset with one field changed, for each field and each of its values: 0,
+/// the limits, one past them, the largest of its type, and the like.
+pub fn damaged(handset: Handset) -> Vec<Handset> {
+    let mut all = Vec::new();
+    let mut each = |values: &[u16], set: &dyn Fn(&mut Handset, u16)| {
+        for value in values {
+            let mut changed = handset;
+            set(&mut changed, *value);
+            all.push(changed);
+        }
+    };
+    let Settings { nrb, n1, .. } = handset.settings;
+    each(&[0, 1, 5, 6, 7, 65535], &|handset, value| handset.settings.config = value);
+    each(&[0, 5, 6, 110, 111, 65535], &|handset, value| handset.settings.nrb = value);
+    each(&[0, 1, 2047, 2048, 65535], &|handset, value| handset.settings.n1 = value);
+    each(&[0, 1, 2, 65535], &|handset, value| handset.settings.mode = value);
+    each(&[0, 1, 2, 3, 65535], &|handset, value| handset.settings.blocks = value);
+    each(&[0, n1 - 1, n1, n1 + 1, 65534, NONE], &|handset, value| {
+        handset.settings.scheduled = value;
+    });
+    each(&[0, 1, 2, 65535], &|handset, value| handset.settings.prefix = value);
+    each(&[0, 4, 5, 8, 9, 65535], &|handset, value| handset.settings.special = value);
+    each(&[0, 1, 2, 5, 9, 10, 65535], &|handset, value| handset.next = value);
+    each(&[0, 1, 4096, 8191, 8192, 57344, 65535], &|handset, value| handset.modes = value);
+    let cces = edge(nrb, 4);
+    for at in 0..13 {
+        each(&[0, 1, 2, 3, 4, 255], &|handset, value| handset.past[at].kind = value as u8);
+        each(&[0, cces - 1, cces, 255], &|handset, value| handset.past[at].cce = value as u8);
+        each(&[0, 1, 4, 5, 255], &|handset, value| handset.past[at].dai = value as u8);
+        each(&[0, 1, 3, 4, 7, 8, 255], &|handset, value| handset.past[at].results = value as u8);
+    }
+    all
+}
+
+/// How many those are.
+pub const DAMAGED: u64 = 6 + 6 + 5 + 4 + 5 + 6 + 4 + 6 + 7 + 7 + 13 * (6 + 4 + 5 + 7);
 
 /// Every window, with all settings of these values.
 pub fn window<'a>(

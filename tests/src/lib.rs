@@ -21,20 +21,20 @@ pub mod types;
 pub mod vectors;
 
 pub use types::{
-    AnsweredAnswer, Block, ClaimsAnswer, Fed, Grant, Handset, Heard, InverseAnswer, Made,
-    ReadingAnswer, RecordAnswer, Release, ReplayAnswer, ResourceAnswer, Settings, Slot,
+    AnsweredAnswer, Block, Changed, ClaimsAnswer, Fed, Grant, Handset, Heard, InverseAnswer, Made,
+    ReadingAnswer, RecordAnswer, Release, ReplayAnswer, ResourceAnswer, Settings, Slot, Step,
     WindowAnswer, WriteAnswer, NONE, NOT_TOLD,
 };
 
 /// The engine's calls under their C names.
 pub mod c {
     use super::{
-        AnsweredAnswer, ClaimsAnswer, Fed, Handset, InverseAnswer, Made, ReadingAnswer,
+        AnsweredAnswer, Changed, ClaimsAnswer, Fed, Handset, InverseAnswer, Made, ReadingAnswer,
         RecordAnswer, ReplayAnswer, ResourceAnswer, Settings, WindowAnswer, WriteAnswer,
     };
 
     extern "C" {
-        pub fn feedback_layout_3() -> u16;
+        pub fn feedback_layout_4() -> u16;
 
         pub fn feedback_window(settings: Settings, n: u16) -> WindowAnswer;
 
@@ -98,6 +98,8 @@ pub mod c {
 
         pub fn feedback_feed_release(handset: Handset, cce: u16, dai: u16) -> Fed;
 
+        pub fn feedback_change_mode(handset: Handset, mode: u16) -> Changed;
+
         pub fn feedback_replay(
             trace: *const u8,
             length: usize,
@@ -117,9 +119,9 @@ pub mod c {
 }
 
 /// The number of the structs' layout.
-pub fn layout_3() -> u16 {
+pub fn layout_4() -> u16 {
     // SAFETY: the call gives a number, and is lent no memory.
-    unsafe { c::feedback_layout_3() }
+    unsafe { c::feedback_layout_4() }
 }
 
 /// The engine's window of uplink subframe `n`.
@@ -220,6 +222,12 @@ pub fn feed_release(handset: Handset, release: Release) -> Fed {
     let Release { cce, dai } = release;
     // SAFETY: the call takes numbers and gives numbers, and is lent no memory.
     unsafe { c::feedback_feed_release(handset, cce, dai) }
+}
+
+/// The engine's answer to another mode for a handset, between two feeds.
+pub fn change_mode(handset: Handset, mode: u16) -> Changed {
+    // SAFETY: the call takes numbers and gives numbers, and is lent no memory.
+    unsafe { c::feedback_change_mode(handset, mode) }
 }
 
 /// The engine's replay of a trace, with the windows it leaves in the output.

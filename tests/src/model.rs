@@ -221,16 +221,23 @@ pub fn bundles(settings: Settings, size: u16) -> bool {
 fn settings_refusal(settings: Settings) -> Option<u16> {
     let Settings { config, nrb, n1, mode, blocks, scheduled, prefix, special } = settings;
     let last_special = SPECIALS.get(usize::from(prefix)).map(|(last, _)| *last);
+    let [no_mode, no_multiplexing] = mode_causes(config, mode);
     first_met([
         (1, config > 6),
         (2, !NRB.contains(&nrb)),
         (3, n1 > 2047),
-        (4, ![0, 1].contains(&mode)),
-        (5, (mode, config) == (1, 5)),
+        no_mode,
+        no_multiplexing,
         (6, ![1, 2].contains(&blocks)),
         (17, scheduled != NONE && scheduled >= n1),
         (19, last_special.is_none_or(|last| special > last)),
     ])
+}
+
+/// The causes that speak of the mode, be it that of the settings, one that they are to
+/// get, or one that is remembered.
+fn mode_causes(config: u16, mode: u16) -> [(u16, bool); 2] {
+    [(4, ![0, 1].contains(&mode)), (5, (mode, config) == (1, 5))]
 }
 
 /// The first in order among the causes that are met.

@@ -11,7 +11,8 @@ mod station;
 mod window;
 
 pub use handset::{
-    plain_feed_grant, plain_feed_nothing, plain_feed_release, plain_feed_scheduled, plain_make,
+    plain_change_mode, plain_feed_grant, plain_feed_nothing, plain_feed_release,
+    plain_feed_scheduled, plain_make,
 };
 pub use replay::{plain_record, plain_replay};
 pub use spelling::plain_trace_write;
@@ -154,9 +155,9 @@ fn check(settings: &Settings) -> Result<(), u16> {
     }
 }
 
-/// Whether the reply for a window of `size` subframes is bundled.
-fn bundles(settings: &Settings, size: u16) -> bool {
-    settings.mode == 0 || size == 1
+/// Whether the reply for a window of `size` subframes is bundled in a mode.
+fn bundles(mode: u16, size: u16) -> bool {
+    mode == 0 || size == 1
 }
 
 /// Whether special subframes are too short for data, by settings that have been checked.

@@ -239,6 +239,12 @@ impl Random {
         }
     }
 
+    /// A mode, or once in `times` any number.
+    pub fn wild_mode(&mut self, times: usize) -> u16 {
+        let mode = self.below16(2);
+        self.unless_once_in(times, mode)
+    }
+
     /// Records that a replay takes to the end. What is drawn for a subframe is recorded
     /// if a handset takes it there, else nothing is. DAIs go by the rule, mostly, and what
     /// a record's kind does not use has any value.
@@ -330,7 +336,7 @@ impl Random {
     pub fn damage(&mut self, mut handset: Handset) -> Handset {
         for _ in 0..1 + self.below(3) {
             let settings = &mut handset.settings;
-            match self.below(24) {
+            match self.below(28) {
                 0 => settings.config = self.any(),
                 1 => settings.nrb = self.any(),
                 2 => settings.n1 = self.any(),
@@ -345,6 +351,9 @@ impl Random {
                 11 => settings.prefix = self.near(2),
                 12 => settings.special = self.near(9),
                 13 => (settings.prefix, settings.special) = self.one_of(&SPECIALS),
+                14 => settings.mode = self.below16(2),
+                15 => handset.modes = self.any(),
+                16 => handset.modes ^= 1 << self.below(16),
                 _ => self.damage_slot(&mut handset.past),
             }
         }
@@ -370,6 +379,7 @@ impl Random {
     pub fn noise(&mut self) -> Handset {
         let mut handset = Handset::fresh(self.wild_settings(2));
         handset.next = self.any();
+        handset.modes = self.any();
         for slot in &mut handset.past {
             let [kind, cce, dai, results] = [0; 4].map(|_: u8| self.any_byte());
             let kind = if self.once_in(2) { self.below(4) as u8 } else { kind };

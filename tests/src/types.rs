@@ -153,13 +153,15 @@ pub struct Slot {
     pub results: u8,
 }
 
-/// A running handset: its settings, the subframe it expects, and the last 13
-/// subframes, newest first.
+/// A running handset: its settings, the subframe it expects, the modes that stood at
+/// the last 13 feeds, bit i at the one i + 1 ago, and what these heard, newest first.
+/// Bits 13 to 15 say nothing.
 #[repr(C)]
 #[derive(Clone, Copy, Debug, PartialEq, Eq)]
 pub struct Handset {
     pub settings: Settings,
     pub next: u16,
+    pub modes: u16,
     pub past: [Slot; 13],
 }
 
@@ -167,6 +169,14 @@ pub struct Handset {
 #[repr(C)]
 #[derive(Clone, Copy, Debug, PartialEq, Eq)]
 pub struct Made {
+    pub refusal: u16,
+    pub handset: Handset,
+}
+
+/// The answer of a mode change: a refusal, or 0; and the handset afterwards.
+#[repr(C)]
+#[derive(Clone, Copy, Debug, PartialEq, Eq)]
+pub struct Changed {
     pub refusal: u16,
     pub handset: Handset,
 }
@@ -253,6 +263,13 @@ pub enum Heard {
     Grant(Grant),
     Block(Block),
     Release(Release),
+}
+
+/// One step of a run: a feed, or a mode change between two feeds.
+#[derive(Clone, Copy, Debug, PartialEq, Eq)]
+pub enum Step {
+    Feed(Heard),
+    Change(u16),
 }
 
 /// Where there is no schedule, a subframe brings a grant or nothing.
@@ -419,12 +436,45 @@ impl Handset {
     pub const NONE: Self = Self {
         settings: Settings::plain(0, 0, 0, 0, 0).with_scheduled(0).with_special(0, 0),
         next: 0,
+        modes: 0,
         past: [Slot::NOTHING; 13],
     };
 
-    /// A fresh one, which has heard nothing and expects subframe 0.
+    /// A fresh one, which has heard nothing and expects subframe 0. Before the start
+    /// stands the mode that it is made with.
     pub fn fresh(settings: Settings) -> Self {
-        Self { settings, ..Self::NONE }
+        let modes = if settings.mode == 1 { Self::ALL_MULTIPLEXING } else { 0 };
+        Self { settings, modes, ..Self::NONE }
+    }
+
+    /// The 13 modes where all of them are multiplexing.
+    pub const ALL_MULTIPLEXING: u16 = 8191;
+
+    /// All that the handset is in memory.
+    pub fn bytes(self) -> [u8; 72] {
+        // SAFETY: a handset is 72 bytes without padding, and any bytes are numbers.
+        unsafe { std::mem::transmute(self) }
+    }
+
+    /// The handset of these bytes.
+    pub fn from_bytes(bytes: [u8; 72]) -> Self {
+        // SAFETY: a handset is 72 bytes of numbers, which may have any value.
+        unsafe { std::mem::transmute(bytes) }
+    }
+
+    /// The same with another standing mode. All else stays, the modes at the feeds too.
+    pub fn in_mode(self, mode: u16) -> Self {
+        Self { settings: Settings { mode, ..self.settings }, ..self }
+    }
+}
+
+impl Changed {
+    pub fn refused(refusal: u16, handset: Handset) -> Self {
+        Self { refusal, handset }
+    }
+
+    pub fn to(handset: Handset) -> Self {
+        Self { refusal: 0, handset }
     }
 }
 

@@ -8,7 +8,7 @@
 //! that there will ever be, of which those that a later request brings have the
 //! value that changes nothing.
 
-use crate::{Block, Grant, Handset, Heard, Release, Settings, Slot};
+use crate::{Block, Grant, Handset, Heard, Release, Settings, Slot, Step};
 use std::fmt;
 
 /// The columns of the settings, in this order and side by side.
@@ -96,10 +96,14 @@ impl<'a> Case<'a> {
 
     /// The lent handset: its settings, the subframe expected, and seven numbers for
     /// each subframe in which something was heard, first how long ago that was. Or
-    /// nothing, where this layout cannot hold it.
+    /// nothing, where this layout cannot hold it. In a file without the modes at the
+    /// feeds each of them is that of the settings.
     pub fn handset(&self) -> Option<Handset> {
         let mut handset = Handset::fresh(self.settings());
         handset.next = self.number("expects");
+        if self.others().any(|(name, _)| name == "modes") {
+            handset.modes = modes(&self.numbers("modes"))?;
+        }
         for entry in self.numbers("remembered").chunks(7) {
             let (age, heard) = (usize::from(entry[0]), &entry[1..]);
             handset.past[age - 1] = slot(heard)?;
@@ -144,6 +148,24 @@ pub fn heard(numbers: &[u16]) -> Heard {
         3 => Heard::Release(Release { cce, dai }),
         _ => panic!("a kind of heard thing: {kind}"),
     }
+}
+
+/// A step from its seven numbers: 0 for a feed, then what it brings, or 1 for a mode
+/// change, then the new mode and five 0.
+pub fn step(numbers: &[u16]) -> Step {
+    match *numbers {
+        [0, ref brought @ ..] => Step::Feed(heard(brought)),
+        [1, mode, 0, 0, 0, 0, 0] => Step::Change(mode),
+        _ => panic!("a step: {numbers:?}"),
+    }
+}
+
+/// The number that remembers the modes at 13 feeds, newest first, or nothing, where it
+/// cannot: each has one bit.
+fn modes(numbers: &[u16]) -> Option<u16> {
+    assert_eq!(numbers.len(), 13, "thirteen modes: {numbers:?}");
+    let bits = (0..).zip(numbers).map(|(bit, mode)| (*mode < 2).then_some(mode << bit));
+    bits.sum()
 }
 
 /// The slot that remembers a heard thing, or nothing, where it cannot: a number

@@ -150,6 +150,7 @@ fn damaged(handset: Handset) -> Vec<Handset> {
     each(&[0, 1, 2, 65535], &|handset, value| handset.settings.prefix = value);
     each(&[0, 4, 5, 8, 9, 65535], &|handset, value| handset.settings.special = value);
     each(&[0, 1, 2, 5, 9, 10, 65535], &|handset, value| handset.next = value);
+    each(&[0, 1, 4096, 8191, 8192, 65535], &|handset, value| handset.modes = value);
     let cces = edge(handset.settings.nrb, 4);
     for at in 0..13 {
         each(&[0, 1, 2, 255], &|handset, value| handset.past[at].kind = value as u8);
@@ -161,7 +162,7 @@ fn damaged(handset: Handset) -> Vec<Handset> {
 }
 
 /// How many those are.
-const DAMAGED: u64 = 6 + 6 + 4 + 4 + 5 + 4 + 6 + 7 + 13 * (4 + 4 + 5 + 7);
+const DAMAGED: u64 = 6 + 6 + 4 + 4 + 5 + 4 + 6 + 7 + 6 + 13 * (4 + 4 + 5 + 7);
 
 /// Each field of the handset with each of its special values, in every subframe
 /// of every configuration, empty and full, fed with nothing, an allowed grant and

@@ -14,15 +14,16 @@ use feedback_tests::form::Form;
 use feedback_tests::guarded::BOTH;
 use feedback_tests::model::{edge, is_short, is_uplink, Model, NRB};
 use feedback_tests::plain::{
-    plain_answered, plain_inverse, plain_make, plain_reading, plain_resource, plain_window,
+    plain_answered, plain_change_mode, plain_inverse, plain_make, plain_reading, plain_resource,
+    plain_window,
 };
 use feedback_tests::random::Random;
 use feedback_tests::trace::{
     number_at, record_of, spelled_length, Trace, RECORDS_AT, SETTINGS_AT, WINDOW,
 };
 use feedback_tests::{
-    answered, feed, inverse, make, reading, resource, window, Fed, Handset, Heard, Settings, Slot,
-    WriteAnswer, NOT_TOLD,
+    answered, change_mode, feed, inverse, make, reading, resource, window, Changed, Fed, Handset,
+    Heard, Settings, Slot, WriteAnswer, NOT_TOLD,
 };
 use std::env;
 
@@ -33,6 +34,8 @@ const INVERSE_CALLS: u64 = 2_000_000;
 const READING_CALLS: u64 = 4_000_000;
 const MAKE_CALLS: u64 = 1_000_000;
 const FEED_CALLS: u64 = 8_000_000;
+const STEP_CALLS: u64 = 4_000_000;
+const CHANGE_CALLS: u64 = 1_024_000;
 const CLAIMS_CALLS: u64 = 2_000_000;
 const BIT_CLAIMS_CALLS: u64 = 1_024_000;
 const REPLAY_CALLS: u64 = 1_024_000;
@@ -47,6 +50,8 @@ const _: () = assert!(
         + READING_CALLS
         + MAKE_CALLS
         + FEED_CALLS
+        + STEP_CALLS
+        + CHANGE_CALLS
         + CLAIMS_CALLS
         + BIT_CLAIMS_CALLS
         + REPLAY_CALLS
@@ -258,9 +263,61 @@ fn makings() {
     comparison.finish_with(calls / SAMPLE, &[0, 1, 2, 3, 4, 5, 6, 17, 19], &[]);
 }
 
-/// A handset that goes from feed to feed; sometimes another takes its place,
-/// fresh, damaged or of any numbers. In the uplink a grant, a scheduled block or a
+/// The handset of the last call, or sometimes another: fresh, damaged or of any numbers.
+fn lent(handset: Handset, random: &mut Random) -> Handset {
+    match random.below(64) {
+        0 => random.noise(),
+        1..=5 => random.damage(handset),
+        6 => Handset::fresh(random.settings()),
+        7 => Handset::fresh(random.scheduled_settings()),
+        _ => handset,
+    }
+}
+
+/// The handset that goes on after a call; a bad one does not.
+fn kept(before: Handset, refusal: u16, after: Handset, random: &mut Random) -> Handset {
+    match refusal {
+        8 if random.once_in(2) => Handset::fresh(random.settings()),
+        8 => before,
+        _ => after,
+    }
+}
+
+/// What the next subframe of a handset hears. In the uplink a grant, a scheduled block or a
 /// release is rare.
+fn heard_by(handset: Handset, random: &mut Random) -> Heard {
+    let Handset { settings, next, .. } = handset;
+    let uplink = settings.config < 7 && next < 10 && is_uplink(settings.config, next);
+    let is_heard = if uplink { random.once_in(8) } else { !random.once_in(3) };
+    match is_heard {
+        true => random.wild_heard(settings, 12),
+        false => Heard::Nothing,
+    }
+}
+
+/// The engine's answer to a feed, which the plain implementation gives too.
+fn compared_feed(handset: Handset, heard: Heard) -> Fed {
+    let (given, plain) = (feed(handset, heard), plain_feed(handset, heard));
+    assert!(
+        given == plain,
+        "a feed of {heard:?} to {handset:?}: the engine gives {given:?}, the plain \
+         implementation {plain:?}"
+    );
+    given
+}
+
+/// Likewise to a mode change.
+fn compared_change(handset: Handset, mode: u16) -> Changed {
+    let (given, plain) = (change_mode(handset, mode), plain_change_mode(handset, mode));
+    assert!(
+        given == plain,
+        "feedback_change_mode({handset:?}, mode {mode}): the engine gives {given:?}, the plain \
+         implementation {plain:?}"
+    );
+    given
+}
+
+/// A handset that goes from feed to feed.
 #[test]
 fn feeds() {
     let model = Model::new();
@@ -268,27 +325,10 @@ fn feeds() {
     let mut handset = Handset::NONE;
     let (mut on_scheduled, mut short_releases) = (0, 0);
     let calls = fuzz(5, FEED_CALLS, |random, ask_model| {
-        let lent = match random.below(64) {
-            0 => random.noise(),
-            1..=5 => random.damage(handset),
-            6 => Handset::fresh(random.settings()),
-            7 => Handset::fresh(random.scheduled_settings()),
-            _ => handset,
-        };
+        let lent = lent(handset, random);
         let Handset { settings, next, .. } = lent;
-        let uplink = settings.config < 7 && next < 10 && is_uplink(settings.config, next);
-        let is_heard = if uplink { random.once_in(8) } else { !random.once_in(3) };
-        let heard = match is_heard {
-            true => random.wild_heard(settings, 12),
-            false => Heard::Nothing,
-        };
-        let given = feed(lent, heard);
-        let plain = plain_feed(lent, heard);
-        assert!(
-            given == plain,
-            "a feed of {heard:?} to {lent:?}: the engine gives {given:?}, the plain \
-             implementation {plain:?}"
-        );
+        let heard = heard_by(lent, random);
+        let given = compared_feed(lent, heard);
         let is_reply = [Fed::BUNDLED, Fed::MULTIPLEXED].contains(&given.kind);
         on_scheduled += u64::from(is_reply && given.resource == settings.scheduled);
         if given.refusal == 0 && matches!(heard, Heard::Release(_)) {
@@ -297,11 +337,7 @@ fn feeds() {
         if ask_model {
             comparison.feed(lent, heard);
         }
-        handset = match given.refusal {
-            8 if random.once_in(2) => Handset::fresh(random.settings()),
-            8 => handset,
-            _ => given.handset,
-        };
+        handset = kept(handset, given.refusal, given.handset, random);
         1
     });
     assert_eq!(calls, FEED_CALLS * times());
@@ -310,6 +346,73 @@ fn feeds() {
     println!("{on_scheduled} replies on the scheduled resource");
     println!("{short_releases} releases in special subframes too short for data");
     assert!(on_scheduled > 10_000 && short_releases > 10_000);
+}
+
+/// A handset that goes from feed to feed with mode changes in between, to any number too.
+/// Counted are the windows of more than one subframe that get a reply in another mode than
+/// the one that stands.
+#[test]
+fn feeds_and_mode_changes() {
+    let model = Model::new();
+    let mut comparison = Comparison::with(&model);
+    let mut handset = Handset::NONE;
+    let mut changed = 0;
+    let mut in_another_mode = [0; 2];
+    let calls = fuzz(13, STEP_CALLS, |random, ask_model| {
+        let lent = lent(handset, random);
+        let (refusal, after) = if random.once_in(6) {
+            let mode = random.wild_mode(4);
+            let given = compared_change(lent, mode);
+            changed += u64::from(given.refusal == 0 && mode != lent.settings.mode);
+            if ask_model {
+                comparison.change_mode(lent, mode);
+            }
+            (given.refusal, given.handset)
+        } else {
+            let heard = heard_by(lent, random);
+            let given = compared_feed(lent, heard);
+            let Handset { settings, next, .. } = lent;
+            if size(&model, settings, next) > 1 {
+                in_another_mode[0] += u64::from(given.kind == Fed::BUNDLED && settings.mode == 1);
+                in_another_mode[1] +=
+                    u64::from(given.kind == Fed::MULTIPLEXED && settings.mode == 0);
+            }
+            if ask_model {
+                comparison.feed(lent, heard);
+            }
+            (given.refusal, given.handset)
+        };
+        handset = kept(handset, refusal, after, random);
+        1
+    });
+    assert_eq!(calls, STEP_CALLS * times());
+    let refusals = [0, 4, 5, 8, 9, 10, 11, 12, 18, 20];
+    comparison.finish_with(calls / SAMPLE, &refusals, &[0, 1, 2, 3, 4, 5]);
+    println!("{changed} changes, {in_another_mode:?} replies, by mode, while the other stands");
+    assert!(changed > 100_000 && in_another_mode.iter().all(|number| *number > 5_000));
+}
+
+/// Mode changes on states of any kind.
+#[test]
+fn mode_changes() {
+    let model = Model::new();
+    let mut comparison = Comparison::with(&model);
+    let calls = fuzz(14, CHANGE_CALLS, |random, ask_model| {
+        let fresh = Handset::fresh(random.mixed_settings());
+        let handset = match random.below(8) {
+            0 => random.noise(),
+            1..4 => random.damage(fresh),
+            _ => Handset { next: random.below16(11), modes: random.any(), ..fresh },
+        };
+        let mode = random.wild_mode(4);
+        compared_change(handset, mode);
+        if ask_model {
+            comparison.change_mode(handset, mode);
+        }
+        1
+    });
+    assert_eq!(calls, CHANGE_CALLS * times());
+    comparison.finish_with(calls / SAMPLE, &[0, 4, 5, 8], &[]);
 }
 
 /// Claims: mostly allowed ones, and any others.

@@ -3,16 +3,16 @@
 use feedback_tests::form::Form;
 use feedback_tests::trace::Trace;
 use feedback_tests::{
-    answered, claims, claims_bits, feed, inverse, layout_3, make, reading, record, replay,
-    resource, trace_write, window, AnsweredAnswer, Block, ClaimsAnswer, Fed, Grant, Handset, Heard,
-    InverseAnswer, Made, ReadingAnswer, RecordAnswer, Release, ReplayAnswer, ResourceAnswer,
-    Settings, Slot, WindowAnswer, WriteAnswer, NOT_TOLD,
+    answered, change_mode, claims, claims_bits, feed, inverse, layout_4, make, reading, record,
+    replay, resource, trace_write, window, AnsweredAnswer, Block, Changed, ClaimsAnswer, Fed,
+    Grant, Handset, Heard, InverseAnswer, Made, ReadingAnswer, RecordAnswer, Release, ReplayAnswer,
+    ResourceAnswer, Settings, Slot, WindowAnswer, WriteAnswer, NOT_TOLD,
 };
 use std::mem::{align_of, offset_of, size_of};
 
 #[test]
-fn layout_is_the_third() {
-    assert_eq!(layout_3(), 3);
+fn layout_is_the_fourth() {
+    assert_eq!(layout_4(), 4);
 }
 
 #[test]
@@ -92,20 +92,25 @@ fn a_slot_is_four_bytes() {
 }
 
 #[test]
-fn a_handset_is_70_bytes() {
-    assert_eq!((size_of::<Handset>(), align_of::<Handset>()), (70, 2));
+fn a_handset_is_72_bytes() {
+    assert_eq!((size_of::<Handset>(), align_of::<Handset>()), (72, 2));
     assert_eq!(offset_of!(Handset, settings), 0);
     assert_eq!(offset_of!(Handset, next), 16);
-    assert_eq!(offset_of!(Handset, past), 18);
+    assert_eq!(offset_of!(Handset, modes), 18);
+    assert_eq!(offset_of!(Handset, past), 20);
 }
 
 #[test]
 fn answers_with_a_handset_have_it_last() {
-    assert_eq!((size_of::<Made>(), align_of::<Made>()), (72, 2));
+    assert_eq!((size_of::<Made>(), align_of::<Made>()), (74, 2));
     assert_eq!(offset_of!(Made, refusal), 0);
     assert_eq!(offset_of!(Made, handset), 2);
 
-    assert_eq!((size_of::<Fed>(), align_of::<Fed>()), (80, 2));
+    assert_eq!((size_of::<Changed>(), align_of::<Changed>()), (74, 2));
+    assert_eq!(offset_of!(Changed, refusal), 0);
+    assert_eq!(offset_of!(Changed, handset), 2);
+
+    assert_eq!((size_of::<Fed>(), align_of::<Fed>()), (82, 2));
     assert_eq!(offset_of!(Fed, refusal), 0);
     assert_eq!(offset_of!(Fed, kind), 2);
     assert_eq!(offset_of!(Fed, resource), 4);
@@ -187,7 +192,8 @@ fn every_byte_of_a_handset_comes_back() {
 #[test]
 fn every_kind_comes_back() {
     let settings = Settings::plain(2, 110, 2047, 0, 2).with_scheduled(2046);
-    let mut handset = Handset { next: 4, ..Handset::fresh(settings) };
+    let modes = 0b1011_0110_0101_1011;
+    let mut handset = Handset { next: 4, modes, ..Handset::fresh(settings) };
     // Remembered are 3 to 0, 9 to 0 and so back, where 2 and 7 are uplink. The blocks
     // in 3, 5 and the 3 before are in three windows, and 4 is in a fourth.
     let kinds = [2, 0, 3, 1, 3, 1, 0, 3, 2, 3, 2, 0, 1];
@@ -217,10 +223,46 @@ fn every_kind_comes_back() {
     for (heard, slot) in heard {
         let mut after = handset;
         after.next = 5;
+        after.modes = 0b0000_1100_1011_0110;
         after.past.rotate_right(1);
         after.past[0] = slot;
         assert_eq!(feed(handset, heard), Fed::answer(Fed::TAKEN, after), "{heard:?}");
+        after.settings.mode = 1;
+        after.modes = 0b0000_1100_1011_0111;
+        let fed = feed(handset.in_mode(1), heard);
+        assert_eq!(fed, Fed::answer(Fed::TAKEN, after), "{heard:?}");
     }
+    let changed = change_mode(handset, 1).handset.bytes();
+    let mut after = handset.bytes();
+    after[offset_of!(Handset, settings) + offset_of!(Settings, mode)] = 1;
+    assert_eq!(changed, after);
+}
+
+/// Of a mode change the refusal and the handset come back, and all 16 bits of the new mode
+/// arrive.
+#[test]
+fn every_field_of_a_mode_change_comes_back() {
+    let handset = Handset { next: 9, ..Handset::fresh(Settings::plain(4, 100, 2000, 1, 2)) };
+    for mode in [2, 256, 257, 32768, 65535] {
+        assert_eq!(change_mode(handset, mode), Changed { refusal: 4, handset });
+    }
+    let changed = Handset { modes: 8191, ..handset.in_mode(0) };
+    assert_eq!(change_mode(handset, 0), Changed { refusal: 0, handset: changed });
+    assert_eq!(change_mode(changed, 1), Changed { refusal: 0, handset });
+}
+
+/// A fresh handset in its 72 bytes: the settings, and in mode 1 thirteen bits of the modes.
+#[test]
+fn every_byte_of_a_fresh_handset() {
+    for (mode, modes) in [(0, 0), (1, 0x1fff)] {
+        let made = make(Settings::plain(4, 100, 2000, mode, 2).with_scheduled(1999));
+        let numbers = [4, 100, 2000, mode, 2, 1999, 0, 7, 0, modes].map(u16::to_ne_bytes);
+        let mut bytes = [0; 72];
+        bytes[..20].copy_from_slice(numbers.as_flattened());
+        assert_eq!((made.refusal, made.handset.bytes()), (0, bytes), "mode {mode}");
+    }
+    let refused = make(Settings::plain(5, 100, 2000, 1, 2));
+    assert_eq!((refused.refusal, refused.handset.bytes()), (5, [0; 72]));
 }
 
 /// Settings fill the two registers in which they are passed. Of eight numbers no two

@@ -4,10 +4,10 @@
 use feedback_tests::form::FORMS;
 use feedback_tests::trace::{put_number, Trace, LENGTH_AT, SETTINGS_AT};
 use feedback_tests::{
-    answered, feed_grant, feed_nothing, feed_release, feed_scheduled, inverse, make, reading,
-    record, replay, resource, trace_write, window, AnsweredAnswer, Block, ClaimsAnswer, Fed, Grant,
-    Handset, InverseAnswer, Made, ReadingAnswer, RecordAnswer, Release, ReplayAnswer,
-    ResourceAnswer, Settings, Slot, WindowAnswer, WriteAnswer, NONE, NOT_TOLD,
+    answered, change_mode, feed_grant, feed_nothing, feed_release, feed_scheduled, inverse, make,
+    reading, record, replay, resource, trace_write, window, AnsweredAnswer, Block, Changed,
+    ClaimsAnswer, Fed, Grant, Handset, InverseAnswer, Made, ReadingAnswer, RecordAnswer, Release,
+    ReplayAnswer, ResourceAnswer, Settings, Slot, WindowAnswer, WriteAnswer, NONE, NOT_TOLD,
 };
 use std::fmt::Debug;
 
@@ -117,6 +117,11 @@ impl Count {
         self.due(number, feed_release(handset, release), Fed::refused(number, handset));
     }
 
+    /// The handset is left as it was.
+    fn change_mode(&mut self, number: u16, handset: Handset, mode: u16) {
+        self.due(number, change_mode(handset, mode), Changed::refused(number, handset));
+    }
+
     /// The output is left as it was.
     fn replay(&mut self, number: u16, trace: &[u8], room: usize) {
         let mut output = vec![5; room];
@@ -150,7 +155,7 @@ impl Count {
         self.due(number, record(trace, next), RecordAnswer::refused(number));
     }
 
-    /// The handset is left as it was, whatever it is fed.
+    /// The handset is left as it was, whatever it is fed, and keeps its mode.
     fn bad_state(&mut self, handset: Handset) {
         self.due(8, feed_nothing(handset), Fed::refused(8, handset));
         self.feed_grant(8, handset, GRANT);
@@ -159,6 +164,7 @@ impl Count {
         self.feed_scheduled(8, handset, Block { blocks: 0, ..BLOCK });
         self.feed_release(8, handset, RELEASE);
         self.feed_release(8, handset, Release { cce: 61, dai: 0 });
+        self.change_mode(8, handset, 0);
     }
 }
 
@@ -235,6 +241,7 @@ fn every_number_occurs() {
     assert_eq!((taken.refusal, taken.kind, taken.handset.next), (0, Fed::TAKEN, 1));
 
     blocks_and_releases_fed(&mut count, fresh);
+    mode_changes(&mut count, fresh);
     told_positions(&mut count);
     for (prefix, special) in SHORT {
         let settings = SCHEDULED.with_special(prefix, special);
@@ -276,18 +283,21 @@ fn every_number_occurs() {
     // A replay and a writing, and where a record is refused a writing with room too.
     let on_traces = |causes: u64| 2 * causes;
     let at_records = |causes: u64| 3 * causes;
-    let states = 7 * (21 + 9 * 7 + 4 + 3) + 1;
+    // Seven feeds and a mode change.
+    let bad_states = |states: u64| 8 * states;
+    let states = bad_states(21 + 9 * 7 + 4 + 3) + 1;
+    let remembering = bad_states(9 * 6 + 4 * 2 + 2) + 2;
     let shorts = 4;
     let counts = [
         0,
         of_settings(1) + on_traces(1),
         of_settings(2) + on_traces(2),
         of_settings(1) + on_traces(1),
-        of_settings(1) + on_traces(1),
-        of_settings(1) + on_traces(1),
+        of_settings(1) + on_traces(1) + 6 * 4,
+        of_settings(1) + on_traces(1) + 3,
         of_settings(3) + on_traces(2),
         5 * 6 + 7 + 1 + shorts,
-        states + 7 * (9 * 6 + 4 * 2 + 2) + 2 + shorts * 7 * 3 * 2,
+        states + remembering + shorts * bad_states(3 * 2) + bad_states(13) + 2 * 13 + 3,
         2 + 4 + shorts * 3 + at_records(3),
         2 + 3 + at_records(2),
         3 + 2 + 5 + shorts * (2 + 2) + at_records(2),
@@ -441,6 +451,40 @@ fn blocks_and_releases_fed(count: &mut Count, without: Handset) {
     for handset in [fresh, without] {
         let taken = feed_release(handset, Release { cce: 60, dai: 4 });
         assert_eq!((taken.refusal, taken.kind, taken.handset.next), (0, Fed::TAKEN, 1));
+    }
+}
+
+/// 4 and 5 speak of the new mode in the state's configuration, and come before 8. In
+/// configuration 5 a handset that remembers multiplexing is bad at every age, for feeds and
+/// for a change; the three bits above the 13 say nothing.
+fn mode_changes(count: &mut Count, fresh: Handset) {
+    let five = Handset { settings: Settings { config: 5, ..CELL }, ..fresh };
+    let (bad, bad_five) = (Handset { next: 10, ..fresh }, Handset { next: 10, ..five });
+    let multiplexing_five = five.in_mode(1);
+    for handset in [fresh, five, bad, bad_five, multiplexing_five, Handset::NONE] {
+        for mode in [2, 256, 257, 65535] {
+            count.change_mode(4, handset, mode);
+        }
+    }
+    for handset in [five, bad_five, multiplexing_five] {
+        count.change_mode(5, handset, 1);
+    }
+    count.change_mode(8, bad, 0);
+    count.change_mode(8, bad, 1);
+    count.change_mode(8, Handset::NONE, 1);
+    for bit in 0..13 {
+        count.bad_state(Handset { modes: 1 << bit, ..five });
+        let all_but_one = Handset { modes: 65535 - (1 << bit), ..five };
+        count.change_mode(8, all_but_one, 0);
+        count.due(8, feed_nothing(all_but_one), Fed::refused(8, all_but_one));
+        let elsewhere = Handset { modes: 1 << bit, ..fresh };
+        assert_eq!(change_mode(elsewhere, 1), Changed::to(elsewhere.in_mode(1)));
+        assert_eq!(feed_nothing(elsewhere).refusal, 0);
+    }
+    for bit in 13..16 {
+        let unused = Handset { modes: 1 << bit, ..five };
+        assert_eq!(change_mode(unused, 0), Changed::to(unused));
+        assert_eq!((feed_nothing(unused).refusal, feed_nothing(unused).handset.modes), (0, 0));
     }
 }
 

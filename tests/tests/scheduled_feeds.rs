@@ -217,42 +217,6 @@ fn full(
     handset
 }
 
-/// The handset with one field changed, for each field and each of its values: 0,
-/// the limits, one past them, the largest of its type, and the like.
-fn damaged(handset: Handset) -> Vec<Handset> {
-    let mut all = Vec::new();
-    let mut each = |values: &[u16], set: &dyn Fn(&mut Handset, u16)| {
-        for value in values {
-            let mut changed = handset;
-            set(&mut changed, *value);
-            all.push(changed);
-        }
-    };
-    let Settings { nrb, n1, .. } = handset.settings;
-    each(&[0, 1, 5, 6, 7, 65535], &|handset, value| handset.settings.config = value);
-    each(&[0, 5, 6, 110, 111, 65535], &|handset, value| handset.settings.nrb = value);
-    each(&[0, 1, 2047, 2048, 65535], &|handset, value| handset.settings.n1 = value);
-    each(&[0, 1, 2, 65535], &|handset, value| handset.settings.mode = value);
-    each(&[0, 1, 2, 3, 65535], &|handset, value| handset.settings.blocks = value);
-    each(&[0, n1 - 1, n1, n1 + 1, 65534, NONE], &|handset, value| {
-        handset.settings.scheduled = value;
-    });
-    each(&[0, 1, 2, 65535], &|handset, value| handset.settings.prefix = value);
-    each(&[0, 4, 5, 8, 9, 65535], &|handset, value| handset.settings.special = value);
-    each(&[0, 1, 2, 5, 9, 10, 65535], &|handset, value| handset.next = value);
-    let cces = edge(nrb, 4);
-    for at in 0..13 {
-        each(&[0, 1, 2, 3, 4, 255], &|handset, value| handset.past[at].kind = value as u8);
-        each(&[0, cces - 1, cces, 255], &|handset, value| handset.past[at].cce = value as u8);
-        each(&[0, 1, 4, 5, 255], &|handset, value| handset.past[at].dai = value as u8);
-        each(&[0, 1, 3, 4, 7, 8, 255], &|handset, value| handset.past[at].results = value as u8);
-    }
-    all
-}
-
-/// How many those are.
-const DAMAGED: u64 = 6 + 6 + 5 + 4 + 5 + 6 + 4 + 6 + 7 + 13 * (6 + 4 + 5 + 7);
-
 /// Each field of a full handset with each of its special values, in every subframe
 /// of every configuration, fed with everything that is allowed and with what meets
 /// every cause there is.
@@ -269,7 +233,7 @@ fn damaged_states() {
         for subframe in 0..10 {
             let full = full(settings, subframe, &mut comparison, &mut random);
             let prepared = comparison.total();
-            for handset in damaged(full) {
+            for handset in every::damaged(full) {
                 let block = Heard::Block(random.block(settings));
                 let release = Heard::Release(random.release(settings));
                 for heard in [Heard::Nothing, block, release, wrong_block, wrong_release] {
@@ -279,7 +243,7 @@ fn damaged_states() {
             fed += comparison.total() - prepared;
         }
     }
-    assert_eq!(fed, 26 * 10 * DAMAGED * 5);
+    assert_eq!(fed, 26 * 10 * every::DAMAGED * 5);
     let refusals = [0, 8, 9, 10, 11, 18];
     comparison.finish_with(comparison.total(), &refusals, &[0, 1, 2, 3, 4, 5]);
 }

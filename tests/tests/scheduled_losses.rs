@@ -2,7 +2,8 @@
 //! of a handset in which every window meets every pattern of grants, releases and
 //! at most one scheduled block, not sent, lost and heard. In special subframes that
 //! are too short for data the station sends releases only. It is told where the block
-//! was sent, heard or not. Each reply and its reading are held to what the
+//! was sent, heard or not. In some runs the mode changes between the feeds, and each window
+//! is answered and read in its own mode. Each reply and its reading are held to what the
 //! papers say of what was sent, heard and decoded. The model gives the windows, the
 //! symbol of a state and the positions that are A in every state with one symbol;
 //! beside this, the engine's answers are compared with the model's own.
@@ -11,8 +12,8 @@ use feedback_tests::compare::Comparison;
 use feedback_tests::model::{bundles, edge, is_short, is_uplink, Model, Window};
 use feedback_tests::random::Random;
 use feedback_tests::{
-    feed, make, reading, resource, Block, Fed, Grant, Handset, Heard, ReadingAnswer, Release,
-    Settings, NONE, NOT_TOLD,
+    feed, make, reading, resource, Block, Changed, Fed, Grant, Handset, Heard, ReadingAnswer,
+    Release, Settings, NONE, NOT_TOLD,
 };
 use std::cmp::Reverse;
 
@@ -409,19 +410,30 @@ impl Met {
     }
 }
 
+/// Whether the mode of a run stands, or changes between its feeds.
+#[derive(Clone, Copy, Debug, PartialEq, Eq)]
+enum Mode {
+    Stands,
+    Changes,
+}
+
 /// One run from a fresh handset.
 struct Run<'a> {
     model: &'a Model,
     comparison: Comparison<'a>,
     settings: Settings,
+    mode: Mode,
     windows: Vec<&'a Window>,
     fates: &'a Fates,
     times: u64,
     sent: Vec<Sent>,
     /// By the subframe that answers a window, whether it has heard a block.
     has_block: Vec<bool>,
+    /// The mode that stood at each feed that was not refused.
+    modes: Vec<u16>,
     random: Random,
     checked: u64,
+    in_another_mode: u64,
     refused: u64,
     refused_short: u64,
     met: Met,
@@ -440,13 +452,16 @@ impl<'a> Run<'a> {
             model,
             comparison: Comparison::with(model),
             settings,
+            mode: Mode::Stands,
             windows: model.windows().iter().filter(of_config).collect(),
             fates,
             times,
             sent: Vec::new(),
             has_block: Vec::new(),
+            modes: Vec::new(),
             random: Random::new(seed),
             checked: 0,
+            in_another_mode: 0,
             refused: 0,
             refused_short: 0,
             met: Met::default(),
@@ -571,14 +586,45 @@ impl<'a> Run<'a> {
         self.has_block = vec![false; self.sent.len() + 20];
         let mut handset = made.handset;
         for s in 0..self.sent.len() {
+            if self.mode == Mode::Changes {
+                handset = self.check_changes(s, handset);
+            }
             if self.random.once_in(8) {
                 self.check_refused(s, handset);
             }
             if self.random.once_in(4) {
                 self.check_second_block(s, handset);
             }
+            if self.mode == Mode::Changes {
+                handset = self.check_changes(s, handset);
+            }
             handset = self.check_feed(s, handset);
         }
+    }
+
+    /// Mode changes between two feeds: mostly none, or one, or more, refused ones too. What
+    /// is not refused moves the standing mode alone.
+    fn check_changes(&mut self, s: usize, mut handset: Handset) -> Handset {
+        while self.random.once_in(3) {
+            let mode = self.random.one_of(&[0, 0, 0, 1, 1, 1, 2, 257, 65535]);
+            let due = match (mode, self.settings.config) {
+                (1, 5) => Changed::refused(5, handset),
+                (0 | 1, _) => Changed::to(handset.in_mode(mode)),
+                _ => Changed::refused(4, handset),
+            };
+            let changed = self.comparison.change_mode(handset, mode);
+            assert_eq!(changed, due, "{:?}, s {s}, to mode {mode}", self.settings);
+            handset = changed.handset;
+        }
+        handset
+    }
+
+    /// The settings of a window: its mode is the one that stood when its earliest subframe
+    /// was fed, or before the start the one that the handset was made with.
+    fn settings_of(&self, window: &Window, s: usize) -> Settings {
+        let largest = window.k.iter().copied().max().expect("a window has subframes");
+        let fed_in = s.checked_sub(largest.into()).map(|earliest| self.modes[earliest]);
+        Settings { mode: fed_in.unwrap_or(self.settings.mode), ..self.settings }
     }
 
     /// What the next subframe brings, beside the model where a window is answered,
@@ -586,6 +632,7 @@ impl<'a> Run<'a> {
     fn check_feed(&mut self, s: usize, handset: Handset) -> Handset {
         let (config, n) = (self.settings.config, (s % 10) as u16);
         let heard = self.sent[s].heard();
+        self.modes.push(handset.settings.mode);
         if !is_uplink(config, n) {
             let fed = match self.settings.blocks {
                 1 if config != 5 => self.comparison.feed(handset, heard),
@@ -609,18 +656,20 @@ impl<'a> Run<'a> {
     fn check_answer(&mut self, window: &'a Window, s: usize, fed: Fed) {
         let at = |k: &u16| s.checked_sub(usize::from(*k)).map_or(Sent::NOTHING, |s| self.sent[s]);
         let positions: Vec<Sent> = window.k.iter().map(at).collect();
-        let answered = Answered::new(self.model, self.settings, window, positions);
+        let settings = self.settings_of(window, s);
+        let answered = Answered::new(self.model, settings, window, positions);
         let (given, due) = (answered.given(fed), answered.due());
         assert!(
             given == due,
-            "{:?}, s {s}, {window:?}, sent {:?}, told {}: the engine gives {given:?}, due is {due:?}",
-            self.settings,
+            "{settings:?}, s {s}, {window:?}, sent {:?}, told {}: the engine gives {given:?}, due \
+             is {due:?}",
             answered.positions,
             answered.told()
         );
         assert!(due.is_none_or(|reply| answered.is_deaf_untold(reply)), "{window:?}, {due:?}");
         self.met.note(&answered, due);
         self.checked += 1;
+        self.in_another_mode += u64::from(settings.mode != self.modes[s]);
     }
 
     /// The subframe that answers a downlink one.
@@ -693,19 +742,35 @@ impl<'a> Run<'a> {
 /// Runs of these configurations in both modes, if they have both. Shows how many
 /// windows were checked, and what was met in them.
 fn hold(configs: &[u16], blocks: u16, cells: &[Settings], fates: &Fates, times: u64) -> (u64, Met) {
+    hold_in(Mode::Stands, configs, blocks, cells, fates, times)
+}
+
+/// The same with a mode that stands, or with one that changes.
+fn hold_in(
+    runs_mode: Mode,
+    configs: &[u16],
+    blocks: u16,
+    cells: &[Settings],
+    fates: &Fates,
+    times: u64,
+) -> (u64, Met) {
     let model = Model::new();
     let (mut checked, mut refused, mut used, mut met) = (0, 0, 0, Met::default());
     for config in configs.iter().copied() {
         for mode in 0..=u16::from(config != 5) {
             for cell in cells {
                 let settings = Settings { config, mode, blocks, ..*cell };
-                let mut run = Run::new(&model, settings, fates, times, used);
+                let run = Run::new(&model, settings, fates, times, used);
+                let mut run = Run { mode: runs_mode, ..run };
                 used += run.fill();
                 run.check();
                 assert_eq!(run.checked, run.frames() * run.windows.len() as u64);
                 let has_short = is_short(settings, 1);
                 assert_eq!(has_short, run.refused_short > 0, "{settings:?}");
                 assert_eq!(has_short, run.met.short_releases > 0, "{settings:?}");
+                let both_modes = runs_mode == Mode::Changes && config != 5;
+                assert_eq!(both_modes, run.in_another_mode > 0, "{settings:?}");
+                assert!(!both_modes || run.in_another_mode > run.checked / 8, "{settings:?}");
                 checked += run.checked;
                 refused += run.refused;
                 met.add(run.met);
@@ -820,4 +885,39 @@ fn every_pattern_of_nine_with_a_short_special() {
         assert!(met.lone_blocks > 0 && met.blocks_though_missed > 0, "{met:?}");
         assert!(met.after_four > 0 && met.after_eight > 0, "{met:?}");
     }
+}
+
+/// Windows of up to four as above, with mode changes between the feeds: several windows are
+/// open together, and each is bundled or not by its own mode. Every pattern comes twice.
+#[test]
+fn every_pattern_of_one_block_with_mode_changes() {
+    let (checked, met) = hold_in(Mode::Changes, &UP_TO_FOUR, 1, &CELLS, &Fates::all(1), 2);
+    let patterns = |size: u64| 6u64.pow(size as u32 - 1) * (6 + 3 * size);
+    assert_eq!(checked, 3 * windows_of_up_to_four(|size| 2 * patterns(size)));
+    assert_all_met_but_four_lost(&met);
+}
+
+/// Likewise with two transport blocks.
+#[test]
+fn every_pattern_of_two_blocks_with_mode_changes() {
+    let (checked, met) = hold_in(Mode::Changes, &UP_TO_FOUR, 2, &CELLS[1..2], &Fates::all(2), 1);
+    let patterns = |size: u64| 10u64.pow(size as u32 - 1) * (10 + 7 * size);
+    assert_eq!(checked, windows_of_up_to_four(patterns));
+    assert_all_met_but_four_lost(&met);
+}
+
+/// Likewise with special subframes too short for data.
+#[test]
+fn every_pattern_with_short_specials_and_mode_changes() {
+    let (checked, met) = hold_in(Mode::Changes, &UP_TO_FOUR, 1, &SHORT_CELLS, &Fates::all(1), 1);
+    assert!(checked > 50_000);
+    assert_all_met_but_four_lost(&met);
+}
+
+/// In configuration 5 every change to multiplexing is refused, and nothing moves.
+#[test]
+fn every_pattern_of_nine_with_refused_changes() {
+    let (checked, met) = hold_in(Mode::Changes, &[5], 1, &CELLS[1..2], &Fates::thirds(), 1);
+    assert_eq!(checked, 2 + 19_683 + 9 * 2 * 6_561);
+    assert!(met.after_four > 0 && met.after_eight > 0, "{met:?}");
 }

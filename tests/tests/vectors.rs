@@ -5,12 +5,14 @@
 use feedback_tests::compare::{plain_feed, plain_record_of, plain_replay_on, plain_trace_write_on};
 use feedback_tests::form::Form;
 use feedback_tests::model::Model;
-use feedback_tests::plain::{plain_inverse, plain_make, plain_reading, plain_resource};
-use feedback_tests::vectors::{cases, heard, Case};
+use feedback_tests::plain::{
+    plain_change_mode, plain_inverse, plain_make, plain_reading, plain_resource,
+};
+use feedback_tests::vectors::{cases, heard, step, Case};
 use feedback_tests::{
-    feed, inverse, make, reading, record, replay, resource, trace_write, window, ClaimsAnswer, Fed,
-    Handset, Heard, ReadingAnswer, RecordAnswer, ReplayAnswer, Settings, Slot, WriteAnswer,
-    NOT_TOLD,
+    change_mode, feed, inverse, make, reading, record, replay, resource, trace_write, window,
+    Changed, ClaimsAnswer, Fed, Handset, Heard, ReadingAnswer, RecordAnswer, ReplayAnswer,
+    Settings, Slot, Step, WriteAnswer, NOT_TOLD,
 };
 use std::fmt::Debug;
 
@@ -38,6 +40,29 @@ impl Who<'_> {
             Self::Engine => feed(handset, heard),
             Self::Model(model) => model.feed(handset, heard),
             Self::Plain => plain_feed(handset, heard),
+        }
+    }
+
+    fn change_mode(&self, handset: Handset, mode: u16) -> Changed {
+        match self {
+            Self::Engine => change_mode(handset, mode),
+            Self::Model(model) => model.change_mode(handset, mode),
+            Self::Plain => plain_change_mode(handset, mode),
+        }
+    }
+
+    /// A step of a run: the answer in numbers, and the handset afterwards.
+    fn step(&self, handset: Handset, step: Step) -> ([u16; 5], Handset) {
+        match step {
+            Step::Feed(heard) => {
+                let fed = self.feed(handset, heard);
+                (numbers_of(fed), fed.handset)
+            }
+            Step::Change(mode) => {
+                let Changed { refusal, handset } = self.change_mode(handset, mode);
+                let kind = if refusal == 0 { MODE_CHANGED } else { 0 };
+                ([refusal, kind, 0, 0, 0], handset)
+            }
         }
     }
 
@@ -172,8 +197,11 @@ impl Tally {
     }
 }
 
+/// The kind of the answer to a mode change, beside those of a feed.
+const MODE_CHANGED: u16 = 6;
+
 /// The answer of a feed from the files' five numbers: refusal, answer (0 silent, 1
-/// bundled, 2 multiplexed, 3 taken, 4 no window), resource and bits.
+/// bundled, 2 multiplexed, 3 taken, 4 no window, 5 mode changed), resource and bits.
 fn fed_of(numbers: &[u16]) -> [u16; 5] {
     let [refusal, answer, resource, b0, b1] = *numbers else { panic!("five numbers: {numbers:?}") };
     let kind = match (refusal, answer) {
@@ -182,6 +210,7 @@ fn fed_of(numbers: &[u16]) -> [u16; 5] {
         (0, 2) => Fed::MULTIPLEXED,
         (0, 3) => Fed::TAKEN,
         (0, 4) => Fed::NO_WINDOW,
+        (0, 5) => MODE_CHANGED,
         _ => 0,
     };
     [refusal, kind, resource, b0, b1]
@@ -232,13 +261,78 @@ fn state_line(case: &Case, who: &Who) -> Option<([u16; 5], [u16; 5])> {
     Some((numbers_of(fed), fed_of(&due)))
 }
 
+/// One feed or mode change on a lent handset, with the mode that stands in it afterwards.
+/// A refusal leaves it, and so does a change all but that mode.
+fn mode_state_line(case: &Case, who: &Who) -> Option<([u16; 6], [u16; 6])> {
+    let handset = case.handset()?;
+    let step = step(&case.numbers("step"));
+    let (given, after) = who.step(handset, step);
+    let [refusal, ..] = given;
+    if refusal != 0 {
+        assert_eq!(after, handset, "{case}: {} writes", who.name());
+    } else if let Step::Change(mode) = step {
+        assert_eq!(after, handset.in_mode(mode), "{case}: {} writes", who.name());
+    }
+    let due = ["refusal", "answer", "resource", "b0", "b1"].map(|name| case.number(name));
+    Some((with(given, after.settings.mode), with(fed_of(&due), case.number("mode_after"))))
+}
+
+/// The numbers of an answer and a mode.
+fn with(answer: [u16; 5], mode: u16) -> [u16; 6] {
+    let [refusal, kind, resource, b0, b1] = answer;
+    [refusal, kind, resource, b0, b1, mode]
+}
+
+/// Stands in the files for no window.
+const NO_WINDOW: u16 = 65535;
+
+/// The mode of the window that a handset answers next, if it does: the one that it
+/// remembers at the largest k.
+fn window_mode(handset: Handset) -> u16 {
+    let Handset { settings, next, modes, .. } = handset;
+    match window(settings, next).k.into_iter().max() {
+        None | Some(0) => NO_WINDOW,
+        Some(k) => modes >> (k - 1) & 1,
+    }
+}
+
+/// One step of a list: its number from 0, what it is, and the answer.
+type ModeStep = (usize, Step, [u16; 6]);
+
+/// A list of feeds and mode changes from a fresh handset, with the mode of each window
+/// that is answered. The first step that is answered otherwise than it should be is
+/// shown, or else the last.
+fn mode_run_line(case: &Case, who: &Who) -> (Option<ModeStep>, Option<ModeStep>) {
+    let (refusal, mut handset) = who.make(case.settings());
+    assert_eq!(refusal, 0, "{case}: {} makes no handset", who.name());
+    let (steps, answers) = (case.numbers("steps"), case.numbers("answers"));
+    assert_eq!(steps.len() / 7, answers.len() / 6, "{case}: an answer for each step");
+    let mut last = (None, None);
+    for (at, (numbers, due)) in steps.chunks(7).zip(answers.chunks(6)).enumerate() {
+        let step = step(numbers);
+        let (given, after) = who.step(handset, step);
+        assert!(given[0] == 0 || after == handset, "{case}: {} writes", who.name());
+        let mode = match step {
+            Step::Feed(_) if given[0] == 0 => window_mode(handset),
+            _ => NO_WINDOW,
+        };
+        let (given, due) = (with(given, mode), with(fed_of(&due[..5]), due[5]));
+        last = (Some((at, step, given)), Some((at, step, due)));
+        if given != due {
+            break;
+        }
+        handset = after;
+    }
+    last
+}
+
 /// One feed of a list: its number from 0, what it brings, and the answer.
-type Step = (usize, Heard, [u16; 5]);
+type FedStep = (usize, Heard, [u16; 5]);
 
 /// A list of feeds from a fresh handset. Each gets the handset that the one before
 /// returned or left. The first feed that is answered otherwise than it should be is
 /// shown, or else the last.
-fn run_line(case: &Case, who: &Who) -> (Option<Step>, Option<Step>) {
+fn run_line(case: &Case, who: &Who) -> (Option<FedStep>, Option<FedStep>) {
     let (refusal, mut handset) = who.make(case.settings());
     assert_eq!(refusal, 0, "{case}: {} makes no handset", who.name());
     let (feeds, answers) = (case.numbers("feeds"), case.numbers("answers"));
@@ -486,4 +580,19 @@ fn u07_rules() {
     let same = |case: &Case| case.text("most") == case.text("delivered");
     assert!(cases("u07-rules.csv", text).iter().all(same));
     assert_eq!([2, 3, 4].map(|size| multiplexed_windows(size).len()), [4, 1, 4]);
+}
+
+/// Left out are the lines that remember a mode over 1, which has no bit, and those that
+/// remember a grant or a block with none.
+#[test]
+fn u08_states() {
+    let text = include_str!("../data/u08-states.csv");
+    Tally::of("u08-states.csv", text, mode_state_line).finish(846 - 96 - 64, 96 + 64);
+}
+
+#[test]
+fn u08_runs() {
+    let text = include_str!("../data/u08-runs.csv");
+    let tally = Tally::of("u08-runs.csv", text, |case, who| Some(mode_run_line(case, who)));
+    tally.finish(176, 0);
 }

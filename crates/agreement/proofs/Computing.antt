@@ -1,6 +1,7 @@
 -- The definitions that a worked run computes with, under two names for an `unfolding` line.
 -- Assumes nothing.
 use Rattle.frame.specs.Distance.{distanceUpTo, distanceOf, subframeOf, shares}
+use Rattle.frame.specs.Earliest.{earliestOf}
 use Rattle.frame.specs.Layout.{layouts, letterOf, downlink, isSpecial}
 use Rattle.frame.specs.Order.{timesOf, orderOf}
 use Rattle.frame.specs.Settings.{bundles, cellRefusal, modeRefusal, blocksRefusal, hasScheduled, scheduledRefusal, laterRefusal, settingsRefusal, noWindowRefusal, windowRefusal}
@@ -14,8 +15,10 @@ use Rattle.heard.specs.Heard.{uplinkRefusal, shortRefusal, dataRefusal, carried
 use Rattle.heard.specs.Memory.{slotOf, heardIn, viewIn, viewAgo, blockAgo}
 use Rattle.fold.specs.Fold.{stepOf, seenFrom, seenOf}
 use Rattle.reply.specs.Replies.{replyOn, expected, missShown, secondBit, loneAnswer, bundledAnswer, stateOf, carrierOf, windowState, symbolAnswer, multiplexedAnswer, windowAnswer}
-use Rattle.handset.specs.Feed.{answerOf, nextAnswer, pushed, feedRefusal, feedOf}
+use Rattle.handset.specs.Change.{changeRefusal, changeOf}
+use Rattle.handset.specs.Feed.{answerOf, windowSettings, nextAnswer, pushed, feedRefusal, feedOf}
 use Rattle.handset.specs.Make.{fresh, makeOf}
+use Rattle.handset.specs.Modes.{modeAgo, modesSound}
 use Rattle.handset.specs.Sound.{slotSound, allSound, stateSound, stateRefusal}
 use Rattle.station.specs.Readings.{badBits, bundledReading, multiplexedReading, readAt, dynamicReading, toldRefusal, readOn, readOf}
 
@@ -26,7 +29,7 @@ schedules = tt
 
 -- The handset's half: making and feeding.
 unfoldable pub handsets : Unit {0}
-unfolding schedules orderOf bundles pairRefusal resourceOf regionOf resourceNumber symbolOf tableOf table2 table3 table4 viewOf slotOf heardIn viewIn viewAgo blockAgo stepOf seenFrom seenOf replyOn expected missShown secondBit loneAnswer bundledAnswer stateOf carrierOf windowState symbolAnswer multiplexedAnswer windowAnswer answerOf nextAnswer pushed feedRefusal feedOf fresh makeOf slotSound allSound stateSound stateRefusal
+unfolding schedules orderOf earliestOf bundles pairRefusal resourceOf regionOf resourceNumber symbolOf tableOf table2 table3 table4 viewOf slotOf heardIn viewIn viewAgo blockAgo stepOf seenFrom seenOf replyOn expected missShown secondBit loneAnswer bundledAnswer stateOf carrierOf windowState symbolAnswer multiplexedAnswer windowAnswer answerOf modeAgo windowSettings nextAnswer pushed feedRefusal feedOf changeRefusal changeOf fresh makeOf modesSound slotSound allSound stateSound stateRefusal
 handsets = tt
 
 -- The station's half: inverse and reading.

@@ -1,23 +1,25 @@
--- One feed of a run: the handset after a history is fed, and its answer is what demand 3 says.
+-- One item of a run: the handset after a history is fed, or its mode is changed, and its answer is what demand 3 says.
 -- Assumes nothing.
 use Prim.Native.Nat.{ℕ, zero, suc, _+_, _-_, _*_, _%_, _<_, _≤_}
-use mathlib.Core.Bool.{true, false, or-true, false≢true}
+use mathlib.Core.Bool.{Bool, true, false, cond, or-true, false≢true}
 use mathlib.Core.List.{List, [], _∷_, map}
 use mathlib.Core.Logic.{_⊎_, inl, inr, _↔_}
 use mathlib.Core.Path.{_≡_, refl, sym, ap, _∙_}
 use native.Mathlib.Decide.{decLe, decLt}
 use native.Mathlib.Omega.{arith}
-use lib.Dec.{eqb}
+use lib.Dec.{eqb, leb}
 use lib.ListN.{length, getD, List·getD-eq-default}
 use borrow.Author.Tests.{eq-eqb, ne-eqb, le-leb, lt-leb}
 use Rattle.frame.specs.declared.Settings.{Settings}
 use Rattle.frame.specs.Distance.{before, subframeOf}
+use Rattle.frame.specs.Earliest.{earliestOf}
 use Rattle.frame.specs.Layout.{downlink}
-use Rattle.frame.specs.Settings.{hasScheduled, bundles, settingsRefusal}
+use Rattle.frame.specs.Settings.{modeRefusal, hasScheduled, bundles, settingsRefusal, inMode}
 use Rattle.frame.specs.Special.{tooShort}
 use Rattle.frame.specs.Table.{windowOf}
-use Rattle.frame.proofs.Accepted.{Accepted, accepted}
+use Rattle.frame.proofs.Accepted.{Accepted, accepted, accepted-in}
 use Rattle.frame.proofs.Causes.{window-accepted}
+use Rattle.frame.proofs.Earliest.{earliest-most, earliest-least}
 use Rattle.frame.proofs.Windows.{window-uplink, multiplexed-size}
 use Rattle.confirmation.specs.declared.Send.{Send}
 use Rattle.confirmation.specs.declared.Send.the-variants as send
@@ -34,21 +36,25 @@ use Rattle.heard.specs.Memory.{slotOf, viewAgo}
 use Rattle.heard.proofs.Before.{cause-same}
 use Rattle.heard.proofs.Valid as kinds
 use Rattle.reply.specs.Replies.{bundledAnswer, multiplexedAnswer, windowAnswer}
+use Rattle.handset.specs.declared.Changed.{Changed}
 use Rattle.handset.specs.declared.Fed.{Fed}
 use Rattle.handset.specs.declared.Handset.{Handset}
-use Rattle.handset.specs.Feed.{answerOf, nextAnswer, feedOf}
+use Rattle.handset.specs.Change.{changeOf}
+use Rattle.handset.specs.Feed.{answerOf, windowSettings, nextAnswer, feedOf}
 use Rattle.handset.specs.Make.{memory}
+use Rattle.handset.specs.Modes.{modeAgo}
 use Rattle.handset.proofs.Told.{never-refused}
 use Rattle.station.specs.declared.Reading.{Reading}
 use Rattle.station.specs.declared.Told.{Told}
 use Rattle.station.specs.declared.Told.the-variants as told
 use Rattle.station.specs.Readings.{toldRefusal, readOf}
 use Rattle.station.proofs.Back.{told-fine, read-there, read-block}
-use Rattle.agreement.specs.Run.{asHeard, sentAgo, heardAgo, causeAfter, Schedule, Brings, windowAt}
+use Rattle.agreement.specs.Run.{asHeard, sentAgo, heardAgo, causeAfter, stoodAgo, largest, Schedule, Brings, windowAt}
 use Rattle.agreement.specs.Window.{inTime, Bundled, Multiplexed}
 use Rattle.agreement.proofs.BundledWindow.{LowCce, ReadsPdcch, ReadsBlock, bundled-window}
 use Rattle.agreement.proofs.Entries.{member-at}
-use Rattle.agreement.proofs.Memory.{ValidPast, after, view-after, low-after, accepted-after, refused-after}
+use Rattle.agreement.proofs.Memory.{ValidPast, valid-in, after, view-after, low-after, accepted-after, refused-after, changed-after}
+use Rattle.agreement.proofs.Modes.{schedule-in, earliest-largest, Allowed, modesAfter, allowed-at, modes-at}
 use Rattle.agreement.proofs.MultiplexedWindow.{multiplexed-window}
 use Rattle.confirmation.proofs.Told.{told-position, told-of-block}
 
@@ -60,7 +66,7 @@ readIn set sent s = readOf set (s % 10) (toldOf (windowAt set s) (sentAgo sent s
 abbrev pub causeIn : Settings → List Heard → ℕ → Heard → ℕ
 causeIn set heard s x = causeOf set (s % 10) (λ (a : ℕ). isBlock (heardAgo heard s a)) x
 
--- What demand 3 says of the answer at the run's subframe s, which was fed and not refused.
+-- What demand 3 says of the answer at the run's subframe s, which was fed and not refused; the settings are those of its window.
 pub record Answered (set : Settings) (sent : ℕ → Send) (heard : List Heard) (s : ℕ) (a : Answer) : Type 0 where
   pub taken : downlink (set .config) (s % 10) ≡ true → a ≡ answer.Taken
   pub noWindow : downlink (set .config) (s % 10) ≡ false → windowAt set s ≡ [] → a ≡ answer.NoWindow
@@ -70,23 +76,32 @@ pub record Answered (set : Settings) (sent : ℕ → Send) (heard : List Heard) 
       → Multiplexed set (resourceOf set (s % 10)) (readIn set sent s) (windowAt set s) (heardAgo heard s) (inTime (sentAgo sent s) (heardAgo heard s) (windowAt set s)) a
 
 -- What it says of a feed that brings x to the handset h at the run's next subframe s.
-pub record FeedHolds (set : Settings) (sent : ℕ → Send) (heard : List Heard) (s : ℕ) (h : Handset) (x : Heard) : Type 0 where
+pub record FeedHolds (set : Settings) (sent : ℕ → Send) (heard : List Heard) (modes : List ℕ) (s : ℕ) (h : Handset) (x : Heard) : Type 0 where
   pub refusedExactly : ((k : ℕ) × (feedOf h x .answer ≡ answer.Refused k)) ↔ (causeIn set heard s x ≡ 0 → ⊥)
   pub refused : (causeIn set heard s x ≡ 0 → ⊥) → feedOf h x ≡ record { answer = answer.Refused (causeIn set heard s x); handset = h }
-  pub accepted : causeIn set heard s x ≡ 0 → Answered set sent heard s (feedOf h x .answer)
+  pub accepted : causeIn set heard s x ≡ 0
+      → Answered (inMode set (stoodAgo set modes s (largest (windowAt set s)))) sent heard s (feedOf h x .answer)
 
--- The run's list of heard things has the history, newest first, at its subframes.
-abbrev pub Past : List Heard → List Heard → Type 0
-Past heard [] = Unit {0}
-Past heard (x ∷ l) = (getD heard (length l) Nothing ≡ x) × Past heard l
+-- What it says of a change of the handset h to mode m.
+pub record ChangeHolds (set : Settings) (h : Handset) (m : ℕ) : Type 0 where
+  pub changedExactly : changeOf h m .refusal ≡ modeRefusal (inMode set m)
+  pub changeLeaves : (modeRefusal (inMode set m) ≡ 0 → ⊥) → changeOf h m .handset ≡ h
+
+-- The run's list has the history, newest first, at its subframes; before the start it has `none`.
+abbrev pub Past : {A : Type 0} → A → List A → List A → Type 0
+Past none all [] = Unit {0}
+Past none all (x ∷ l) = (getD all (length l) none ≡ x) × Past none all l
 
 -- k before the next subframe stands what the history has there.
-pub ago-past : (heard l : List Heard) → Past heard l → (k : ℕ) → 1 ≤ k → heardAgo heard (length l) k ≡ getD l (k - 1) Nothing
-ago-past heard [] p k h = rw (lt-leb k 0 h)
-ago-past heard (x ∷ l) p k h = go k h (ago-past heard l (p .1))
+pub ago-past : {A : Type 0} (none : A) (all l : List A) → Past none all l → (k : ℕ) → 1 ≤ k
+    → cond (leb k (length l)) (getD all (length l - k) none) none ≡ getD l (k - 1) none
+ago-past none all [] p k h = rw (lt-leb k 0 h)
+ago-past {A} none all (x ∷ l) p k h = go k h (ago-past none all l (p .1))
   where
-    go : (k : ℕ) → 1 ≤ k → ((j : ℕ) → 1 ≤ j → heardAgo heard (length l) j ≡ getD l (j - 1) Nothing)
-        → heardAgo heard (suc (length l)) k ≡ getD (x ∷ l) (k - 1) Nothing
+    ago : ℕ → ℕ → A
+    ago s k = cond (leb k s) (getD all (s - k) none) none
+
+    go : (k : ℕ) → 1 ≤ k → ((j : ℕ) → 1 ≤ j → ago (length l) j ≡ getD l (j - 1) none) → ago (suc (length l)) k ≡ getD (x ∷ l) (k - 1) none
     go zero h rest = absurd (omega arith)
     go (suc zero) h rest =
         let e : suc (length l) - 1 ≡ length l = omega arith in
@@ -97,8 +112,7 @@ ago-past heard (x ∷ l) p k h = go k h (ago-past heard l (p .1))
         let g : suc j - 1 ≡ j = omega arith in
         shift (decLe (suc j) (length l)) e ∙ rest (suc j) (omega arith) ∙ rw (f, g)
       where
-        shift : Dec (suc j ≤ length l) → suc (length l) - suc (suc j) ≡ length l - suc j
-            → heardAgo heard (suc (length l)) (suc (suc j)) ≡ heardAgo heard (length l) (suc j)
+        shift : Dec (suc j ≤ length l) → suc (length l) - suc (suc j) ≡ length l - suc j → ago (suc (length l)) (suc (suc j)) ≡ ago (length l) (suc j)
         shift (yes h) e = rw (le-leb (suc (suc j)) (suc (length l)) (omega arith), le-leb (suc j) (length l) h, e)
         shift (no h) e = rw (lt-leb (suc (suc j)) (suc (length l)) (omega arith), lt-leb (suc j) (length l) (omega arith))
 
@@ -116,14 +130,25 @@ ago-brings sent heard brings s k = go (decLe k s)
     go (no h) = rw (lt-leb k s (omega arith)) (inl refl)
 
 -- The run's cause is the history's.
-pub cause-past : (set : Settings) (heard l : List Heard) → Past heard l → (x : Heard) → causeIn set heard (length l) x ≡ causeAfter set l x
+pub cause-past : (set : Settings) (heard l : List Heard) → Past Nothing heard l → (x : Heard) → causeIn set heard (length l) x ≡ causeAfter set l x
 cause-past set heard l past x =
     cause-same set (length l % 10) (λ (a : ℕ). isBlock (heardAgo heard (length l) a)) (λ (a : ℕ). isBlock (getD l (a - 1) Nothing)) x
-    (λ a least most. ap isBlock (ago-past heard l past a least))
+    (λ a least most. ap isBlock (ago-past Nothing heard l past a least))
 
+-- A subframe without a window is answered alike in every mode.
+taken-answer : (set : Settings) (n : ℕ) (view : ℕ → View) → downlink (set .config) n ≡ true → answerOf set n view ≡ answer.Taken
+unfolding answerOf
+taken-answer set n view e = rw e
+
+no-window-answer : (set : Settings) (n : ℕ) (view : ℕ → View) → downlink (set .config) n ≡ false → windowOf (set .config) n ≡ []
+    → answerOf set n view ≡ answer.NoWindow
+unfolding answerOf windowAnswer
+no-window-answer set n view e f = rw (e, f)
+
+-- What a window answers, in its own settings.
 module _ (set : Settings) (good : settingsRefusal set ≡ 0) (sent : ℕ → Send) (schedule : Schedule set sent) (heard : List Heard)
     (brings : (s : ℕ) → s < length heard → Brings (sent s) (getD heard s Nothing))
-    (l : List Heard) (valid : ValidPast set l) (past : Past heard l) where
+    (l : List Heard) (valid : ValidPast set l) (past : Past Nothing heard l) where
   ok : Accepted set
   ok = accepted set good
 
@@ -134,10 +159,10 @@ module _ (set : Settings) (good : settingsRefusal set ≡ 0) (sent : ℕ → Sen
   F = viewAgo (memory (map slotOf l))
 
   seen : (k : ℕ) → 1 ≤ k → k ≤ 13 → F k ≡ viewOf (heardAgo heard (length l) k)
-  seen k least most = view-after set ok l valid k least most ∙ ap viewOf (sym (ago-past heard l past k least))
+  seen k least most = view-after set ok l valid k least most ∙ ap viewOf (sym (ago-past Nothing heard l past k least))
 
   low : (k : ℕ) → 1 ≤ k → k ≤ 13 → LowCce set (heardAgo heard (length l) k)
-  low k least most = rw (ago-past heard l past k least) (low-after set l valid (k - 1))
+  low k least most = rw (ago-past Nothing heard l past k least) (low-after set l valid (k - 1))
 
   -- a scheduled block that was heard was sent, and has a resource set
   block-sent : (s : Send) (x : Heard) → Brings s x → isBlock x ≡ true → isSentBlock s ≡ true
@@ -211,28 +236,20 @@ module _ (set : Settings) (good : settingsRefusal set ≡ 0) (sent : ℕ → Sen
 
   -- the answer in each case
   bundled-answer : 0 < length (windowOf (set .config) n) → bundles set (length (windowOf (set .config) n)) ≡ true
-      → bundledAnswer set n (seenOf F (windowOf (set .config) n)) ≡ nextAnswer (after set l)
-  unfolding nextAnswer answerOf windowAnswer
+      → bundledAnswer set n (seenOf F (windowOf (set .config) n)) ≡ answerOf set n F
+  unfolding answerOf windowAnswer
   bundled-answer some mode = rw (window-uplink (set .config) n some, ne-eqb (length (windowOf (set .config) n)) 0 (λ z. omega arith), mode)
 
   multiplexed-answer : 0 < length (windowOf (set .config) n) → bundles set (length (windowOf (set .config) n)) ≡ false
-      → multiplexedAnswer set n F (windowOf (set .config) n) ≡ nextAnswer (after set l)
-  unfolding nextAnswer answerOf windowAnswer
+      → multiplexedAnswer set n F (windowOf (set .config) n) ≡ answerOf set n F
+  unfolding answerOf windowAnswer
   multiplexed-answer some mode = rw (window-uplink (set .config) n some, ne-eqb (length (windowOf (set .config) n)) 0 (λ z. omega arith), mode)
 
-  taken-answer : downlink (set .config) n ≡ true → nextAnswer (after set l) ≡ answer.Taken
-  unfolding nextAnswer answerOf
-  taken-answer e = rw e
-
-  no-window-answer : downlink (set .config) n ≡ false → windowOf (set .config) n ≡ [] → nextAnswer (after set l) ≡ answer.NoWindow
-  unfolding nextAnswer answerOf windowAnswer
-  no-window-answer e f = rw (e, f)
-
-  answered : Answered set sent heard (length l) (nextAnswer (after set l))
+  answered : Answered set sent heard (length l) (answerOf set n F)
   answered =
       record {
-        taken = taken-answer;
-        noWindow = no-window-answer;
+        taken = taken-answer set n F;
+        noWindow = no-window-answer set n F;
         bundled = λ some mode.
             rw (bundled-answer some (bundled-mode mode)) at
             (bundled-window set n (window-accepted set n good some) ok (bundled-mode mode) (sentAgo sent (length l)) (heardAgo heard (length l)) F
@@ -245,20 +262,88 @@ module _ (set : Settings) (good : settingsRefusal set ≡ 0) (sent : ℕ → Sen
             (sentAgo sent (length l)) (heardAgo heard (length l)) F (readIn set sent (length l)) low seen reads-pdcch (reads-block some));
       }
 
-  -- no answer of an accepted feed is a refusal
-  not-refused : (k : ℕ) → nextAnswer (after set l) ≡ answer.Refused k → ⊥
-  unfolding nextAnswer
-  not-refused k e = never-refused set n F k e
+-- The history of a run, newest first: the mode that stands, the modes that stood, and what was heard.
+pub record History (set : Settings) (heard : List Heard) (modes : List ℕ) (m : ℕ) (ms : List ℕ) (l : List Heard) : Type 0 where
+  pub allowed : Allowed set (m ∷ ms)
+  pub valid : ValidPast set l
+  pub past : Past Nothing heard l
+  pub stood : Past (set .mode) modes ms
+  pub same : length ms ≡ length l
 
-  pub feed-holds : (x : Heard) → FeedHolds set sent heard (length l) (after set l) x
+module _ (set : Settings) (good : settingsRefusal set ≡ 0) (sent : ℕ → Send) (schedule : Schedule set sent) (heard : List Heard) (modes : List ℕ)
+    (brings : (s : ℕ) → s < length heard → Brings (sent s) (getD heard s Nothing))
+    (m : ℕ) (ms : List ℕ) (l : List Heard) (history : History set heard modes m ms l) where
+  abbrev now : ℕ
+  now = length l % 10
+
+  abbrev handset : Handset
+  handset = after set m ms l
+
+  abbrev earliest : ℕ
+  earliest = largest (windowOf (set .config) now)
+
+  abbrev window-mode : ℕ
+  window-mode = stoodAgo set modes (length l) earliest
+
+  -- The mode that the handset remembers of the window's earliest subframe is the one that stood then.
+  module _ (some : 0 < length (windowOf (set .config) now)) where
+    least : 1 ≤ earliest
+    least = rw (earliest-largest (set .config) now) at (earliest-least (set .config) now some)
+
+    most : earliest ≤ 13
+    most = rw (earliest-largest (set .config) now) at (earliest-most (set .config) now)
+
+    stood-then : window-mode ≡ getD ms (earliest - 1) (set .mode)
+    stood-then = rw (history .same) at (ago-past (set .mode) modes ms (history .stood) earliest least)
+
+    remembered : modeAgo (modesAfter (set .mode) ms) (earliestOf (set .config) now) ≡ window-mode
+    remembered =
+        ap (modeAgo (modesAfter (set .mode) ms)) (earliest-largest (set .config) now)
+        ∙ modes-at set good ms (history .allowed .1) earliest least most ∙ sym stood-then
+
+    in-window : Answered (inMode set window-mode) sent heard (length l) (nextAnswer handset)
+    unfolding nextAnswer windowSettings
+    in-window =
+        rw remembered
+        (answered (inMode set window-mode)
+        (accepted-in set window-mode good (rw stood-then (allowed-at set good ms (history .allowed .1) (earliest - 1))))
+        sent (schedule-in set window-mode sent schedule) heard brings l (valid-in set window-mode l (history .valid)) (history .past))
+
+  answer-holds : Answered (inMode set window-mode) sent heard (length l) (nextAnswer handset)
+  unfolding nextAnswer windowSettings
+  answer-holds =
+      record {
+        taken = taken-answer (windowSettings handset) now (viewAgo (memory (map slotOf l)));
+        noWindow = no-window-answer (windowSettings handset) now (viewAgo (memory (map slotOf l)));
+        bundled = λ some. in-window some .bundled some;
+        multiplexed = λ some. in-window some .multiplexed some;
+      }
+
+  -- no answer of an accepted feed is a refusal
+  not-refused : (k : ℕ) → nextAnswer handset ≡ answer.Refused k → ⊥
+  unfolding nextAnswer
+  not-refused k e = never-refused (windowSettings handset) now (viewAgo (memory (map slotOf l))) k e
+
+  pub feed-holds : (x : Heard) → FeedHolds set sent heard modes (length l) handset x
   feed-holds x =
+      let cause = cause-past set heard l (history .past) x in
+      let taken = accepted-after set good m ms (history .allowed) l (history .valid) x in
+      let refused = refused-after set good m ms (history .allowed) l (history .valid) x in
       record {
         refusedExactly = (
-          λ p e. not-refused (p .0) (sym (ap (λ (f : Fed). f .answer) (accepted-after set good l valid x (sym (cause-past set heard l past x) ∙ e))) ∙ p .1),
-          λ h. (causeAfter set l x, ap (λ (f : Fed). f .answer) (refused-after set good l valid x (λ e. h (cause-past set heard l past x ∙ e)))),
+          λ p e. not-refused (p .0) (sym (ap (λ (f : Fed). f .answer) (taken (sym cause ∙ e))) ∙ p .1),
+          λ h. (causeAfter set l x, ap (λ (f : Fed). f .answer) (refused (λ e. h (cause ∙ e)))),
         );
-        refused = λ h.
-            refused-after set good l valid x (λ e. h (cause-past set heard l past x ∙ e))
-            ∙ ap (λ (k : ℕ). record { answer = answer.Refused k; handset = after set l }) (sym (cause-past set heard l past x));
-        accepted = λ e. rw (← ap (λ (f : Fed). f .answer) (accepted-after set good l valid x (sym (cause-past set heard l past x) ∙ e))) at answered;
+        refused = λ h. refused (λ e. h (cause ∙ e)) ∙ ap (λ (k : ℕ). record { answer = answer.Refused k; handset = handset }) (sym cause);
+        accepted = λ e. rw (← ap (λ (f : Fed). f .answer) (taken (sym cause ∙ e))) at answer-holds;
+      }
+
+  pub change-holds : (new : ℕ) → ChangeHolds set handset new
+  change-holds new =
+      let is = changed-after set good m ms (history .allowed) l (history .valid) new in
+      record {
+        changedExactly = ap (λ (c : Changed). c .refusal) is;
+        changeLeaves = λ refused.
+            ap (λ (c : Changed). c .handset) is
+            ∙ ap (λ (b : Bool). after set (cond b new m) ms l) (ne-eqb (modeRefusal (inMode set new)) 0 refused);
       }

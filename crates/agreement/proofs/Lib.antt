@@ -1,4 +1,5 @@
 pub mod BundledWindow
+pub mod ChangedRuns
 pub mod Computing
 pub mod Conclusions
 pub mod Confirmation
@@ -11,11 +12,14 @@ pub mod Finite
 pub mod Folded
 pub mod Limit
 pub mod Memory
+pub mod Modes
 pub mod MultiplexedWindow
+pub mod SameModes
 pub mod SameWindows
 pub mod Second
 pub mod Unchanged
 pub mod Worked
+pub mod WrongChanges
 pub mod WrongEngines
 pub mod WrongHandsets
 pub mod WrongStations

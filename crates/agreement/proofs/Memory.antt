@@ -7,12 +7,12 @@ use mathlib.Core.Path.{_≡_, refl, sym, ap, _∙_}
 use native.Mathlib.Nat.{zero-add, add-suc, suc-add, le-of-suc-le-suc, not-suc-le-zero, add-zero}
 use native.Mathlib.Decide.{decLt}
 use native.Mathlib.Omega.{arith}
-use lib.Dec.{eqb, leb}
+use lib.Dec.{eqb, leb, eqb·suc-zero}
 use lib.ListN.{length, getD}
 use borrow.Author.Tests.{le-leb, eqb-true, eqb-false}
 use Rattle.frame.specs.declared.Settings.{Settings}
-use Rattle.frame.specs.Settings.{settingsRefusal}
-use Rattle.frame.proofs.Accepted.{Accepted, accepted}
+use Rattle.frame.specs.Settings.{orElse, modeRefusal, settingsRefusal, inMode}
+use Rattle.frame.proofs.Accepted.{Accepted, accepted, accepted-in}
 use Rattle.heard.specs.declared.Heard.{Heard}
 use Rattle.heard.specs.declared.Heard.the-variants.{Nothing, Granted, Scheduled, Released}
 use Rattle.heard.specs.declared.Slot.{Slot}
@@ -22,12 +22,14 @@ use Rattle.heard.proofs.Before.{cause-same, cause-none, cause-fewer}
 use Rattle.heard.proofs.Valid.{ValidBlocks, Valid, valid}
 use Rattle.reply.specs.declared.Answer.the-variants as answer
 use Rattle.handset.specs.declared.Handset.{Handset}
+use Rattle.handset.specs.Change.{changeRefusal, changedAs, changeOf}
 use Rattle.handset.specs.Feed.{nextAnswer, pushed, feedRefusal, fedAs, feedOf}
 use Rattle.handset.specs.Make.{slotsFrom, memory, fresh, makeOf}
 use Rattle.handset.specs.Sound.{slotSound, previous, allSound, stateSound, stateRefusal}
-use Rattle.agreement.specs.Run.{causeAfter}
+use Rattle.agreement.specs.Run.{causeAfter, standing}
 use Rattle.agreement.specs.Window.{heardAt}
 use Rattle.agreement.proofs.BundledWindow.{LowCce}
+use Rattle.agreement.proofs.Modes.{cause-in, Allowed, modesAfter, made-allowed, modes-sound}
 
 -- The three bits of a slot's results, taken apart again.
 first-back : (a b c : Bool) → eqb ((bit a + 2 * bit b + 4 * bit c) % 2) 1 ≡ a
@@ -94,17 +96,18 @@ ValidPast set (x ∷ l) = (causeAfter set l x ≡ 0) × ValidPast set l
 alone : (set : Settings) (l : List Heard) (x : Heard) → causeAfter set l x ≡ 0 → heardRefusal set (length l % 10) x ≡ 0
 alone set l x e = cause-none set (length l % 10) (λ (a : ℕ). isBlock (getD l (a - 1) Nothing)) x e .0
 
--- The handset after a history.
-abbrev pub after : Settings → List Heard → Handset
-after set l = record { settings = set; next = length l % 10; past = memory (map slotOf l) }
+-- The handset made with these settings, after a history: the mode that stands, and of each feed, newest first, the mode that stood and
+-- what was heard.
+abbrev pub after : Settings → ℕ → List ℕ → List Heard → Handset
+after set m ms l = record { settings = inMode set m; next = length l % 10; modes = modesAfter (set .mode) ms; past = memory (map slotOf l) }
 
-fresh-after : (set : Settings) → fresh set ≡ after set []
+fresh-after : (set : Settings) → fresh set ≡ after set (set .mode) [] []
 unfolding fresh
 fresh-after set = refl
 
-pushed-after : (set : Settings) (l : List Heard) (x : Heard) → pushed (after set l) x ≡ after set (x ∷ l)
+pushed-after : (set : Settings) (m : ℕ) (ms : List ℕ) (l : List Heard) (x : Heard) → pushed (after set m ms l) x ≡ after set m (m ∷ ms) (x ∷ l)
 unfolding pushed
-pushed-after set l x =
+pushed-after set m ms l x =
     let e : (length l % 10 + 1) % 10 ≡ suc (length l) % 10 = omega arith in
     rw e
 
@@ -228,28 +231,69 @@ sound-from set ok (x ∷ l) v (suc count) n e =
     rw (slots-tail count 0 (slotOf x) (map slotOf l), p, slot-sound set ok l x (v .0) count)
     (sound-from set ok l (v .1) count (length l % 10) refl)
 
-sound-after : (set : Settings) → settingsRefusal set ≡ 0 → Accepted set → (l : List Heard) → ValidPast set l → stateRefusal (after set l) ≡ 0
-unfolding stateRefusal stateSound
-sound-after set good ok l v =
-    rw (good, le-leb (length l % 10) 9 (omega arith), sound-from set ok l v 13 (length l % 10) refl)
+-- A history that is valid is so in every mode.
+pub valid-in : (set : Settings) (m : ℕ) (l : List Heard) → ValidPast set l → ValidPast (inMode set m) l
+valid-in set m [] v = tt
+valid-in set m (x ∷ l) v = (cause-in set m (length l % 10) (λ (a : ℕ). isBlock (getD l (a - 1) Nothing)) x ∙ v .0, valid-in set m l (v .1))
 
--- What a feed of the handset after a history comes to.
-module _ (set : Settings) (good : settingsRefusal set ≡ 0) (l : List Heard) (valid : ValidPast set l) (x : Heard) where
-  fed-after : feedOf (after set l) x ≡ fedAs (causeAfter set l x) (after set l) x
-  unfolding feedOf feedRefusal
-  fed-after = rw (sound-after set good (accepted set good) l valid, cause-after set l x)
+-- What a feed and a change of the handset after a history come to.
+module _ (set : Settings) (good : settingsRefusal set ≡ 0) (m : ℕ) (ms : List ℕ) (allowed : Allowed set (m ∷ ms)) (l : List Heard) (valid : ValidPast set l) where
+  sound-after : stateRefusal (after set m ms l) ≡ 0
+  unfolding stateRefusal stateSound
+  sound-after =
+      let now : settingsRefusal (inMode set m) ≡ 0 = accepted-in set m good (allowed .0) in
+      rw (
+        now,
+        le-leb (length l % 10) 9 (omega arith),
+        modes-sound set good m ms (allowed .1),
+        sound-from (inMode set m) (accepted (inMode set m) now) l (valid-in set m l valid) 13 (length l % 10) refl,
+      )
 
-  pub accepted-after : causeAfter set l x ≡ 0 → feedOf (after set l) x ≡ record { answer = nextAnswer (after set l); handset = after set (x ∷ l) }
-  accepted-after e = fed-after ∙ rw (e, pushed-after set l x)
+  module _ (x : Heard) where
+    fed-after : feedOf (after set m ms l) x ≡ fedAs (causeAfter set l x) (after set m ms l) x
+    unfolding feedOf feedRefusal
+    fed-after =
+        rw (sound-after, cause-after (inMode set m) l x, cause-in set m (length l % 10) (λ (a : ℕ). isBlock (getD l (a - 1) Nothing)) x)
 
-  pub refused-after : (causeAfter set l x ≡ 0 → ⊥) → feedOf (after set l) x ≡ record { answer = answer.Refused (causeAfter set l x); handset = after set l }
-  refused-after h = fed-after ∙ go (causeAfter set l x) refl
+    pub accepted-after : causeAfter set l x ≡ 0
+        → feedOf (after set m ms l) x ≡ record { answer = nextAnswer (after set m ms l); handset = after set m (m ∷ ms) (x ∷ l) }
+    accepted-after e = fed-after ∙ rw (e, pushed-after set m ms l x)
+
+    pub refused-after : (causeAfter set l x ≡ 0 → ⊥)
+        → feedOf (after set m ms l) x ≡ record { answer = answer.Refused (causeAfter set l x); handset = after set m ms l }
+    refused-after h = fed-after ∙ go (causeAfter set l x) refl
+      where
+        go : (k : ℕ) → causeAfter set l x ≡ k → fedAs k (after set m ms l) x ≡ record { answer = answer.Refused k; handset = after set m ms l }
+        go zero e = absurd (h e)
+        go (suc k) e = refl
+
+  -- A change is refused by 4 and 5 alone; else the new mode stands, and nothing else moves.
+  pub changed-after : (new : ℕ) → changeOf (after set m ms l) new
+      ≡ record { refusal = modeRefusal (inMode set new); handset = after set (standing set m new) ms l }
+  unfolding changeOf changeRefusal
+  changed-after new = rw sound-after (go (modeRefusal (inMode set new)))
     where
-      go : (k : ℕ) → causeAfter set l x ≡ k → fedAs k (after set l) x ≡ record { answer = answer.Refused k; handset = after set l }
-      go zero e = absurd (h e)
-      go (suc k) e = refl
+      go : (k : ℕ) → changedAs (orElse k 0) (after set m ms l) new ≡ record { refusal = k; handset = after set (cond (eqb k 0) new m) ms l }
+      go zero = refl
+      go (suc k) = rw (eqb·suc-zero k)
 
 -- Making from accepted settings gives a fresh handset.
-pub made-fresh : (set : Settings) → settingsRefusal set ≡ 0 → makeOf set .handset ≡ after set []
+pub made-fresh : (set : Settings) → settingsRefusal set ≡ 0 → makeOf set .handset ≡ after set (set .mode) [] []
 unfolding makeOf
 made-fresh set good = rw good (fresh-after set)
+
+-- The handset after a history without changes of mode: it was fed in the mode that it was made with.
+abbrev pub unchanged : Settings → List Heard → Handset
+unchanged set l = after set (set .mode) (map (λ (x : Heard). set .mode) l) l
+
+module _ (set : Settings) (good : settingsRefusal set ≡ 0) (l : List Heard) (valid : ValidPast set l) (x : Heard) where
+  made-only : (l : List Heard) → Allowed set (map (λ (x : Heard). set .mode) l)
+  made-only [] = tt
+  made-only (x ∷ l) = (made-allowed set good, made-only l)
+
+  pub accepted-unchanged : causeAfter set l x ≡ 0 → feedOf (unchanged set l) x ≡ record { answer = nextAnswer (unchanged set l); handset = unchanged set (x ∷ l) }
+  accepted-unchanged = accepted-after set good (set .mode) (map (λ (x : Heard). set .mode) l) (made-allowed set good, made-only l) l valid x
+
+  pub refused-unchanged : (causeAfter set l x ≡ 0 → ⊥)
+      → feedOf (unchanged set l) x ≡ record { answer = answer.Refused (causeAfter set l x); handset = unchanged set l }
+  refused-unchanged = refused-after set good (set .mode) (map (λ (x : Heard). set .mode) l) (made-allowed set good, made-only l) l valid x

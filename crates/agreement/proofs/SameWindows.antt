@@ -10,9 +10,11 @@ use lib.ListN.{getD}
 use Rattle.frame.specs.declared.Settings.{Settings}
 use Rattle.frame.specs.Distance.{subframeOf, answeredRefusal, answeredOf}
 use Rattle.frame.specs.Layout.{isSpecial}
-use Rattle.frame.specs.Settings.{bundles, hasScheduled, settingsRefusal, windowRefusal}
+use Rattle.frame.specs.Earliest.{earliestOf}
+use Rattle.frame.specs.Settings.{modeRefusal, bundles, hasScheduled, settingsRefusal, inMode, windowRefusal}
 use Rattle.frame.specs.Special.{noPdsch, tooShort}
 use Rattle.frame.specs.Table.{windowOf}
+use Rattle.frame.proofs.Accepted.{refused-in}
 use Rattle.resource.specs.declared.Inverted.{Inverted}
 use Rattle.resource.specs.declared.Inverted.the-variants as inverted
 use Rattle.resource.specs.Calls.{sizeOf, resourceOf, inverseOf}
@@ -30,7 +32,8 @@ use Rattle.heard.specs.Memory.{heardIn, viewAgo, blockAgo}
 use Rattle.heard.proofs.Valid.{valid-long}
 use Rattle.reply.specs.Replies.{missShown, secondBit, loneAnswer, bundledAnswer, carrierOf, windowState, symbolAnswer, multiplexedAnswer, windowAnswer}
 use Rattle.handset.specs.declared.Handset.{Handset}
-use Rattle.handset.specs.Feed.{answerOf, nextAnswer, feedRefusal, fedAs, feedOf}
+use Rattle.handset.specs.Feed.{answerOf, windowSettings, nextAnswer, feedRefusal, fedAs, feedOf}
+use Rattle.handset.specs.Modes.{modeAgo, modesSound}
 use Rattle.handset.specs.Sound.{slotSound, previous, allSound, stateSound, stateRefusal}
 use Rattle.station.specs.declared.Place.{Place}
 use Rattle.station.specs.declared.Place.the-variants as place
@@ -66,8 +69,9 @@ pub record SameWindows (s t : Settings) : Type 0 where
 -- every feed.
 pub record SameAnswers (s t : Settings) : Type 0 where
   pub read : (n : ℕ) (told : Told) (r b0 b1 : ℕ) → readOf s n told r b0 b1 ≡ readOf t n told r b0 b1
-  pub feed : (next : ℕ) (past : List Slot) (x : Heard)
-      → feedOf (record { settings = s; next = next; past = past }) x .answer ≡ feedOf (record { settings = t; next = next; past = past }) x .answer
+  pub feed : (next modes : ℕ) (past : List Slot) (x : Heard)
+      → feedOf (record { settings = s; next = next; modes = modes; past = past }) x .answer
+      ≡ feedOf (record { settings = t; next = next; modes = modes; past = past }) x .answer
 
 -- These settings with another prefix and special configuration.
 abbrev with : Settings → ℕ → ℕ → Settings
@@ -86,14 +90,14 @@ heard-alike s prefix special n (Granted g) e = rw (e refl)
 heard-alike s prefix special n (Scheduled b) e = rw (e refl)
 heard-alike s prefix special n (Released p) e = refl
 
--- The calls of both, where both are accepted.
-module _ (s : Settings) (prefix special : ℕ) (good : settingsRefusal s ≡ 0) (also : settingsRefusal (with s prefix special) ≡ 0) where
+-- The calls of both, where both are refused alike.
+module _ (s : Settings) (prefix special : ℕ) (same : settingsRefusal s ≡ settingsRefusal (with s prefix special)) where
   abbrev t : Settings
   t = with s prefix special
 
   refused-alike : (n : ℕ) → windowRefusal s n ≡ windowRefusal t n
   unfolding windowRefusal
-  refused-alike n = rw (good, also)
+  refused-alike n = rw same
 
   resource-alike : (n m c : ℕ) → resourceOf s n m c ≡ resourceOf t n m c
   unfolding resourceOf
@@ -139,7 +143,7 @@ module _ (s : Settings) (prefix special : ℕ) (good : settingsRefusal s ≡ 0) 
 
   answered-alike : (d : ℕ) → answeredOf s d ≡ answeredOf t d
   unfolding answeredOf answeredRefusal
-  answered-alike d = rw (good, also)
+  answered-alike d = rw same
 
   carrier-alike : (n m : ℕ) (v : View) → carrierOf s n m v ≡ carrierOf t n m v
   unfolding carrierOf
@@ -171,48 +175,66 @@ module _ (s : Settings) (prefix special : ℕ) (good : settingsRefusal s ≡ 0) 
         answer = answer-alike;
       }
 
-  -- Where no subframe is too short in one and not in the other.
-  module _ (same : (n : ℕ) → tooShort s n ≡ tooShort t n) where
-    any-alike : (n : ℕ) (told : Told) → toldRefusal s n told ≡ toldRefusal t n told
-    any-alike n NotTold = untold-alike n
-    any-alike n (At m) = told-alike n m (same (subframeOf (s .config) n m))
+-- Where both are accepted, and no subframe is too short in one and not in the other.
+module _ (s : Settings) (prefix special : ℕ) (good : settingsRefusal s ≡ 0) (also : settingsRefusal (with s prefix special) ≡ 0)
+    (short : (n : ℕ) → tooShort s n ≡ tooShort (with s prefix special) n) where
+  abbrev u : Settings
+  u = with s prefix special
 
-    cause-alike : (n : ℕ) (block : ℕ → Bool) (x : Heard) → causeOf s n block x ≡ causeOf t n block x
-    unfolding causeOf secondRefusal
-    cause-alike n block x = rw (heard-alike s prefix special n x (λ d. same n))
+  any-alike : (n : ℕ) (told : Told) → toldRefusal s n told ≡ toldRefusal u n told
+  any-alike n NotTold = untold-alike s prefix special (good ∙ sym also) n
+  any-alike n (At m) = told-alike s prefix special (good ∙ sym also) n m (short (subframeOf (s .config) n m))
 
-    sound-alike : (past : List Slot) (n : ℕ) → allSound s n past ≡ allSound t n past
-    unfolding allSound slotSound
-    sound-alike [] n = refl
-    sound-alike (x ∷ past) n = rw (cause-alike (previous n) (blockAgo past) (heardIn x), sound-alike past (previous n))
+  cause-alike : (n : ℕ) (block : ℕ → Bool) (x : Heard) → causeOf s n block x ≡ causeOf u n block x
+  unfolding causeOf secondRefusal
+  cause-alike n block x = rw (heard-alike s prefix special n x (λ d. short n))
 
-    module _ (next : ℕ) (past : List Slot) (x : Heard) where
-      abbrev first : Handset
-      first = record { settings = s; next = next; past = past }
+  sound-alike : (past : List Slot) (n : ℕ) → allSound s n past ≡ allSound u n past
+  unfolding allSound slotSound
+  sound-alike [] n = refl
+  sound-alike (x ∷ past) n = rw (cause-alike (previous n) (blockAgo past) (heardIn x), sound-alike past (previous n))
 
-      abbrev second : Handset
-      second = record { settings = t; next = next; past = past }
+  -- In another mode both are refused alike too: by 4 and 5 alone.
+  mode-alike : (m : ℕ) → modeRefusal (inMode s m) ≡ modeRefusal (inMode u m)
+  unfolding modeRefusal
+  mode-alike m = refl
 
-      next-alike : nextAnswer first ≡ nextAnswer second
-      unfolding nextAnswer answerOf
-      next-alike = rw (answer-alike next (viewAgo past))
+  in-mode-alike : (m : ℕ) → settingsRefusal (inMode s m) ≡ settingsRefusal (inMode u m)
+  in-mode-alike m = refused-in s m good ∙ mode-alike m ∙ sym (refused-in u m also)
 
-      refusal-alike : feedRefusal first x ≡ feedRefusal second x
-      unfolding feedRefusal stateRefusal stateSound
-      refusal-alike = rw (good, also, sound-alike past next, cause-alike next (blockAgo past) x)
+  modes-alike : (modes : ℕ) → modesSound s modes ≡ modesSound u modes
+  unfolding modesSound
+  modes-alike modes = rw (mode-alike 1)
 
-      feed-alike : feedOf first x .answer ≡ feedOf second x .answer
-      unfolding feedOf
-      feed-alike = rw refusal-alike (go (feedRefusal second x))
-        where
-          go : (k : ℕ) → fedAs k first x .answer ≡ fedAs k second x .answer
-          go zero = next-alike
-          go (suc k) = refl
+  module _ (next modes : ℕ) (past : List Slot) (x : Heard) where
+    abbrev first : Handset
+    first = record { settings = s; next = next; modes = modes; past = past }
+
+    abbrev second : Handset
+    second = record { settings = u; next = next; modes = modes; past = past }
+
+    next-alike : nextAnswer first ≡ nextAnswer second
+    unfolding nextAnswer answerOf windowSettings
+    next-alike =
+        let m : ℕ = modeAgo modes (earliestOf (s .config) next) in
+        rw (answer-alike (inMode s m) prefix special (in-mode-alike m) next (viewAgo past))
+
+    refusal-alike : feedRefusal first x ≡ feedRefusal second x
+    unfolding feedRefusal stateRefusal stateSound
+    refusal-alike = rw (good, also, modes-alike modes, sound-alike past next, cause-alike next (blockAgo past) x)
+
+    feed-alike : feedOf first x .answer ≡ feedOf second x .answer
+    unfolding feedOf
+    feed-alike = rw refusal-alike (go (feedRefusal second x))
+      where
+        go : (k : ℕ) → fedAs k first x .answer ≡ fedAs k second x .answer
+        go zero = next-alike
+        go (suc k) = refl
 
 -- M and K don't move, nor does anything that rests on them alone.
 pub same-windows : (s t : Settings) → SameButSpecial s t → settingsRefusal s ≡ 0 → settingsRefusal t ≡ 0 → SameWindows s t
 same-windows s t e good also =
-    rw (is-with s t e) (alike s (t .prefix) (t .special) good (rw (is-with s t e) at also))
+    rw (is-with s t e) (alike s (t .prefix) (t .special) (good ∙ sym (rw (is-with s t e) at also)))
 
 no-short : (s : Settings) → noPdsch (s .prefix) (s .special) ≡ false → (n : ℕ) → tooShort s n ≡ false
 unfolding tooShort
@@ -224,7 +246,7 @@ pub same-answers : (s t : Settings) → SameButSpecial s t → settingsRefusal s
 same-answers s t e good also long long′ =
     rw (is-with s t e)
     (record {
-      read = λ n told. read-alike s (t .prefix) (t .special) good ok n told (any-alike s (t .prefix) (t .special) good ok same n told);
+      read = λ n told. read-alike s (t .prefix) (t .special) (good ∙ sym ok) n told (any-alike s (t .prefix) (t .special) good ok same n told);
       feed = feed-alike s (t .prefix) (t .special) good ok same;
     })
   where

@@ -1,5 +1,5 @@
 -- Runs that meet the hypotheses of demand 3, each with every answer and with the station's reading of every reply: the theorem is
--- about something. N_RB 50, N1 10; the scheduled resource, where one is set, is 7. The prefix is normal and the special configuration
+-- about something. Those with changes of mode are in ChangedRuns.antt. N_RB 50, N1 10; the scheduled resource, where one is set, is 7. The prefix is normal and the special configuration
 -- 7, which allows data, but in the cells that are named short.
 -- Assumes nothing.
 use Prim.Native.Nat.{ℕ, suc, zero, _+_, _<_}
@@ -18,15 +18,15 @@ use Rattle.heard.specs.declared.Heard.the-variants.{Nothing, Granted, Scheduled
 use Rattle.heard.specs.Heard.{heardRefusal, secondRefusal, causeOf}
 use Rattle.reply.specs.declared.Answer.{Answer}
 use Rattle.reply.specs.declared.Answer.the-variants as answer
-use Rattle.handset.specs.declared.Fed.{Fed}
 use Rattle.handset.specs.declared.Handset.{Handset}
+use Rattle.handset.specs.Change.{changeOf}
 use Rattle.handset.specs.Feed.{feedOf}
 use Rattle.handset.specs.Make.{makeOf}
 use Rattle.station.specs.declared.Place.the-variants as place
 use Rattle.station.specs.declared.Reading.{Reading}
 use Rattle.station.specs.declared.Reading.the-variants as reading
 use Rattle.agreement.specs.Demand3.{feedbackEngine, handsetAt, readingIn, IsSubframe}
-use Rattle.agreement.specs.Run.{Item, feed, itemAt, subframeAt, Schedule, BringsSent}
+use Rattle.agreement.specs.Run.{Item, feed, change, itemAt, subframeAt, settingsIn, Schedule, BringsSent}
 use Rattle.agreement.proofs.Computing.{handsets, stations}
 use Rattle.agreement.proofs.Finite.{sending, scheduleTest, feedsTest, scheduled, brought}
 
@@ -125,27 +125,33 @@ pub record Run : Type 0 where
   pub answers : List Answer
   pub readings : List Reading
 
--- the answers to a list of feeds
-abbrev pub answersOf : (Handset → Heard → Fed) → Handset → List Item → List Answer
-answersOf step h [] = []
-answersOf step h (feed x ∷ items) = step h x .answer ∷ answersOf step (step h x .handset) items
+-- the answers to the feeds of a list, and to its changes of mode
+abbrev pub answersOf : Handset → List Item → List Answer
+answersOf h [] = []
+answersOf h (feed x ∷ items) = feedOf h x .answer ∷ answersOf (feedOf h x .handset) items
+answersOf h (change m ∷ items) = answersOf (changeOf h m .handset) items
 
--- the readings of the replies, each with n = s mod 10, its own resource and bits, and told the position of the scheduled block that
--- was sent in its window; a refused feed is no subframe
-abbrev pub readingsFrom : Settings → (ℕ → Send) → ℕ → List Answer → List Reading
+abbrev pub changesOf : Handset → List Item → List ℕ
+changesOf h [] = []
+changesOf h (feed x ∷ items) = changesOf (feedOf h x .handset) items
+changesOf h (change m ∷ items) = changeOf h m .refusal ∷ changesOf (changeOf h m .handset) items
+
+-- the readings of the replies, each in its window's mode, with n = s mod 10, its own resource and bits, and told the position of the
+-- scheduled block that was sent in its window; a refused feed is no subframe
+abbrev pub readingsFrom : (ℕ → Settings) → (ℕ → Send) → ℕ → List Answer → List Reading
 readingsFrom set sent s [] = []
 readingsFrom set sent s (answer.Taken ∷ l) = readingsFrom set sent (s + 1) l
 readingsFrom set sent s (answer.NoWindow ∷ l) = readingsFrom set sent (s + 1) l
 readingsFrom set sent s (answer.Silent ∷ l) = readingsFrom set sent (s + 1) l
-readingsFrom set sent s (answer.Sent r ∷ l) = readingIn feedbackEngine set sent s (r .resource .0) (r .b0) (r .b1) ∷ readingsFrom set sent (s + 1) l
+readingsFrom set sent s (answer.Sent r ∷ l) = readingIn feedbackEngine (set s) sent s (r .resource .0) (r .b0) (r .b1) ∷ readingsFrom set sent (s + 1) l
 readingsFrom set sent s (answer.Refused k ∷ l) = readingsFrom set sent s l
 
 -- the answers of our handset in a run, and the readings of our station
 abbrev pub ourAnswers : Run → List Answer
-ourAnswers r = answersOf feedOf (makeOf (r .set) .handset) (r .items)
+ourAnswers r = answersOf (makeOf (r .set) .handset) (r .items)
 
 abbrev pub ourReadings : Run → List Reading
-ourReadings r = readingsFrom (r .set) (sending (r .sends)) 0 (r .answers)
+ourReadings r = readingsFrom (settingsIn (r .set) (r .items)) (sending (r .sends)) 0 (r .answers)
 
 pub record Worked (r : Run) : Type 0 where
   pub accepted : settingsRefusal (r .set) ≡ 0
@@ -154,7 +160,7 @@ pub record Worked (r : Run) : Type 0 where
   pub answered : ourAnswers r ≡ r .answers
   pub read : ourReadings r ≡ r .readings
 
-worked : (r : Run) → settingsRefusal (r .set) ≡ 0 → T (scheduleTest (r .set) (r .sends)) → T (feedsTest (r .set) (r .sends) (r .items))
+pub worked : (r : Run) → settingsRefusal (r .set) ≡ 0 → T (scheduleTest (r .set) (r .sends)) → T (feedsTest (r .set) (r .sends) (r .items))
     → ourAnswers r ≡ r .answers → ourReadings r ≡ r .readings → Worked r
 worked r good s b e f =
     record {
@@ -172,11 +178,15 @@ answer-at r w i = ap (λ (l : List Answer). getD l i answer.Silent) (w .answered
 pub reading-at : (r : Run) → Worked r → (j : ℕ) → getD (ourReadings r) j (reading.Refused 0) ≡ getD (r .readings) j (reading.Refused 0)
 reading-at r w j = ap (λ (l : List Reading). getD l j (reading.Refused 0)) (w .read)
 
--- Item s is the run's subframe s, fed with nothing.
+-- Item i is the run's subframe s, fed with nothing; without changes of mode and refusals before it, item s is.
+pub fed-nothing-at : (r : Run) (i s : ℕ) → i < length (r .items) → itemAt (r .items) i ≡ feed Nothing → subframeAt (r .set) (r .items) i ≡ s
+    → IsSubframe (r .set) (r .items) i s Nothing
+unfolding heardRefusal secondRefusal causeOf
+fed-nothing-at r i s inside brings counted = record { isFeed = record { inside = inside; brings = brings }; accepted = refl; counted = counted }
+
 pub fed-nothing : (r : Run) (s : ℕ) → s < length (r .items) → itemAt (r .items) s ≡ feed Nothing → subframeAt (r .set) (r .items) s ≡ s
     → IsSubframe (r .set) (r .items) s s Nothing
-unfolding heardRefusal secondRefusal causeOf
-fed-nothing r s inside brings counted = record { isFeed = record { inside = inside; brings = brings }; accepted = refl; counted = counted }
+fed-nothing r s inside brings counted = fed-nothing-at r s s inside brings counted
 
 -- Bundled.
 
@@ -229,7 +239,7 @@ unfolding handsets stations
 refused-feeds = worked refusedFeeds refl tt tt refl refl
 
 -- Item i leaves the handset as it was.
-abbrev Left : Run → ℕ → Type 0
+abbrev pub Left : Run → ℕ → Type 0
 Left r i = handsetAt feedbackEngine (r .set) (r .items) (suc i) ≡ handsetAt feedbackEngine (r .set) (r .items) i
 
 pub refused-left : Left refusedFeeds 1 × Left refusedFeeds 2 × Left refusedFeeds 3 × Left refusedFeeds 5

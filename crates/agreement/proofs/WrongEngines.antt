@@ -1,7 +1,7 @@
 -- What the statement shuts out, field by field. For each field that an engine can break there is the engine of this repository with
 -- one fault, and a proof that the statement does not hold of it. The proof asks the statement for this field, and for those that
--- settle the witnesses it speaks of; without the field it no longer checks. The handsets are in WrongHandsets.antt, the stations in
--- WrongStations.antt; here is what both use.
+-- settle the witnesses it speaks of; without the field it no longer checks. The handsets are in WrongHandsets.antt, those that go wrong
+-- where the mode changes in WrongChanges.antt, the stations in WrongStations.antt; here is what all use.
 --
 -- Demand3
 --   byFormula       all ends number the dynamic resources from the top of the range down   not-top-down
@@ -31,6 +31,17 @@
 --                   the handset moves on at a refused feed                                 not-moves-on
 --   taken           "silent" for "taken"                                                   not-silent-for-taken
 --   noWindow        "silent" for "no window"                                               not-silent-for-no-window
+--   taken           a change of mode counts as a subframe                                  not-counts-change
+--   changedExactly  5 is not known                                                         not-accepts-five
+--                   5 for 4                                                                not-five-for-four
+--                   8 while a window is open                                               not-refuses-open
+--   changeLeaves    a refused change is kept                                               not-keeps-refused
+--   bundled, multiplexed: the mode of a window
+--                   every window in the mode that stands                                   not-in-standing
+--                   in the mode of k_0                                                     not-in-first-printed
+--                   before the start in the mode of a change before the first feed         not-makes-anew
+--                   a change rewrites the modes that are remembered                        not-rewrites
+--                   a change is ignored                                                    not-ignores
 -- SentExactly, bundled and multiplexed
 --   sent when due   always silent                                                  not-always-silent, not-always-silent-multiplexed
 --                   silent as if missed before any grant                                   not-as-if-missed
@@ -112,9 +123,11 @@ use Rattle.heard.specs.declared.Heard.the-variants.{Nothing}
 use Rattle.reply.specs.declared.Answer.{Answer}
 use Rattle.reply.specs.declared.Answer.the-variants as answer
 use Rattle.reply.specs.declared.Reply.{Reply}
+use Rattle.handset.specs.declared.Changed.{Changed}
 use Rattle.handset.specs.declared.Fed.{Fed}
 use Rattle.handset.specs.declared.Handset.{Handset}
 use Rattle.handset.specs.declared.Made.{Made}
+use Rattle.handset.specs.Change.{changeOf}
 use Rattle.handset.specs.Feed.{feedOf}
 use Rattle.handset.specs.Make.{makeOf}
 use Rattle.station.specs.declared.Reading.{Reading}
@@ -125,18 +138,22 @@ use Rattle.agreement.specs.Run.{feed, itemAt, heardInRun, subframeAt, se
 use Rattle.agreement.specs.Window.{inTime, Bundled, ReadAs, MultiplexedReply, Multiplexed}
 use Rattle.agreement.proofs.Computing.{schedules}
 use Rattle.agreement.proofs.Finite.{sending}
+use Rattle.agreement.proofs.SameModes.{AllFeeds, made-mode, made-settings}
 use Rattle.agreement.proofs.Worked.{Run, Worked, fed-nothing, allHeard, all-heard, missed, first-missed, oneUndecoded, one-undecoded, twoWindows, two-windows, shared, symbol-shared, loneBlock, lone-block, blockLast, block-last, missedWithBlock, missed-with-block, releaseLast, release-last, blockAtIndex, block-at-index, releaseAtIndex, release-at-index, shortMultiplexed, short-multiplexed}
 
--- The engine of this repository, with another making, feeding, resource call, inverse or reading.
+-- The engine of this repository, with another making, feeding, change of mode, resource call, inverse or reading.
 abbrev pub engine : (Settings → Made) → (Handset → Heard → Fed) → (Settings → ℕ → ℕ → ℕ → Mapped) → (Settings → ℕ → ℕ → Inverted)
     → (Settings → ℕ → Told → ℕ → ℕ → ℕ → Reading) → Engine
-engine make step onto back read = record { make = make; feed = step; resource = onto; inverse = back; read = read }
+engine make step onto back read = record { make = make; feed = step; change = changeOf; resource = onto; inverse = back; read = read }
 
 abbrev pub madeBy : (Settings → Made) → Engine
 madeBy make = engine make feedOf resourceOf inverseOf readOf
 
 abbrev pub fedBy : (Handset → Heard → Fed) → Engine
 fedBy step = engine makeOf step resourceOf inverseOf readOf
+
+abbrev pub changedBy : (Handset → ℕ → Changed) → Engine
+changedBy switch = record { make = makeOf; feed = feedOf; change = switch; resource = resourceOf; inverse = inverseOf; read = readOf }
 
 abbrev pub mappedBy : (Settings → ℕ → ℕ → ℕ → Mapped) → Engine
 mappedBy onto = engine makeOf feedOf onto inverseOf readOf
@@ -203,7 +220,8 @@ pub one-lost : {b : Bool}
     → ((true ≡ true) × ((_≡_ {A = ℕ} 1 0) ⊎ (_≡_ {A = ℕ} 1 4) ⊎ (_≡_ {A = ℕ} 1 8))) ⊎ ((true ≡ false) × (b ≡ true)) → ⊥
 one-lost due = ⊎-elim (λ p. ⊎-elim (λ e. omega arith) (⊎-elim (λ e. omega arith) (λ e. omega arith)) (p .1)) (λ p. false≢true (sym (p .0))) due
 
--- In a worked run the statement holds; it gives the reply at the uplink subframe s, which item s feeds with nothing.
+-- In a worked run the statement holds; without changes of mode it gives the reply at the uplink subframe s, which item s feeds with
+-- nothing.
 pub holds-in : (e : Engine) → Demand3 e → (r : Run) → Worked r → HoldsAfter e (r .set) (sending (r .sends)) (r .items)
 holds-in e d r w = d .run (r .set) (w .accepted) (sending (r .sends)) (w .schedule) (r .items) (w .brings)
 
@@ -219,73 +237,77 @@ MultiplexedIn e r s =
 
 module _ (e : Engine) (d : Demand3 e) where
   bundled-in : (r : Run) → Worked r → (s : ℕ) → s < length (r .items) → itemAt (r .items) s ≡ feed Nothing → subframeAt (r .set) (r .items) s ≡ s
-      → 0 < length (windowAt (r .set) s) → r .set .mode ≡ 0 → BundledIn e r s
-  bundled-in r w s inside brings counted some mode = holds-in e d r w .bundled s s Nothing (fed-nothing r s inside brings counted) some (inl mode)
+      → AllFeeds (r .items) → 0 < length (windowAt (r .set) s) → r .set .mode ≡ 0 → BundledIn e r s
+  bundled-in r w s inside brings counted feeds some mode =
+      rw (made-settings (r .set) (r .items) feeds s) at
+      (holds-in e d r w .bundled s s Nothing (fed-nothing r s inside brings counted) some (inl (made-mode (r .set) (r .items) feeds s ∙ mode)))
 
   multiplexed-in : (r : Run) → Worked r → (s : ℕ) → s < length (r .items) → itemAt (r .items) s ≡ feed Nothing → subframeAt (r .set) (r .items) s ≡ s
-      → 1 < length (windowAt (r .set) s) → r .set .mode ≡ 1 → MultiplexedIn e r s
-  multiplexed-in r w s inside brings counted more mode =
-      holds-in e d r w .multiplexed s s Nothing (fed-nothing r s inside brings counted) (omega arith) mode (λ one. omega arith)
+      → AllFeeds (r .items) → 1 < length (windowAt (r .set) s) → r .set .mode ≡ 1 → MultiplexedIn e r s
+  multiplexed-in r w s inside brings counted feeds more mode =
+      rw (made-settings (r .set) (r .items) feeds s) at
+      (holds-in e d r w .multiplexed s s Nothing (fed-nothing r s inside brings counted) (omega arith) (made-mode (r .set) (r .items) feeds s ∙ mode)
+      (λ one. omega arith))
 
   -- Two grants are heard, in 0 and 1, and answered at 7.
   pub in-all-heard : BundledIn e allHeard 7
   unfolding schedules
-  in-all-heard = bundled-in allHeard all-heard 7 (omega arith) refl refl (omega arith) refl
+  in-all-heard = bundled-in allHeard all-heard 7 (omega arith) refl refl tt (omega arith) refl
 
   -- The first of them is lost.
   pub in-missed : BundledIn e missed 7
   unfolding schedules
-  in-missed = bundled-in missed first-missed 7 (omega arith) refl refl (omega arith) refl
+  in-missed = bundled-in missed first-missed 7 (omega arith) refl refl tt (omega arith) refl
 
   -- Of their four blocks the first one of the earlier grant is not decoded.
   pub in-one-undecoded : BundledIn e oneUndecoded 7
   unfolding schedules
-  in-one-undecoded = bundled-in oneUndecoded one-undecoded 7 (omega arith) refl refl (omega arith) refl
+  in-one-undecoded = bundled-in oneUndecoded one-undecoded 7 (omega arith) refl refl tt (omega arith) refl
 
   -- Two grants, in two windows, are heard; the second is answered at 7.
   pub in-two-windows : BundledIn e twoWindows 7
   unfolding schedules
-  in-two-windows = bundled-in twoWindows two-windows 7 (omega arith) refl refl (omega arith) refl
+  in-two-windows = bundled-in twoWindows two-windows 7 (omega arith) refl refl tt (omega arith) refl
 
   -- Multiplexed: the state A,A,D,D is answered at 12; nothing was heard before 7.
   pub in-shared : MultiplexedIn e shared 12
   unfolding schedules
-  in-shared = multiplexed-in shared symbol-shared 12 (omega arith) refl refl (omega arith) refl
+  in-shared = multiplexed-in shared symbol-shared 12 (omega arith) refl refl tt (omega arith) refl
 
   pub in-shared-before : MultiplexedIn e shared 7
   unfolding schedules
-  in-shared-before = multiplexed-in shared symbol-shared 7 (omega arith) refl refl (omega arith) refl
+  in-shared-before = multiplexed-in shared symbol-shared 7 (omega arith) refl refl tt (omega arith) refl
 
   -- Answered at 12: a scheduled block, at position 1, is the only thing heard.
   pub in-lone-block : BundledIn e loneBlock 12
   unfolding schedules
-  in-lone-block = bundled-in loneBlock lone-block 12 (omega arith) refl refl (omega arith) refl
+  in-lone-block = bundled-in loneBlock lone-block 12 (omega arith) refl refl tt (omega arith) refl
 
   -- A grant is heard and decoded, a scheduled block after it is not decoded.
   pub in-block-last : BundledIn e blockLast 12
   unfolding schedules
-  in-block-last = bundled-in blockLast block-last 12 (omega arith) refl refl (omega arith) refl
+  in-block-last = bundled-in blockLast block-last 12 (omega arith) refl refl tt (omega arith) refl
 
   -- A block and a grant are heard, a grant before them is lost.
   pub in-missed-with-block : BundledIn e missedWithBlock 12
   unfolding schedules
-  in-missed-with-block = bundled-in missedWithBlock missed-with-block 12 (omega arith) refl refl (omega arith) refl
+  in-missed-with-block = bundled-in missedWithBlock missed-with-block 12 (omega arith) refl refl tt (omega arith) refl
 
   -- A grant and then a release are heard.
   pub in-release-last : BundledIn e releaseLast 12
   unfolding schedules
-  in-release-last = bundled-in releaseLast release-last 12 (omega arith) refl refl (omega arith) refl
+  in-release-last = bundled-in releaseLast release-last 12 (omega arith) refl refl tt (omega arith) refl
 
   -- Multiplexed: a scheduled block stands at the symbol's index; a release does.
   pub in-block-at-index : MultiplexedIn e blockAtIndex 12
   unfolding schedules
-  in-block-at-index = multiplexed-in blockAtIndex block-at-index 12 (omega arith) refl refl (omega arith) refl
+  in-block-at-index = multiplexed-in blockAtIndex block-at-index 12 (omega arith) refl refl tt (omega arith) refl
 
   pub in-release-at-index : MultiplexedIn e releaseAtIndex 12
   unfolding schedules
-  in-release-at-index = multiplexed-in releaseAtIndex release-at-index 12 (omega arith) refl refl (omega arith) refl
+  in-release-at-index = multiplexed-in releaseAtIndex release-at-index 12 (omega arith) refl refl tt (omega arith) refl
 
   -- A release is heard in a special subframe too short for data.
   pub in-short-multiplexed : MultiplexedIn e shortMultiplexed 12
   unfolding schedules
-  in-short-multiplexed = multiplexed-in shortMultiplexed short-multiplexed 12 (omega arith) refl refl (omega arith) refl
+  in-short-multiplexed = multiplexed-in shortMultiplexed short-multiplexed 12 (omega arith) refl refl tt (omega arith) refl

@@ -40,7 +40,7 @@ use Rattle.reply.specs.Replies.{replyOn, loneAnswer, bundledAnswer, windowAnswe
 use Rattle.handset.specs.declared.Fed.{Fed}
 use Rattle.handset.specs.declared.Handset.{Handset}
 use Rattle.handset.specs.declared.Made.{Made}
-use Rattle.handset.specs.Feed.{pushed, feedRefusal, fedAs, feedOf}
+use Rattle.handset.specs.Feed.{windowSettings, pushed, feedRefusal, fedAs, feedOf}
 use Rattle.handset.specs.Make.{makeOf}
 use Rattle.station.specs.declared.Place.the-variants as place
 use Rattle.station.specs.declared.Reading.{Reading}
@@ -341,7 +341,7 @@ ownSeen h = seenOf (ownView h) (ownWindow h)
 abbrev countsBy : (Seen → ℕ) → Handset → Answer → Answer
 countsBy count h =
     let seen : Seen = ownSeen h in
-    let other : Answer = bundledAnswer (h .settings) (h .next)
+    let other : Answer = bundledAnswer (windowSettings h) (h .next)
     (record { u = count seen; v = seen .v; position = seen .position; cce = seen .cce; first = seen .first; second = seen .second; scheduled = seen .scheduled }) in
     answering answer.Taken answer.NoWindow other (λ (r : Reply). cond (eqb (r .kind) 1) other (answer.Sent r)) answer.Refused
 
@@ -387,10 +387,10 @@ not-never-silent-multiplexed d =
 
 -- A handset that answers its first window and is silent after. It marks itself by expecting ten more.
 abbrev tenMore : Handset → Handset
-tenMore h = record { settings = h .settings; next = h .next + 10; past = h .past }
+tenMore h = record { settings = h .settings; next = h .next + 10; modes = h .modes; past = h .past }
 
 abbrev tenLess : Handset → Handset
-tenLess h = record { settings = h .settings; next = h .next - 10; past = h .past }
+tenLess h = record { settings = h .settings; next = h .next - 10; modes = h .modes; past = h .past }
 
 abbrev tenMoreAfter : Handset → Answer → Handset
 tenMoreAfter h = answering h h h (λ (r : Reply). tenMore h) (λ (k : ℕ). h)
@@ -470,7 +470,7 @@ takenFor block release (Released p) = release p
 
 abbrev hearsBy : (ScheduledBlock → Heard) → (Release → Heard) → Handset → Answer → Answer
 hearsBy block release h =
-    let other : Answer = windowAnswer (h .settings) (h .next) (λ (k : ℕ). viewOf (takenFor block release (heardIn (getD (h .past) (k - 1) none)))) in
+    let other : Answer = windowAnswer (windowSettings h) (h .next) (λ (k : ℕ). viewOf (takenFor block release (heardIn (getD (h .past) (k - 1) none)))) in
     answering answer.Taken answer.NoWindow other (λ (r : Reply). other) answer.Refused
 
 -- A scheduled block does not join the AND: it counts as decoded.
@@ -504,7 +504,7 @@ not-deaf-to-blocks-multiplexed d =
 -- What comes in a subframe too short for data is not heard: as if it were in no window.
 abbrev pub deafInShort : Handset → Answer → Answer
 deafInShort h =
-    let other : Answer = windowAnswer (h .settings) (h .next) (λ (k : ℕ). cond (tooShort (h .settings) (before (h .next) k)) Unheard (viewAgo (h .past) k)) in
+    let other : Answer = windowAnswer (windowSettings h) (h .next) (λ (k : ℕ). cond (tooShort (h .settings) (before (h .next) k)) Unheard (viewAgo (h .past) k)) in
     answering answer.Taken answer.NoWindow other (λ (r : Reply). other) answer.Refused
 
 pub not-deaf-in-short : Demand3 (knowsBy deafInShort) → ⊥

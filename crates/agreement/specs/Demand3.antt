@@ -1,7 +1,8 @@
--- Demand 3, whole, as a statement about an engine: its make, feed, resource, inverse and reading as functions. Document 00, demand
--- 3, document 01, "The runs of demand 3", and document 02, U1: each field quotes the sentence that it states. proofs/Demand3.antt
--- proves it of the definitions that the promises of the code are equations with: makeOf (handset::make), feedOf (handset::feed),
--- resourceOf and inverseOf (resource::resource_of and inverse_of), readOf (station::read).
+-- Demand 3, whole, as a statement about an engine: its make, feed, change of mode, resource, inverse and reading as functions. Document
+-- 00, demand 3, document 01, "The runs of demand 3", and document 02, U1 and U8: each field quotes the sentence that it states.
+-- proofs/Demand3.antt proves it of the definitions that the promises of the code are equations with: makeOf (handset::make), feedOf
+-- (handset::feed), changeOf (handset::change_mode), resourceOf and inverseOf (resource::resource_of and inverse_of), readOf
+-- (station::read).
 -- Assumes nothing.
 use Prim.Native.Nat.{ℕ, _%_, _<_}
 use mathlib.Core.Bool.{true, false}
@@ -13,7 +14,7 @@ use Rattle.frame.specs.declared.Settings.{Settings}
 use Rattle.frame.specs.Distance.{subframeOf}
 use Rattle.frame.specs.Layout.{downlink}
 use Rattle.frame.specs.Once.{InWindow, InExactlyOne}
-use Rattle.frame.specs.Settings.{hasScheduled, settingsRefusal, windowRefusal}
+use Rattle.frame.specs.Settings.{modeRefusal, hasScheduled, settingsRefusal, inMode, windowRefusal}
 use Rattle.frame.specs.Special.{tooShort}
 use Rattle.confirmation.specs.declared.Send.{Send}
 use Rattle.confirmation.specs.Sent.{toldOf}
@@ -28,40 +29,51 @@ use Rattle.heard.specs.declared.Heard.{Heard}
 use Rattle.heard.specs.declared.Heard.the-variants.{Nothing, Scheduled}
 use Rattle.heard.specs.declared.ScheduledBlock.{ScheduledBlock}
 use Rattle.heard.specs.Heard.{isBlock, heardRefusal, causeOf}
+use Rattle.handset.specs.declared.Changed.{Changed}
 use Rattle.handset.specs.declared.Fed.{Fed}
 use Rattle.handset.specs.declared.Handset.{Handset}
 use Rattle.handset.specs.declared.Made.{Made}
+use Rattle.handset.specs.Change.{changeOf}
 use Rattle.handset.specs.Feed.{feedOf}
 use Rattle.handset.specs.Make.{makeOf}
 use Rattle.station.specs.declared.Reading.{Reading}
 use Rattle.station.specs.declared.Told.{Told}
 use Rattle.station.specs.declared.Told.the-variants as told
 use Rattle.station.specs.Readings.{GivesBack, readOf}
-use Rattle.agreement.specs.Run.{Item, feed, itemAt, handsetAfter, heardInRun, subframeAt, windowAt, sentAgo, heardAgo, Schedule, BringsSent}
+use Rattle.agreement.specs.Run.{Item, feed, change, itemAt, handsetAfter, heardInRun, subframeAt, windowAt, windowMode, settingsIn, sentAgo, heardAgo, Schedule, BringsSent}
 use Rattle.agreement.specs.Window.{inTime, Bundled, Multiplexed}
 
 pub record Engine : Type 0 where
   pub make : Settings → Made
   pub feed : Handset → Heard → Fed
+  pub change : Handset → ℕ → Changed
   pub resource : Settings → ℕ → ℕ → ℕ → Mapped
   pub inverse : Settings → ℕ → ℕ → Inverted
   pub read : Settings → ℕ → Told → ℕ → ℕ → ℕ → Reading
 
 -- The engine of this repository: the definitions that the promises of its code are equations with.
 abbrev pub feedbackEngine : Engine
-feedbackEngine = record { make = makeOf; feed = feedOf; resource = resourceOf; inverse = inverseOf; read = readOf }
+feedbackEngine = record { make = makeOf; feed = feedOf; change = changeOf; resource = resourceOf; inverse = inverseOf; read = readOf }
 
--- The handset that item i of a run gets, and what it answers to a feed.
+-- The handset that item i of a run gets, and what it answers to a feed and to a change.
 abbrev pub handsetAt : Engine → Settings → List Item → ℕ → Handset
-handsetAt e set items i = handsetAfter (e .feed) (e .make set .handset) (take i items)
+handsetAt e set items i = handsetAfter (e .feed) (e .change) (e .make set .handset) (take i items)
 
 abbrev pub fedAt : Engine → Settings → List Item → ℕ → Heard → Fed
 fedAt e set items i x = e .feed (handsetAt e set items i) x
+
+abbrev pub changedAt : Engine → Settings → List Item → ℕ → ℕ → Changed
+changedAt e set items i m = e .change (handsetAt e set items i) m
 
 -- Item i of a run is a feed that brings x.
 pub record IsFeed (items : List Item) (i : ℕ) (x : Heard) : Type 0 where
   pub inside : i < length items
   pub brings : itemAt items i ≡ feed x
+
+-- Item i of a run is a change to mode m.
+pub record IsChange (items : List Item) (i m : ℕ) : Type 0 where
+  pub inside : i < length items
+  pub changes : itemAt items i ≡ change m
 
 -- The refusal of x, brought by item i, at the run's next subframe; 0 where no cause is met. 18 looks at the scheduled blocks that
 -- the run heard before.
@@ -76,8 +88,8 @@ pub record IsSubframe (set : Settings) (items : List Item) (i s : ℕ) (x : Hear
   pub accepted : causeAt set items i x ≡ 0
   pub counted : subframeAt set items i ≡ s
 
--- The station's reading in the window of s, with the same settings and n = s mod 10; it "is told" the position of the scheduled block
--- that was sent there.
+-- The station's reading in the window of s, with these settings and n = s mod 10; it "is told" the position of the scheduled block that
+-- was sent there.
 abbrev pub readingIn : Engine → Settings → (ℕ → Send) → ℕ → ℕ → ℕ → ℕ → Reading
 readingIn e set sent s = e .read set (s % 10) (toldOf (windowAt set s) (sentAgo sent s))
 
@@ -92,7 +104,7 @@ abbrev pub SecondIn : ℕ → List Heard → ℕ → Type 0
 SecondIn c heard s =
     (d uplink i j : ℕ) × (d < s) × InWindow c uplink i s × InWindow c uplink j d × (isBlock (getD heard d Nothing) ≡ true)
 
--- What holds after a list of feeds.
+-- What holds after a list of feeds and changes of mode.
 pub record HoldsAfter (e : Engine) (set : Settings) (sent : ℕ → Send) (items : List Item) : Type 0 where
   -- "A feed is refused exactly when a cause for a feed .. is met at the run's next subframe, and 8 never is;"
   pub refusedExactly : (i : ℕ) (x : Heard) → IsFeed items i x
@@ -109,15 +121,22 @@ pub record HoldsAfter (e : Engine) (set : Settings) (sent : ℕ → Send) (items
   -- "an uplink one without a window "no window","; and one with a window "silent" where no reply is sent: SentExactly (Window.antt)
   pub noWindow : (i s : ℕ) (x : Heard) → IsSubframe set items i s x → downlink (set .config) (s % 10) ≡ false → windowAt set s ≡ []
       → fedAt e set items i x .answer ≡ answer.NoWindow
-  -- "Take any window whose uplink subframe was fed too. If 01 bundles it": mode 0, or mode 1 where M = 1
+  -- U8: "Refusals 4, 5 and 8 apply and leave the state." A change is refused exactly by 4 and 5, for the new mode with the run's other
+  -- settings, and 8 never is; it answers its number, 0 where it is not refused,
+  pub changedExactly : (i m : ℕ) → IsChange items i m → changedAt e set items i m .refusal ≡ modeRefusal (inMode set m)
+  -- and leaves the handset where it is
+  pub changeLeaves : (i m : ℕ) → IsChange items i m → (modeRefusal (inMode set m) ≡ 0 → ⊥)
+      → changedAt e set items i m .handset ≡ handsetAt e set items i
+  -- "Take any window whose uplink subframe was fed too. If 01 bundles it": mode 0, or mode 1 where M = 1; U8: "by its own mode"
   pub bundled : (i s : ℕ) (x : Heard) → IsSubframe set items i s x
-      → 0 < length (windowAt set s) → (set .mode ≡ 0) ⊎ (length (windowAt set s) ≡ 1)
-      → Bundled set (e .resource set (s % 10)) (readingIn e set sent s) (windowAt set s)
+      → 0 < length (windowAt set s) → (windowMode set items s ≡ 0) ⊎ (length (windowAt set s) ≡ 1)
+      → Bundled (settingsIn set items s) (e .resource (settingsIn set items s) (s % 10)) (readingIn e (settingsIn set items s) sent s) (windowAt set s)
       (inTime (sentAgo sent s) (heardAgo (heardInRun set items) s) (windowAt set s)) (fedAt e set items i x .answer)
   -- "If 01 multiplexes it": mode 1, and M is not 1
   pub multiplexed : (i s : ℕ) (x : Heard) → IsSubframe set items i s x
-      → 0 < length (windowAt set s) → set .mode ≡ 1 → (length (windowAt set s) ≡ 1 → ⊥)
-      → Multiplexed set (e .resource set (s % 10)) (readingIn e set sent s) (windowAt set s) (heardAgo (heardInRun set items) s)
+      → 0 < length (windowAt set s) → windowMode set items s ≡ 1 → (length (windowAt set s) ≡ 1 → ⊥)
+      → Multiplexed (settingsIn set items s) (e .resource (settingsIn set items s) (s % 10)) (readingIn e (settingsIn set items s) sent s) (windowAt set s)
+      (heardAgo (heardInRun set items) s)
       (inTime (sentAgo sent s) (heardAgo (heardInRun set items) s) (windowAt set s)) (fedAt e set items i x .answer)
 
 pub record Demand3 (e : Engine) : Type 0 where
@@ -135,6 +154,6 @@ pub record Demand3 (e : Engine) : Type 0 where
   -- "from a fresh handset": accepted settings make one
   pub made : (set : Settings) → settingsRefusal set ≡ 0 → e .make set .refusal ≡ 0
   -- "For every list of feeds from a fresh handset, refused ones included, whichever valid grants were sent by the DAI rule and
-  -- whichever of them were lost, this holds after it"
+  -- whichever of them were lost, this holds after it"; U8: changes of mode among them
   pub run : (set : Settings) → settingsRefusal set ≡ 0 → (sent : ℕ → Send) → Schedule set sent
       → (items : List Item) → BringsSent set sent items → HoldsAfter e set sent items

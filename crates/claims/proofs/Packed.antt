@@ -4,16 +4,13 @@ use Prim.Native.Nat.{ℕ, zero, suc, _+_, _*_, _/_, _%_, _^_, _<_, _≤_}
 use mathlib.Core.Bool.{Bool, true, false, cond}
 use mathlib.Core.Path.{_≡_, refl, sym, ap, _∙_}
 use native.Mathlib.Decide.{ℕ-discrete}
-use native.Mathlib.Nat.{add-zero, zero-add, add-suc, suc-add, pow-succ', div-one, div-div-eq-div-mul, not-suc-le-zero, le-of-suc-le-suc}
+use native.Mathlib.Nat.{add-zero, zero-add, add-suc, suc-add, pow-succ', div-one, not-suc-le-zero, le-of-suc-le-suc}
 use native.Mathlib.Omega.{arith}
 use lib.ListN.{length, getD, set, replicate, length-set}
 use lib.Seq.{getD-set-same, getD-set-other, ext-getD}
+use Rattle.frame.proofs.Bits.{half-bit}
 use Rattle.frame.proofs.Bools.{bit-small}
 use Rattle.claims.specs.Bits.{bitsFrom, bytesFrom}
-
--- Bit b + 1 of a number is bit b of its half.
-half-bit : (x b : ℕ) → x / 2 ^ suc b % 2 ≡ x / 2 / 2 ^ b % 2
-half-bit x b = rw (pow-succ' 2 b, ← div-div-eq-div-mul x 2 (2 ^ b))
 
 -- The weight of a bit that is not set can be added, whatever the others are.
 pub sum-below : (count x b : ℕ) → b < count → x < 2 ^ count → x / 2 ^ b % 2 ≡ 0 → x + 2 ^ b < 2 ^ count

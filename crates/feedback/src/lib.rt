@@ -2,6 +2,7 @@
 // bits wide. An answer is a struct of numbers (`numbers`): the refusal, 0 for none, and the values, which are 0 where they say nothing.
 use frame::Answered;
 use frame::Settings;
+use handset::Changed;
 use handset::Handset;
 use handset::Made;
 use heard::Grant;
@@ -27,6 +28,7 @@ ghost use Rattle.claims.specs.Bits.{bitCheckedOf, bitScratchOf};
 ghost use Rattle.claims.specs.Claims.{checkedOf, scratchOf};
 ghost use lib.ListN.{length};
 ghost use Rattle.numbers.specs.Answers.{windowAnswer, resourceAnswer, inverseAnswer, toldPosition, readingAnswer, claimsAnswer, fedAnswer, grantOf, blockOf, releaseOf, recordAnswer};
+ghost use Rattle.handset.specs.Change.{changeOf};
 ghost use Rattle.handset.specs.Feed.{feedOf};
 ghost use Rattle.handset.specs.Make.{makeOf};
 ghost use Rattle.heard.specs.declared.Heard.the-variants.{Nothing};
@@ -36,10 +38,10 @@ ghost use Rattle.spelling.specs.Writing.{writeOf, spelledInto};
 
 // The number of the structs' layout, which the name carries too: a program that was compiled for another layout does not link.
 #[no_mangle]
-pub extern "C" fn feedback_layout_3() -> u16
-    ensures { λ r. ⌜ r ≡ 3 ⌝ }
+pub extern "C" fn feedback_layout_4() -> u16
+    ensures { λ r. ⌜ r ≡ 4 ⌝ }
 {
-    3
+    4
 }
 
 #[no_mangle]
@@ -139,6 +141,13 @@ pub extern "C" fn feedback_make(settings: Settings) -> Made
     ensures { λ r. ⌜ r ≡ makeOf settings ⌝ }
 {
     handset::make(settings)
+}
+
+#[no_mangle]
+pub extern "C" fn feedback_change_mode(handset: Handset, mode: u16) -> Changed
+    ensures { λ r. ⌜ r ≡ changeOf handset mode ⌝ }
+{
+    handset::change_mode(handset, mode)
 }
 
 #[no_mangle]

@@ -2,14 +2,14 @@
 -- Assumes nothing.
 use Prim.Native.Nat.{ℕ, zero, suc, _<_, _≤_}
 use mathlib.Core.Bool.{Bool, true, false, cond, not, _&&_, _||_, false≢true}
-use mathlib.Core.Path.{_≡_, refl, sym}
+use mathlib.Core.Path.{_≡_, refl, sym, _∙_}
 use native.Mathlib.Decide.{ℕ-discrete}
 use native.Mathlib.Omega.{arith}
 use lib.Dec.{ltb, eqb}
 use lib.ListN.{length}
 use borrow.Author.Tests.{ltb-true, ltb-false, eq-eqb, ne-eqb, lt-ltb, le-ltb, eqb-false}
 use Rattle.frame.specs.declared.Settings.{Settings}
-use Rattle.frame.specs.Settings.{orElse, outside, cellRefusal, modeRefusal, blocksRefusal, hasScheduled, scheduledRefusal, laterRefusal, settingsRefusal, noWindowRefusal, windowRefusal}
+use Rattle.frame.specs.Settings.{orElse, outside, cellRefusal, modeRefusal, blocksRefusal, hasScheduled, scheduledRefusal, laterRefusal, settingsRefusal, inMode, noWindowRefusal, windowRefusal}
 use Rattle.frame.specs.Special.{lastSpecial, specialRefusal}
 use Rattle.frame.specs.Table.{windowOf}
 use Rattle.frame.proofs.Bools.{neither-test}
@@ -115,6 +115,44 @@ accepting s a =
       le-ltb 1 (s .prefix) (a .prefix),
       le-ltb (lastSpecial (s .prefix)) (s .special) (a .special),
     )
+
+-- In another mode accepted settings are refused by 4 and 5 alone; their own mode is allowed.
+pub mode-allowed : (s : Settings) → settingsRefusal s ≡ 0 → modeRefusal s ≡ 0
+unfolding settingsRefusal
+mode-allowed s good =
+    let a = neither (cellRefusal s) (orElse (modeRefusal s) (orElse (blocksRefusal s) (laterRefusal s))) good in
+    neither (modeRefusal s) (orElse (blocksRefusal s) (laterRefusal s)) (a .1) .0
+
+cell-same : (s : Settings) (m : ℕ) → cellRefusal (inMode s m) ≡ cellRefusal s
+unfolding cellRefusal
+cell-same s m = refl
+
+rest-same : (s : Settings) (m : ℕ) → orElse (blocksRefusal (inMode s m)) (laterRefusal (inMode s m)) ≡ orElse (blocksRefusal s) (laterRefusal s)
+unfolding blocksRefusal laterRefusal scheduledRefusal hasScheduled specialRefusal
+rest-same s m = refl
+
+nothing-more : (k : ℕ) → orElse k 0 ≡ k
+nothing-more zero = refl
+nothing-more (suc k) = refl
+
+pub refused-in : (s : Settings) (m : ℕ) → settingsRefusal s ≡ 0 → settingsRefusal (inMode s m) ≡ modeRefusal (inMode s m)
+unfolding settingsRefusal
+refused-in s m good =
+    let a = neither (cellRefusal s) (orElse (modeRefusal s) (orElse (blocksRefusal s) (laterRefusal s))) good in
+    let b = neither (modeRefusal s) (orElse (blocksRefusal s) (laterRefusal s)) (a .1) in
+    rw (cell-same s m, a .0, rest-same s m, b .1) (nothing-more (modeRefusal (inMode s m)))
+
+pub accepted-in : (s : Settings) (m : ℕ) → settingsRefusal s ≡ 0 → modeRefusal (inMode s m) ≡ 0 → settingsRefusal (inMode s m) ≡ 0
+accepted-in s m good allowed = refused-in s m good ∙ allowed
+
+-- Mode 0 is allowed everywhere, and no mode over 1 is.
+pub zero-allowed : (s : Settings) → modeRefusal (inMode s 0) ≡ 0
+unfolding modeRefusal
+zero-allowed s = refl
+
+pub allowed-most : (s : Settings) → modeRefusal s ≡ 0 → s .mode ≤ 1
+unfolding modeRefusal
+allowed-most s allowed = ltb-false 1 (s .mode) (unmet (ltb 1 (s .mode)) 3 (cond (eqb (s .mode) 1 && eqb (s .config) 5) 5 0) allowed .0)
 
 -- Where 1 to 7, 17 and 19 are not met, the settings are accepted and n has a window.
 pub answered : (s : Settings) (n : ℕ) → windowRefusal s n ≡ 0 → Accepted s × (0 < length (windowOf (s .config) n))

@@ -2,9 +2,11 @@ pub mod Accepted
 pub mod Answers
 pub mod Arms
 pub mod Below
+pub mod Bits
 pub mod Bools
 pub mod Causes
 pub mod Distances
+pub mod Earliest
 pub mod Hex
 pub mod Layouts
 pub mod Lists

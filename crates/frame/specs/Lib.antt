@@ -1,5 +1,6 @@
 pub mod Coded
 pub mod Distance
+pub mod Earliest
 pub mod Layout
 pub mod Once
 pub mod Order

@@ -49,6 +49,21 @@ laterRefusal s = orElse (scheduledRefusal s) (specialRefusal s)
 unfoldable pub settingsRefusal : Settings → ℕ
 settingsRefusal s = orElse (cellRefusal s) (orElse (modeRefusal s) (orElse (blocksRefusal s) (laterRefusal s)))
 
+-- The same settings in another mode: what a change of mode makes of them, and those in which one window is answered and read
+-- (document 02, U8).
+abbrev pub inMode : Settings → ℕ → Settings
+inMode s m =
+    record {
+      config = s .config;
+      nrb = s .nrb;
+      n1 = s .n1;
+      mode = m;
+      blocks = s .blocks;
+      scheduled = s .scheduled;
+      prefix = s .prefix;
+      special = s .special;
+    }
+
 -- 7: subframe over 9 or without a window, that is M = 0.
 unfoldable pub noWindowRefusal : ℕ → ℕ
 noWindowRefusal size = cond (eqb size 0) 7 0

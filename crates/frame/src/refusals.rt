@@ -4,7 +4,7 @@ use crate::Settings;
 use crate::special::special_refusal;
 use crate::table::size_of;
 ghost use mathlib.Core.Path.{_≡_};
-ghost use Rattle.frame.specs.Settings.{cellRefusal, modeRefusal, blocksRefusal, hasScheduled, scheduledRefusal, laterRefusal, settingsRefusal, windowRefusal, bundles};
+ghost use Rattle.frame.specs.Settings.{cellRefusal, modeRefusal, blocksRefusal, hasScheduled, scheduledRefusal, laterRefusal, settingsRefusal, inMode, windowRefusal, bundles};
 
 // The cell: 1 to 3.
 fn cell_refusal(s: Settings) -> u16
@@ -26,7 +26,7 @@ fn cell_refusal(s: Settings) -> u16
 }
 
 // The mode: 4 and 5.
-fn mode_refusal(s: Settings) -> u16
+pub fn mode_refusal(s: Settings) -> u16
     ensures { λ r. ⌜ r ≡ modeRefusal s ⌝ }
 {
     if 1 < s.mode {
@@ -100,6 +100,22 @@ pub fn settings_refusal(s: Settings) -> u16
         return blocks;
     }
     later_refusal(s)
+}
+
+// The same settings in another mode.
+pub fn in_mode(s: Settings, mode: u16) -> Settings
+    ensures { λ r. ⌜ r ≡ inMode s mode ⌝ }
+{
+    Settings {
+        config: s.config,
+        nrb: s.nrb,
+        n1: s.n1,
+        mode,
+        blocks: s.blocks,
+        scheduled: s.scheduled,
+        prefix: s.prefix,
+        special: s.special,
+    }
 }
 
 // The first of refusals 1 to 6, 17, 19 and 7 that settings and uplink subframe n meet; 0 if n has a window.

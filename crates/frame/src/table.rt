@@ -4,8 +4,9 @@ use crate::digits::digit_at;
 use crate::digits::packed;
 ghost use mathlib.Core.Path.{_≡_};
 ghost use lib.ListN.{length};
-ghost use Rattle.frame.specs.Coded.{layoutDigits, sizeDigits, distanceDigits, positionDigits, codedPosition, codedK, codedOrder, codedWindow};
+ghost use Rattle.frame.specs.Coded.{layoutDigits, sizeDigits, earliestDigits, distanceDigits, positionDigits, codedPosition, codedK, codedOrder, codedWindow};
 ghost use Rattle.frame.specs.Distance.{distanceOf};
+ghost use Rattle.frame.specs.Earliest.{earliestOf};
 ghost use Rattle.frame.specs.Layout.{downlink, isSpecial};
 ghost use Rattle.frame.specs.Table.{windowOf};
 
@@ -103,6 +104,22 @@ fn sizes_of(config: u16) -> u64
     }
 }
 
+// Derived from the rows: the largest k of subframes 9 to 0 of a configuration, a digit each; 0 where there is no window.
+fn earliest_digits(config: u16) -> u64
+    ensures { λ r. ⌜ r ≡ earliestDigits config ⌝ }
+{
+    match config {
+        0 => 0x4060040600,
+        1 => 0x0470004700,
+        2 => 0x0080000800,
+        3 => 0x0000056B00,
+        4 => 0x0000007C00,
+        5 => 0x0000000D00,
+        6 => 0x0770057700,
+        _ => 0,
+    }
+}
+
 // Derived from the rows: how far after subframes 9 to 0 of a configuration the uplink subframe stands that answers for each, a digit
 // each; 0 for an uplink subframe.
 fn distances_of(config: u16) -> u64
@@ -184,6 +201,16 @@ pub fn size_of(config: u16, n: u16) -> u16
         return 0;
     }
     digit_at(sizes_of(config), n)
+}
+
+// How many subframes before n the earliest one of its window is; 0 where there is no window, outside the table too.
+pub fn earliest_of(config: u16, n: u16) -> u16
+    ensures { λ r. ⌜ r ≡ earliestOf config n ⌝ }
+{
+    if 9 < n {
+        return 0;
+    }
+    digit_at(earliest_digits(config), n)
 }
 
 // How far after subframe d, of an endless run, the uplink subframe stands that answers for it; 0 where there is none.

@@ -1,3 +1,4 @@
+pub mod ModeBits
 pub mod Passing
 pub mod Refused
 pub mod Remembered

@@ -23,6 +23,7 @@ use Rattle.heard.proofs.Before.{cause-none}
 use Rattle.heard.proofs.Valid.{ValidPdcch, valid}
 use Rattle.handset.specs.declared.Handset.{Handset}
 use Rattle.handset.specs.Feed.{feedRefusal}
+use Rattle.handset.specs.Modes.{modesSound}
 use Rattle.handset.specs.Sound.{slotSound, previous, allSound, stateSound, stateRefusal}
 use Rattle.handset.specs.Stored.{Storable}
 
@@ -30,6 +31,7 @@ use Rattle.handset.specs.Stored.{Storable}
 pub record Sound (h : Handset) : Type 0 where
   pub settings : Accepted (h .settings)
   pub next : h .next ≤ 9
+  pub modes : modesSound (h .settings) (h .modes) ≡ true
   pub past : allSound (h .settings) (h .next) (h .past) ≡ true
 
 pub sound : (h : Handset) → stateRefusal h ≡ 0 → Sound h
@@ -37,11 +39,14 @@ unfolding stateRefusal stateSound
 sound h e =
     let first : Bool = eqb (settingsRefusal (h .settings)) 0 in
     let all : Bool = allSound (h .settings) (h .next) (h .past) in
-    let a = both (first && leb (h .next) 9) all (held (stateSound h) 7 0 e .0) in
-    let b = both first (leb (h .next) 9) (a .0) in
+    let modes : Bool = modesSound (h .settings) (h .modes) in
+    let a = both (first && leb (h .next) 9 && modes) all (held (stateSound h) 7 0 e .0) in
+    let d = both (first && leb (h .next) 9) modes (a .0) in
+    let b = both first (leb (h .next) 9) (d .0) in
     record {
       settings = accepted (h .settings) (eqb-true (settingsRefusal (h .settings)) 0 (b .0));
       next = leb-true (h .next) 9 (b .1);
+      modes = d .1;
       past = a .1;
     }
 

@@ -11,6 +11,7 @@ use Rattle.heard.specs.declared.Slot.{Slot}
 use Rattle.heard.specs.Memory.{none}
 use Rattle.handset.specs.declared.Handset.{Handset}
 use Rattle.handset.specs.declared.Made.{Made}
+use Rattle.handset.specs.Modes.{modesBefore}
 
 -- The slots i, i + 1, .., `count` of them; nothing heard where the list has ended.
 abbrev pub slotsFrom : ℕ → ℕ → List Slot → List Slot
@@ -21,9 +22,9 @@ slotsFrom (suc count) i l = getD l i none ∷ slotsFrom count (suc i) l
 abbrev pub memory : List Slot → List Slot
 memory l = slotsFrom 13 0 l
 
--- A fresh handset expects subframe 0 and remembers nothing heard.
+-- A fresh handset expects subframe 0 and remembers nothing heard, in the mode that it is made with.
 unfoldable pub fresh : Settings → Handset
-fresh s = record { settings = s; next = 0; past = memory [] }
+fresh s = record { settings = s; next = 0; modes = modesBefore (s .mode); past = memory [] }
 
 -- Settings with every number 0, which refusal 2 refuses: what a handset beside a refusal has, so that every feed of it answers 8
 -- (proofs/Refused.antt).

@@ -1,5 +1,6 @@
 -- Refusal 8: lent state fails 1 to 6, expects a subframe over 9, or remembers a grant failing 9 to 12 in the subframe it was fed in;
 -- "so does one that breaks a rule on settings or grants added later": 17 and 19, 20, and 18 after what it remembers from before.
+-- U8: a remembered mode that 4 or 5 would refuse breaks one too.
 -- Assumes nothing.
 use Prim.Native.Nat.{ℕ}
 use mathlib.Core.Bool.{Bool, true, cond, _&&_}
@@ -12,6 +13,7 @@ use Rattle.heard.specs.declared.Slot.{Slot}
 use Rattle.heard.specs.Heard.{causeOf}
 use Rattle.heard.specs.Memory.{heardIn, blockAgo}
 use Rattle.handset.specs.declared.Handset.{Handset}
+use Rattle.handset.specs.Modes.{modesSound}
 
 -- A remembered subframe is of a kind that there is, and what it heard is valid in subframe n after the older ones.
 unfoldable pub slotSound : Settings → ℕ → List Slot → Slot → Bool
@@ -27,7 +29,8 @@ allSound s n [] = true
 allSound s n (t ∷ ts) = slotSound s (previous n) ts t && allSound s (previous n) ts
 
 unfoldable pub stateSound : Handset → Bool
-stateSound h = eqb (settingsRefusal (h .settings)) 0 && leb (h .next) 9 && allSound (h .settings) (h .next) (h .past)
+stateSound h =
+    eqb (settingsRefusal (h .settings)) 0 && leb (h .next) 9 && modesSound (h .settings) (h .modes) && allSound (h .settings) (h .next) (h .past)
 
 unfoldable pub stateRefusal : Handset → ℕ
 stateRefusal h = cond (stateSound h) 0 8

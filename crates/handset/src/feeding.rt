@@ -1,7 +1,8 @@
-// Feeding a handset what the next subframe heard (document 01, "The running handset"; refusals 8 to 12; document 02, U1, 18, and U2,
-// 20).
+// Feeding a handset what the next subframe heard (document 01, "The running handset"; refusals 8 to 12; document 02, U1, 18, U2, 20,
+// and U8).
 use crate::Fed;
 use crate::Handset;
+use crate::modes::window_settings;
 use crate::state::state_refusal;
 use heard::Heard;
 use heard::Slot;
@@ -89,7 +90,7 @@ fn shifted(newest: Slot, p: [Slot; 13]) -> [Slot; 13]
     ]
 }
 
-// The handset with the subframe remembered; after 9 comes 0.
+// The handset with the subframe remembered, in the mode that stands; after 9 comes 0.
 fn push(h: Handset, x: Heard) -> Handset
     requires { ⌜ feedRefusal h x ≡ 0 ⌝ }
     ensures { λ r. ⌜ r ≡ pushed h x ⌝ }
@@ -97,9 +98,12 @@ fn push(h: Handset, x: Heard) -> Handset
     let settings = h.settings;
     let last = h.past;
     let past = shifted(slot_of(x), last);
+    let next = (h.next + 1) % 10;
+    let modes = h.modes % 4096 * 2 + settings.mode;
     Handset {
         settings,
-        next: (h.next + 1) % 10,
+        next,
+        modes,
         past,
     }
 }
@@ -113,7 +117,7 @@ fn next_answer(h: Handset) -> Answer
         return Answer::Taken;
     }
     let past = h.past;
-    reply::answer_in(s, h.next, past)
+    reply::answer_in(window_settings(h), h.next, past)
 }
 
 // 8, then 9, 20, 10 to 12 and 18 for what is brought in the subframe that is expected; 0 if the feed is not refused.

@@ -1,12 +1,13 @@
 // Making a handset from settings (document 01, "The running handset"; refusals 1 to 6, 17 and 19).
 use crate::Handset;
 use crate::Made;
+use crate::modes::modes_before;
 use frame::Settings;
 use heard::Slot;
 ghost use mathlib.Core.Path.{_≡_};
 ghost use Rattle.handset.specs.Make.{fresh, makeOf};
 
-// A handset that expects subframe 0 and remembers nothing heard.
+// A handset that expects subframe 0 and remembers nothing heard, in the mode that it is made with.
 fn fresh_of(settings: Settings) -> Handset
     ensures { λ r. ⌜ r ≡ fresh settings ⌝ }
 {
@@ -17,9 +18,11 @@ fn fresh_of(settings: Settings) -> Handset
         results: 0,
     };
     let past = [none; 13];
+    let modes = modes_before(settings.mode);
     Handset {
         settings,
         next: 0,
+        modes,
         past,
     }
 }

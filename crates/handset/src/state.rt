@@ -1,5 +1,7 @@
-// Refusal 8: what a lent state must be (document 01, "Causes and their numbers"; document 02, U1 and U2).
+// Refusal 8: what a lent state must be (document 01, "Causes and their numbers"; document 02, U1, U2 and
+// U8).
 use crate::Handset;
+use crate::modes::modes_sound;
 use frame::Settings;
 use heard::Slot;
 use resource::Cce;
@@ -61,7 +63,8 @@ fn all_sound(s: Settings, next: u16, past: [Slot; 13]) -> bool
     valid
 }
 
-// 8 where the state fails 1 to 6, 17 or 19, expects a subframe over 9, or remembers what fails 9 to 12, 18 or 20; else 0.
+// 8 where the state fails 1 to 6, 17 or 19, expects a subframe over 9, or remembers a mode that fails 5 or what fails 9 to 12, 18 or
+// 20; else 0.
 pub fn state_refusal(h: Handset) -> u16
     ensures { λ r. ⌜ r ≡ stateRefusal h ⌝ }
 {
@@ -73,7 +76,7 @@ pub fn state_refusal(h: Handset) -> u16
         return 8;
     }
     let past = h.past;
-    if all_sound(s, h.next, past) {
+    if modes_sound(s, h.modes) & all_sound(s, h.next, past) {
         return 0;
     }
     8

@@ -13,7 +13,7 @@ use Rattle.heard.specs.declared.Heard.{Heard}
 use Rattle.heard.specs.Memory.{viewAgo}
 use Rattle.handset.specs.declared.Fed.{Fed}
 use Rattle.handset.specs.declared.Handset.{Handset}
-use Rattle.handset.specs.Feed.{nextAnswer, pushed, feedRefusal, fedAs, feedOf}
+use Rattle.handset.specs.Feed.{windowSettings, nextAnswer, pushed, feedRefusal, fedAs, feedOf}
 use Rattle.handset.proofs.Told.{answer-told}
 use Rattle.numbers.specs.Answers.{fedAnswer}
 use Rattle.numbers.specs.Back.{fedIn, KindFor}
@@ -40,7 +40,7 @@ told-kept (answer.Refused k) t h = absurd t
 
 fed-as-kept : (k : ℕ) (h : Handset) (x : Heard) → FedKept (fedAs k h x)
 unfolding nextAnswer
-fed-as-kept zero h x = told-kept (nextAnswer h) (answer-told (h .settings) (h .next) (viewAgo (h .past))) (pushed h x)
+fed-as-kept zero h x = told-kept (nextAnswer h) (answer-told (windowSettings h) (h .next) (viewAgo (h .past))) (pushed h x)
 fed-as-kept (suc k) h x = (refl, (sym (ap not (eqb·suc-zero k)), refl))
 
 pub feed-kept : (h : Handset) (x : Heard) → FedKept (feedOf h x)

@@ -22,7 +22,8 @@ use Rattle.reply.specs.declared.Answer.{Answer}
 use Rattle.reply.specs.declared.Answer.the-variants as answer
 use Rattle.handset.specs.declared.Fed.{Fed}
 use Rattle.handset.specs.declared.Handset.{Handset}
-use Rattle.handset.specs.Feed.{nextAnswer, feedOf}
+use Rattle.handset.specs.Feed.{windowSettings, nextAnswer, feedOf}
+use Rattle.handset.specs.Change.{changeOf}
 use Rattle.handset.specs.Make.{makeOf}
 use Rattle.handset.proofs.Told.{never-refused}
 use Rattle.reader.specs.Record.{broughtAt}
@@ -35,7 +36,7 @@ use Rattle.agreement.specs.Demand3.{causeAt}
 use Rattle.agreement.specs.Run.{Item, feed, itemAt, handsetAfter, causeAfter, heardFrom, heardInRun}
 use Rattle.agreement.proofs.Demand3.{demand3}
 use Rattle.agreement.proofs.Feeds.{causeIn, Past, cause-past}
-use Rattle.agreement.proofs.Memory.{ValidPast, after, accepted-after, refused-after, made-fresh}
+use Rattle.agreement.proofs.Memory.{ValidPast, unchanged, accepted-unchanged, refused-unchanged, made-fresh}
 use Rattle.recorded.specs.Run.{feedsFrom, runOf, answerTo, bytesFrom, IsRun}
 
 not-refused : (a : Answer) → ((k : ℕ) → a ≡ answer.Refused k → ⊥) → refusalIn a ≡ 0
@@ -48,35 +49,35 @@ not-refused (answer.Refused k) h = absurd (h k refl)
 -- A feed that is not refused has another answer.
 next-answered : (h : Handset) → refusalIn (nextAnswer h) ≡ 0
 unfolding nextAnswer
-next-answered h = not-refused _ (never-refused (h .settings) (h .next) (viewAgo (h .past)))
+next-answered h = not-refused _ (never-refused (windowSettings h) (h .next) (viewAgo (h .past)))
 
 module _ (set : Settings) (good : settingsRefusal set ≡ 0) where
   -- The refusal of a feed after a history is the history's cause.
-  refusal-after : (l : List Heard) → ValidPast set l → (x : Heard) → refusalIn (feedOf (after set l) x .answer) ≡ causeAfter set l x
+  refusal-after : (l : List Heard) → ValidPast set l → (x : Heard) → refusalIn (feedOf (unchanged set l) x .answer) ≡ causeAfter set l x
   refusal-after l valid x = go (causeAfter set l x) refl
     where
-      go : (k : ℕ) → causeAfter set l x ≡ k → refusalIn (feedOf (after set l) x .answer) ≡ k
-      go zero e = rw (accepted-after set good l valid x e) (next-answered (after set l))
-      go (suc k) e = rw (refused-after set good l valid x (λ z. omega arith)) e
+      go : (k : ℕ) → causeAfter set l x ≡ k → refusalIn (feedOf (unchanged set l) x .answer) ≡ k
+      go zero e = rw (accepted-unchanged set good l valid x e) (next-answered (unchanged set l))
+      go (suc k) e = rw (refused-unchanged set good l valid x (λ z. omega arith)) e
 
   -- A record after a history: taken up, it is remembered and the next one comes; refused, it is the last.
   module _ (x : Heard) (xs l : List Heard) (valid : ValidPast set l) where
     module _ (none : causeAfter set l x ≡ 0) where
-      feeds-on : feedsFrom (after set l) (x ∷ xs) ≡ feed x ∷ feedsFrom (after set (x ∷ l)) xs
+      feeds-on : feedsFrom (unchanged set l) (x ∷ xs) ≡ feed x ∷ feedsFrom (unchanged set (x ∷ l)) xs
       unfolding feedsFrom
-      feeds-on = rw (refusal-after l valid x, none, accepted-after set good l valid x none)
+      feeds-on = rw (refusal-after l valid x, none, accepted-unchanged set good l valid x none)
 
-      plays-on : played (after set l) (length l) (x ∷ xs)
-          ≡ behind (bytesOf (length l % 10) (feedOf (after set l) x .answer)) (played (after set (x ∷ l)) (suc (length l)) xs)
+      plays-on : played (unchanged set l) (length l) (x ∷ xs)
+          ≡ behind (bytesOf (length l % 10) (feedOf (unchanged set l) x .answer)) (played (unchanged set (x ∷ l)) (suc (length l)) xs)
       unfolding played
-      plays-on = rw (refusal-after l valid x, none, ap (λ (f : Fed). f .handset) (accepted-after set good l valid x none))
+      plays-on = rw (refusal-after l valid x, none, ap (λ (f : Fed). f .handset) (accepted-unchanged set good l valid x none))
 
     module _ (k : ℕ) (some : causeAfter set l x ≡ suc k) where
-      feeds-last : feedsFrom (after set l) (x ∷ xs) ≡ feed x ∷ []
+      feeds-last : feedsFrom (unchanged set l) (x ∷ xs) ≡ feed x ∷ []
       unfolding feedsFrom
       feeds-last = rw (refusal-after l valid x, some)
 
-      plays-last : played (after set l) (length l) (x ∷ xs) ≡ record { refusal = suc k; number = length l; bytes = [] }
+      plays-last : played (unchanged set l) (length l) (x ∷ xs) ≡ record { refusal = suc k; number = length l; bytes = [] }
       unfolding played
       plays-last = rw (refusal-after l valid x, some)
 
@@ -89,38 +90,38 @@ module _ (set : Settings) (good : settingsRefusal set ≡ 0) where
   plays-none h i = refl
 
   -- How many feeds are made.
-  feeds-most : (xs l : List Heard) → ValidPast set l → length (feedsFrom (after set l) xs) ≤ length xs
-  feeds-most [] l valid = rw (feeds-none (after set l)) (omega arith)
+  feeds-most : (xs l : List Heard) → ValidPast set l → length (feedsFrom (unchanged set l) xs) ≤ length xs
+  feeds-most [] l valid = rw (feeds-none (unchanged set l)) (omega arith)
   feeds-most (x ∷ xs) l valid = go (causeAfter set l x) refl (feeds-most xs (x ∷ l))
     where
-      go : (k : ℕ) → causeAfter set l x ≡ k → (ValidPast set (x ∷ l) → length (feedsFrom (after set (x ∷ l)) xs) ≤ length xs)
-          → length (feedsFrom (after set l) (x ∷ xs)) ≤ suc (length xs)
+      go : (k : ℕ) → causeAfter set l x ≡ k → (ValidPast set (x ∷ l) → length (feedsFrom (unchanged set (x ∷ l)) xs) ≤ length xs)
+          → length (feedsFrom (unchanged set l) (x ∷ xs)) ≤ suc (length xs)
       go zero e next = rw (feeds-on x xs l valid e) (omega (arith, next (e, valid)))
       go (suc k) e next = rw (feeds-last x xs l valid k e) (omega arith)
 
   -- Without a refusal all are made; with one, those up to it.
-  feeds-whole : (xs l : List Heard) → ValidPast set l → played (after set l) (length l) xs .refusal ≡ 0
-      → length (feedsFrom (after set l) xs) ≡ length xs
-  feeds-whole [] l valid none = rw (feeds-none (after set l))
+  feeds-whole : (xs l : List Heard) → ValidPast set l → played (unchanged set l) (length l) xs .refusal ≡ 0
+      → length (feedsFrom (unchanged set l) xs) ≡ length xs
+  feeds-whole [] l valid none = rw (feeds-none (unchanged set l))
   feeds-whole (x ∷ xs) l valid none = go (causeAfter set l x) refl none (feeds-whole xs (x ∷ l))
     where
-      go : (k : ℕ) → causeAfter set l x ≡ k → played (after set l) (length l) (x ∷ xs) .refusal ≡ 0
-          → (ValidPast set (x ∷ l) → played (after set (x ∷ l)) (suc (length l)) xs .refusal ≡ 0 → length (feedsFrom (after set (x ∷ l)) xs) ≡ length xs)
-          → length (feedsFrom (after set l) (x ∷ xs)) ≡ suc (length xs)
+      go : (k : ℕ) → causeAfter set l x ≡ k → played (unchanged set l) (length l) (x ∷ xs) .refusal ≡ 0
+          → (ValidPast set (x ∷ l) → played (unchanged set (x ∷ l)) (suc (length l)) xs .refusal ≡ 0 → length (feedsFrom (unchanged set (x ∷ l)) xs) ≡ length xs)
+          → length (feedsFrom (unchanged set l) (x ∷ xs)) ≡ suc (length xs)
       go zero e none next = rw (feeds-on x xs l valid e) (ap suc (next (e, valid) (rw (plays-on x xs l valid e) at none)))
       go (suc k) e none next =
           let is : suc k ≡ 0 = rw (plays-last x xs l valid k e) at none in
           absurd (omega arith)
 
-  feeds-stopped : (xs l : List Heard) → ValidPast set l → (played (after set l) (length l) xs .refusal ≡ 0 → ⊥)
-      → length l + length (feedsFrom (after set l) xs) ≡ suc (played (after set l) (length l) xs .number)
-  feeds-stopped [] l valid some = absurd (some (rw (plays-none (after set l) (length l))))
+  feeds-stopped : (xs l : List Heard) → ValidPast set l → (played (unchanged set l) (length l) xs .refusal ≡ 0 → ⊥)
+      → length l + length (feedsFrom (unchanged set l) xs) ≡ suc (played (unchanged set l) (length l) xs .number)
+  feeds-stopped [] l valid some = absurd (some (rw (plays-none (unchanged set l) (length l))))
   feeds-stopped (x ∷ xs) l valid some = go (causeAfter set l x) refl some (feeds-stopped xs (x ∷ l))
     where
-      go : (k : ℕ) → causeAfter set l x ≡ k → (played (after set l) (length l) (x ∷ xs) .refusal ≡ 0 → ⊥)
-          → (ValidPast set (x ∷ l) → (played (after set (x ∷ l)) (suc (length l)) xs .refusal ≡ 0 → ⊥)
-          → suc (length l) + length (feedsFrom (after set (x ∷ l)) xs) ≡ suc (played (after set (x ∷ l)) (suc (length l)) xs .number))
-          → length l + length (feedsFrom (after set l) (x ∷ xs)) ≡ suc (played (after set l) (length l) (x ∷ xs) .number)
+      go : (k : ℕ) → causeAfter set l x ≡ k → (played (unchanged set l) (length l) (x ∷ xs) .refusal ≡ 0 → ⊥)
+          → (ValidPast set (x ∷ l) → (played (unchanged set (x ∷ l)) (suc (length l)) xs .refusal ≡ 0 → ⊥)
+          → suc (length l) + length (feedsFrom (unchanged set (x ∷ l)) xs) ≡ suc (played (unchanged set (x ∷ l)) (suc (length l)) xs .number))
+          → length l + length (feedsFrom (unchanged set l) (x ∷ xs)) ≡ suc (played (unchanged set l) (length l) (x ∷ xs) .number)
       go zero e some next =
           rw (feeds-on x xs l valid e, plays-on x xs l valid e)
           (omega (arith, next (e, valid) (λ z. some (rw (plays-on x xs l valid e) z))))
@@ -141,60 +142,60 @@ module _ (set : Settings) (good : settingsRefusal set ≡ 0) where
 
   -- What is printed is what the feeds answer, one after the other.
   bytes-along : (xs l : List Heard) → ValidPast set l → (answers : ℕ → Answer)
-      → ((i : ℕ) → i < length (feedsFrom (after set l) xs)
-      → answers (length l + i) ≡ feedOf (handsetAfter feedOf (after set l) (take i (feedsFrom (after set l) xs))) (getD xs i Nothing) .answer)
-      → played (after set l) (length l) xs .bytes ≡ bytesFrom answers (length l) (length (feedsFrom (after set l) xs))
-  bytes-along [] l valid answers each = rw (plays-none (after set l) (length l), feeds-none (after set l))
+      → ((i : ℕ) → i < length (feedsFrom (unchanged set l) xs)
+      → answers (length l + i) ≡ feedOf (handsetAfter feedOf changeOf (unchanged set l) (take i (feedsFrom (unchanged set l) xs))) (getD xs i Nothing) .answer)
+      → played (unchanged set l) (length l) xs .bytes ≡ bytesFrom answers (length l) (length (feedsFrom (unchanged set l) xs))
+  bytes-along [] l valid answers each = rw (plays-none (unchanged set l) (length l), feeds-none (unchanged set l))
   bytes-along (x ∷ xs) l valid answers each = go (causeAfter set l x) refl (bytes-along xs (x ∷ l))
     where
       go : (k : ℕ) → causeAfter set l x ≡ k
           → (ValidPast set (x ∷ l) → (answers : ℕ → Answer)
-          → ((i : ℕ) → i < length (feedsFrom (after set (x ∷ l)) xs)
-          → answers (suc (length l) + i) ≡ feedOf (handsetAfter feedOf (after set (x ∷ l)) (take i (feedsFrom (after set (x ∷ l)) xs))) (getD xs i Nothing) .answer)
-          → played (after set (x ∷ l)) (suc (length l)) xs .bytes ≡ bytesFrom answers (suc (length l)) (length (feedsFrom (after set (x ∷ l)) xs)))
-          → played (after set l) (length l) (x ∷ xs) .bytes ≡ bytesFrom answers (length l) (length (feedsFrom (after set l) (x ∷ xs)))
+          → ((i : ℕ) → i < length (feedsFrom (unchanged set (x ∷ l)) xs)
+          → answers (suc (length l) + i) ≡ feedOf (handsetAfter feedOf changeOf (unchanged set (x ∷ l)) (take i (feedsFrom (unchanged set (x ∷ l)) xs))) (getD xs i Nothing) .answer)
+          → played (unchanged set (x ∷ l)) (suc (length l)) xs .bytes ≡ bytesFrom answers (suc (length l)) (length (feedsFrom (unchanged set (x ∷ l)) xs)))
+          → played (unchanged set l) (length l) (x ∷ xs) .bytes ≡ bytesFrom answers (length l) (length (feedsFrom (unchanged set l) (x ∷ xs)))
       go zero e next =
           let each′ = rw (feeds-on x xs l valid e) at each in
-          let here : answers (length l) ≡ feedOf (after set l) x .answer = ap answers (sym (add-zero (length l))) ∙ each′ 0 (omega arith) in
+          let here : answers (length l) ≡ feedOf (unchanged set l) x .answer = ap answers (sym (add-zero (length l))) ∙ each′ 0 (omega arith) in
           let later = next (e, valid) answers
           (λ i h. ap answers (suc-add (length l) i ∙ sym (add-suc (length l) i))
           ∙ each′ (suc i) (suc-le-suc h)
-          ∙ ap (λ (f : Fed). feedOf (handsetAfter feedOf (f .handset) (take i (feedsFrom (after set (x ∷ l)) xs))) (getD xs i Nothing) .answer) (accepted-after set good l valid x e)) in
+          ∙ ap (λ (f : Fed). feedOf (handsetAfter feedOf changeOf (f .handset) (take i (feedsFrom (unchanged set (x ∷ l)) xs))) (getD xs i Nothing) .answer) (accepted-unchanged set good l valid x e)) in
           rw (plays-on x xs l valid e, feeds-on x xs l valid e, here, later)
       go (suc k) e next =
           let each′ = rw (feeds-last x xs l valid k e) at each in
-          let here : answers (length l) ≡ feedOf (after set l) x .answer = ap answers (sym (add-zero (length l))) ∙ each′ 0 (omega arith) in
-          rw (plays-last x xs l valid k e, feeds-last x xs l valid k e, here, refused-after set good l valid x (λ z. omega arith))
+          let here : answers (length l) ≡ feedOf (unchanged set l) x .answer = ap answers (sym (add-zero (length l))) ∙ each′ 0 (omega arith) in
+          rw (plays-last x xs l valid k e, feeds-last x xs l valid k e, here, refused-unchanged set good l valid x (λ z. omega arith))
 
   -- The window of a subframe that is taken up stands behind those of the subframes before it.
   window-at : (xs l : List Heard) → ValidPast set l → (answers : ℕ → Answer)
-      → ((i : ℕ) → i < length (feedsFrom (after set l) xs)
-      → answers (length l + i) ≡ feedOf (handsetAfter feedOf (after set l) (take i (feedsFrom (after set l) xs))) (getD xs i Nothing) .answer)
-      → (j : ℕ) → j < length (feedsFrom (after set l) xs) → refusalIn (answers (length l + j)) ≡ 0 → hasWindow (set .config) ((length l + j) % 10) ≡ true
-      → (take 8 (drop (8 * windowsBefore (set .config) (length l + j) - 8 * windowsBefore (set .config) (length l)) (played (after set l) (length l) xs .bytes))
+      → ((i : ℕ) → i < length (feedsFrom (unchanged set l) xs)
+      → answers (length l + i) ≡ feedOf (handsetAfter feedOf changeOf (unchanged set l) (take i (feedsFrom (unchanged set l) xs))) (getD xs i Nothing) .answer)
+      → (j : ℕ) → j < length (feedsFrom (unchanged set l) xs) → refusalIn (answers (length l + j)) ≡ 0 → hasWindow (set .config) ((length l + j) % 10) ≡ true
+      → (take 8 (drop (8 * windowsBefore (set .config) (length l + j) - 8 * windowsBefore (set .config) (length l)) (played (unchanged set l) (length l) xs .bytes))
       ≡ bytesOf ((length l + j) % 10) (answers (length l + j)))
       × (length (bytesOf ((length l + j) % 10) (answers (length l + j))) ≡ 8)
-  window-at [] l valid answers each j h none has = absurd (not-suc-le-zero (rw (feeds-none (after set l)) at h))
+  window-at [] l valid answers each j h none has = absurd (not-suc-le-zero (rw (feeds-none (unchanged set l)) at h))
   window-at (x ∷ xs) l valid answers each j h none has = go (causeAfter set l x) refl j h none has (window-at xs (x ∷ l))
     where
-      go : (k : ℕ) → causeAfter set l x ≡ k → (j : ℕ) → j < length (feedsFrom (after set l) (x ∷ xs)) → refusalIn (answers (length l + j)) ≡ 0
+      go : (k : ℕ) → causeAfter set l x ≡ k → (j : ℕ) → j < length (feedsFrom (unchanged set l) (x ∷ xs)) → refusalIn (answers (length l + j)) ≡ 0
           → hasWindow (set .config) ((length l + j) % 10) ≡ true
           → (ValidPast set (x ∷ l) → (answers : ℕ → Answer)
-          → ((i : ℕ) → i < length (feedsFrom (after set (x ∷ l)) xs)
-          → answers (suc (length l) + i) ≡ feedOf (handsetAfter feedOf (after set (x ∷ l)) (take i (feedsFrom (after set (x ∷ l)) xs))) (getD xs i Nothing) .answer)
-          → (j : ℕ) → j < length (feedsFrom (after set (x ∷ l)) xs) → refusalIn (answers (suc (length l) + j)) ≡ 0 → hasWindow (set .config) ((suc (length l) + j) % 10) ≡ true
-          → (take 8 (drop (8 * windowsBefore (set .config) (suc (length l) + j) - 8 * windowsBefore (set .config) (suc (length l))) (played (after set (x ∷ l)) (suc (length l)) xs .bytes))
+          → ((i : ℕ) → i < length (feedsFrom (unchanged set (x ∷ l)) xs)
+          → answers (suc (length l) + i) ≡ feedOf (handsetAfter feedOf changeOf (unchanged set (x ∷ l)) (take i (feedsFrom (unchanged set (x ∷ l)) xs))) (getD xs i Nothing) .answer)
+          → (j : ℕ) → j < length (feedsFrom (unchanged set (x ∷ l)) xs) → refusalIn (answers (suc (length l) + j)) ≡ 0 → hasWindow (set .config) ((suc (length l) + j) % 10) ≡ true
+          → (take 8 (drop (8 * windowsBefore (set .config) (suc (length l) + j) - 8 * windowsBefore (set .config) (suc (length l))) (played (unchanged set (x ∷ l)) (suc (length l)) xs .bytes))
           ≡ bytesOf ((suc (length l) + j) % 10) (answers (suc (length l) + j)))
           × (length (bytesOf ((suc (length l) + j) % 10) (answers (suc (length l) + j))) ≡ 8))
-          → (take 8 (drop (8 * windowsBefore (set .config) (length l + j) - 8 * windowsBefore (set .config) (length l)) (played (after set l) (length l) (x ∷ xs) .bytes))
+          → (take 8 (drop (8 * windowsBefore (set .config) (length l + j) - 8 * windowsBefore (set .config) (length l)) (played (unchanged set l) (length l) (x ∷ xs) .bytes))
           ≡ bytesOf ((length l + j) % 10) (answers (length l + j)))
           × (length (bytesOf ((length l + j) % 10) (answers (length l + j))) ≡ 8)
       go zero e zero h none has next =
           let each′ = rw (feeds-on x xs l valid e) at each in
-          let here : answers (length l) ≡ feedOf (after set l) x .answer = ap answers (sym (add-zero (length l))) ∙ each′ 0 (omega arith) in
+          let here : answers (length l) ≡ feedOf (unchanged set l) x .answer = ap answers (sym (add-zero (length l))) ∙ each′ 0 (omega arith) in
           let has′ : hasWindow (set .config) (length l % 10) ≡ true = rw (add-zero (length l)) at has in
-          let t = taken-up (after set l) x (refusal-after l valid x ∙ e) in
-          let new : List ℕ = bytesOf (length l % 10) (feedOf (after set l) x .answer) in
+          let t = taken-up (unchanged set l) x (refusal-after l valid x ∙ e) in
+          let new : List ℕ = bytesOf (length l % 10) (feedOf (unchanged set l) x .answer) in
           let size : length new ≡ 8 = rw has′ at (t .gives .size) in
           let none′ : 8 * windowsBefore (set .config) (length l) - 8 * windowsBefore (set .config) (length l) ≡ 0 = omega arith in
           rw (add-zero (length l), none′, plays-on x xs l valid e, here) (take-at new _ 8 size, size)
@@ -204,14 +205,14 @@ module _ (set : Settings) (good : settingsRefusal set ≡ 0) where
           let q = next (e, valid) answers
           (λ i h. ap answers (suc-add (length l) i ∙ sym (add-suc (length l) i))
           ∙ each′ (suc i) (suc-le-suc h)
-          ∙ ap (λ (f : Fed). feedOf (handsetAfter feedOf (f .handset) (take i (feedsFrom (after set (x ∷ l)) xs))) (getD xs i Nothing) .answer) (accepted-after set good l valid x e))
+          ∙ ap (λ (f : Fed). feedOf (handsetAfter feedOf changeOf (f .handset) (take i (feedsFrom (unchanged set (x ∷ l)) xs))) (getD xs i Nothing) .answer) (accepted-unchanged set good l valid x e))
           j (le-of-suc-le-suc (rw (feeds-on x xs l valid e) at h)) (rw s at none) (rw s at has) in
-          let new : List ℕ = bytesOf (length l % 10) (feedOf (after set l) x .answer) in
-          let size = grows (after set l) x (taken-up (after set l) x (refusal-after l valid x ∙ e)) (length l) refl in
+          let new : List ℕ = bytesOf (length l % 10) (feedOf (unchanged set l) x .answer) in
+          let size = grows (unchanged set l) x (taken-up (unchanged set l) x (refusal-after l valid x ∙ e)) (length l) refl in
           let rise = windows-rise (set .config) (suc (length l)) j in
           let d : 8 * windowsBefore (set .config) (suc (length l) + j) - 8 * windowsBefore (set .config) (length l)
           ≡ length new + (8 * windowsBefore (set .config) (suc (length l) + j) - 8 * windowsBefore (set .config) (suc (length l))) = omega (arith, size, rise) in
-          rw (s, plays-on x xs l valid e, d, drop-append-add new (played (after set (x ∷ l)) (suc (length l)) xs .bytes) _) q
+          rw (s, plays-on x xs l valid e, d, drop-append-add new (played (unchanged set (x ∷ l)) (suc (length l)) xs .bytes) _) q
       go (suc k) e zero h none has next =
           let z : suc k ≡ 0 = sym e ∙ sym (refusal-after l valid x) ∙ sym (ap refusalIn (each 0 h)) ∙ none in
           absurd (omega arith)
@@ -227,12 +228,12 @@ module _ (set : Settings) (good : settingsRefusal set ≡ 0) where
       item : itemAt items i ≡ feed (getD xs i Nothing)
       count : length (heardFrom set l (take i items)) ≡ i
       cause : causeIn set heard (length l + i) (getD xs i Nothing) ≡ cond (eqb (length l + i) (p .number)) (p .refusal) 0
-      refused : refusalIn (feedOf (handsetAfter feedOf (after set l) (take i items)) (getD xs i Nothing) .answer) ≡ causeIn set heard (length l + i) (getD xs i Nothing)
+      refused : refusalIn (feedOf (handsetAfter feedOf changeOf (unchanged set l) (take i items)) (getD xs i Nothing) .answer) ≡ causeIn set heard (length l + i) (getD xs i Nothing)
 
-    each : (xs l : List Heard) → ValidPast set l → Past heard l → Rest l (feedsFrom (after set l) xs)
-        → (i : ℕ) → i < length (feedsFrom (after set l) xs)
-        → At l xs (feedsFrom (after set l) xs) (played (after set l) (length l) xs) i
-    each [] l valid past rest i h = absurd (not-suc-le-zero (rw (feeds-none (after set l)) at h))
+    each : (xs l : List Heard) → ValidPast set l → Past Nothing heard l → Rest l (feedsFrom (unchanged set l) xs)
+        → (i : ℕ) → i < length (feedsFrom (unchanged set l) xs)
+        → At l xs (feedsFrom (unchanged set l) xs) (played (unchanged set l) (length l) xs) i
+    each [] l valid past rest i h = absurd (not-suc-le-zero (rw (feeds-none (unchanged set l)) at h))
     each (x ∷ xs) l valid past rest i h = go (causeAfter set l x) refl i h (each xs (x ∷ l))
       where
         here : causeIn set heard (length l + 0) x ≡ causeAfter set l x
@@ -247,18 +248,18 @@ module _ (set : Settings) (good : settingsRefusal set ≡ 0) where
             same false = refl
         later p (inr more) = rw (ne-eqb (length l + 0) (p .number) (λ z. omega arith))
 
-        go : (k : ℕ) → causeAfter set l x ≡ k → (i : ℕ) → i < length (feedsFrom (after set l) (x ∷ xs))
-            → (ValidPast set (x ∷ l) → Past heard (x ∷ l) → Rest (x ∷ l) (feedsFrom (after set (x ∷ l)) xs)
-            → (i : ℕ) → i < length (feedsFrom (after set (x ∷ l)) xs)
-            → At (x ∷ l) xs (feedsFrom (after set (x ∷ l)) xs) (played (after set (x ∷ l)) (suc (length l)) xs) i)
-            → At l (x ∷ xs) (feedsFrom (after set l) (x ∷ xs)) (played (after set l) (length l) (x ∷ xs)) i
+        go : (k : ℕ) → causeAfter set l x ≡ k → (i : ℕ) → i < length (feedsFrom (unchanged set l) (x ∷ xs))
+            → (ValidPast set (x ∷ l) → Past Nothing heard (x ∷ l) → Rest (x ∷ l) (feedsFrom (unchanged set (x ∷ l)) xs)
+            → (i : ℕ) → i < length (feedsFrom (unchanged set (x ∷ l)) xs)
+            → At (x ∷ l) xs (feedsFrom (unchanged set (x ∷ l)) xs) (played (unchanged set (x ∷ l)) (suc (length l)) xs) i)
+            → At l (x ∷ xs) (feedsFrom (unchanged set l) (x ∷ xs)) (played (unchanged set l) (length l) (x ∷ xs)) i
         go zero e zero h next =
-            let none = later (played (after set (x ∷ l)) (suc (length l)) xs) (number-later (after set (x ∷ l)) (suc (length l)) xs) in
+            let none = later (played (unchanged set (x ∷ l)) (suc (length l)) xs) (number-later (unchanged set (x ∷ l)) (suc (length l)) xs) in
             rw (feeds-on x xs l valid e, plays-on x xs l valid e) (record { item = refl; count = refl; cause = here ∙ e ∙ sym none; refused = refusal-after l valid x ∙ sym here })
         go zero e (suc i) h next =
             let rest′ = rw (feeds-on x xs l valid e, eq-eqb (causeAfter set l x) 0 e) at rest in
             let now : getD heard (length l) Nothing ≡ x = ap (λ (s : ℕ). getD heard s Nothing) (sym (add-zero (length l))) ∙ rest′ 0 in
-            let more : Rest (x ∷ l) (feedsFrom (after set (x ∷ l)) xs) = λ j.
+            let more : Rest (x ∷ l) (feedsFrom (unchanged set (x ∷ l)) xs) = λ j.
             ap (λ (s : ℕ). getD heard s Nothing) (suc-add (length l) j ∙ sym (add-suc (length l) j)) ∙ rest′ (suc j) in
             let q = next (e, valid) (now, past) more i (le-of-suc-le-suc (rw (feeds-on x xs l valid e) at h)) in
             let s : length l + suc i ≡ suc (length l) + i = omega arith in
@@ -268,7 +269,7 @@ module _ (set : Settings) (good : settingsRefusal set ≡ 0) where
               count = rw (eq-eqb (causeAfter set l x) 0 e) (ap suc (q .count));
               cause = rw s (q .cause);
               refused = rw s
-                  (ap (λ (f : Fed). refusalIn (feedOf (handsetAfter feedOf (f .handset) (take i (feedsFrom (after set (x ∷ l)) xs))) (getD xs i Nothing) .answer)) (accepted-after set good l valid x e)
+                  (ap (λ (f : Fed). refusalIn (feedOf (handsetAfter feedOf changeOf (f .handset) (take i (feedsFrom (unchanged set (x ∷ l)) xs))) (getD xs i Nothing) .answer)) (accepted-unchanged set good l valid x e)
                   ∙ q .refused);
             })
         go (suc k) e zero h next =
@@ -277,7 +278,7 @@ module _ (set : Settings) (good : settingsRefusal set ≡ 0) where
         go (suc k) e (suc i) h next = absurd (omega (arith, rw (feeds-last x xs l valid k e) at h))
 
 answer-with : (h h′ : Handset) (items items′ : List Item) (x x′ : Heard) (i : ℕ) → h ≡ h′ → items ≡ items′ → x ≡ x′
-    → feedOf (handsetAfter feedOf h (take i items)) x .answer ≡ feedOf (handsetAfter feedOf h′ (take i items′)) x′ .answer
+    → feedOf (handsetAfter feedOf changeOf h (take i items)) x .answer ≡ feedOf (handsetAfter feedOf changeOf h′ (take i items′)) x′ .answer
 answer-with h h′ items items′ x x′ i e f g = cc
 
 -- The feeds of a replay are a run of demand 3, for any bytes whose settings are accepted.
@@ -285,14 +286,14 @@ module _ (l : List ℕ) (good : settingsRefusal (settingsOf l) ≡ 0) where
   abbrev set : Settings
   set = settingsOf l
 
-  fresh-start : makeOf set .handset ≡ after set []
+  fresh-start : makeOf set .handset ≡ unchanged set []
   fresh-start = made-fresh set good
 
-  run-is : runOf l ≡ feedsFrom (after set []) (broughtIn l)
+  run-is : runOf l ≡ feedsFrom (unchanged set []) (broughtIn l)
   unfolding runOf
   run-is = rw fresh-start
 
-  play-is : playedIn l ≡ played (after set []) 0 (broughtIn l)
+  play-is : playedIn l ≡ played (unchanged set []) 0 (broughtIn l)
   unfolding playedIn
   play-is = rw fresh-start
 
@@ -311,7 +312,7 @@ module _ (l : List ℕ) (good : settingsRefusal (settingsOf l) ≡ 0) where
       i (rw run-is at h))
 
   answered : (i : ℕ) → i < length (runOf l)
-      → answerTo l (0 + i) ≡ feedOf (handsetAfter feedOf (after set []) (take i (feedsFrom (after set []) (broughtIn l)))) (getD (broughtIn l) i Nothing) .answer
+      → answerTo l (0 + i) ≡ feedOf (handsetAfter feedOf changeOf (unchanged set []) (take i (feedsFrom (unchanged set []) (broughtIn l)))) (getD (broughtIn l) i Nothing) .answer
   answered i h = ap (answerTo l) (zero-add i) ∙ answer-with _ _ _ _ _ _ i fresh-start run-is (sym (records-fed i h))
 
   printed : playedIn l .bytes ≡ bytesFrom (answerTo l) 0 (length (runOf l))
@@ -334,7 +335,7 @@ module _ (l : List ℕ) (good : settingsRefusal (settingsOf l) ≡ 0) where
       let cause : causeIn set (heardInRun set (runOf l)) (0 + i) (getD (broughtIn l) i Nothing) ≡ 0 = rw (zero-add i, records-fed i h) (rw (at i h .count) at none) in
       let taken : refusalIn (answerTo l (0 + i)) ≡ 0 =
       ap refusalIn (answered i h)
-      ∙ ap (λ (items : List Item). refusalIn (feedOf (handsetAfter feedOf (after set []) (take i items)) (getD (broughtIn l) i Nothing) .answer)) (sym run-is)
+      ∙ ap (λ (items : List Item). refusalIn (feedOf (handsetAfter feedOf changeOf (unchanged set []) (take i items)) (getD (broughtIn l) i Nothing) .answer)) (sym run-is)
       ∙ at i h .refused ∙ cause in
       let q = window-at set good (broughtIn l) [] tt (answerTo l) (λ i h. answered i (rw (← run-is) at h)) i (rw run-is at h) taken (rw (zero-add i) has) in
       let z : 8 * windowsBefore (set .config) i - 0 ≡ 8 * windowsBefore (set .config) i = omega arith in

@@ -21,7 +21,7 @@ use Rattle.reply.specs.declared.Answer.the-variants.{Taken, NoWindow, Silent, S
 use Rattle.reply.specs.Replies.{windowAnswer}
 use Rattle.reply.proofs.Answered.{Answered, Told, window-answered}
 use Rattle.handset.specs.declared.Handset.{Handset}
-use Rattle.handset.specs.Feed.{answerOf, nextAnswer, pushed, feedRefusal, fedAs, feedOf}
+use Rattle.handset.specs.Feed.{answerOf, windowSettings, nextAnswer, pushed, feedRefusal, fedAs, feedOf}
 use Rattle.handset.proofs.Told.{answer-told}
 use Rattle.replaying.specs.Replay.{refusalIn}
 use Rattle.replaying.specs.Written.{windowBytes, bytesOf, FitsBytes}
@@ -75,9 +75,9 @@ pub record TakenUp (h : Handset) (x : Heard) : Type 0 where
   pub gives : Gives (h .settings .config) (h .next) (feedOf h x .answer)
 
 taken-as : (k : ℕ) (h : Handset) (x : Heard) → k ≡ feedRefusal h x → refusalIn (fedAs k h x .answer) ≡ 0 → TakenUp h x
-unfolding feedOf nextAnswer pushed
+unfolding feedOf windowSettings nextAnswer pushed
 taken-as zero h x e none =
-    let g = gives (h .settings) (h .next) (viewAgo (h .past)) in
+    let g = gives (windowSettings h) (h .next) (viewAgo (h .past)) in
     record { settings = rw (← e); next = rw (← e); gives = rw (← e) g }
 taken-as (suc k) h x e none = absurd (omega arith)
 

@@ -7,23 +7,23 @@
 //! machine, and no figure fails.
 
 use feedback_tests::c::{
-    feedback_answered, feedback_feed_grant, feedback_feed_nothing, feedback_feed_release,
-    feedback_feed_scheduled, feedback_inverse, feedback_make, feedback_reading, feedback_replay,
-    feedback_resource, feedback_trace_write, feedback_window,
+    feedback_answered, feedback_change_mode, feedback_feed_grant, feedback_feed_nothing,
+    feedback_feed_release, feedback_feed_scheduled, feedback_inverse, feedback_make,
+    feedback_reading, feedback_replay, feedback_resource, feedback_trace_write, feedback_window,
 };
 use feedback_tests::compare::plain_feed;
 use feedback_tests::every;
 use feedback_tests::form::{Form, OnClaims};
 use feedback_tests::model::{bundles, edge, is_short, is_uplink, Model, Window};
 use feedback_tests::plain::{
-    plain_answered, plain_inverse, plain_make, plain_reading, plain_replay, plain_resource,
-    plain_trace_write, plain_window,
+    plain_answered, plain_change_mode, plain_inverse, plain_make, plain_reading, plain_replay,
+    plain_resource, plain_trace_write, plain_window,
 };
 use feedback_tests::random::Random;
 use feedback_tests::trace::{Trace, LONGEST, WINDOW};
 use feedback_tests::{
-    AnsweredAnswer, Block, Fed, Grant, Handset, Heard, ReadingAnswer, Release, ReplayAnswer,
-    Settings, WindowAnswer, WriteAnswer, NOT_TOLD,
+    AnsweredAnswer, Block, Changed, Fed, Grant, Handset, Heard, ReadingAnswer, Release,
+    ReplayAnswer, Settings, WindowAnswer, WriteAnswer, NOT_TOLD,
 };
 use std::hint::black_box;
 use std::time::Instant;
@@ -92,7 +92,8 @@ the whole state that it is lent, and a list of claims clears its scratch: as man
 as there are resources, or as many bits. With a schedule one subframe of each window
 has a scheduled block, every other time, and one PDCCH in eight is a release. Special
 subframes carry data, but for the cells called short: there they bring nothing or a
-release.
+release. A mode change checks the whole state too; it is to the other mode, of the handsets
+of such runs, and in a run of its own it comes before one subframe in eleven.
 
 The traces are of configuration 2 with two blocks and a schedule, with grants, scheduled
 blocks, releases and nothing in the downlink, and good to the end. In plain Rust a
@@ -112,6 +113,7 @@ Rust that check makes no reply.
     short_specials(&model, &mut Random::new(2));
     replays(&model, &mut Random::new(3));
     writings(&model, &mut Random::new(4));
+    mode_changes(&model, &mut Random::new(5));
 }
 
 fn numbers(model: &Model, random: &mut Random) {
@@ -198,6 +200,21 @@ fn feeds(model: &Model, random: &mut Random) {
     let runs = &runs[..10];
     let number = runs.iter().map(|run| run.heard.len()).sum();
     row("feed, one after another in a run", runs, number, engine_run, plain_rust_run);
+}
+
+/// Mode changes on the handsets of runs, and a run with such changes. Configuration 5 has one
+/// mode only.
+fn mode_changes(model: &Model, random: &mut Random) {
+    let runs = (0..RUNS).map(|_| run(model, random)).filter(|run| run.settings.config != 5);
+    let runs: Vec<Run> = runs.collect();
+    let handsets: Vec<Handset> =
+        runs.iter().flat_map(|run| feeds_of(model, run)).map(|feed| feed.handset).collect();
+    let inputs: Vec<Handset> = handsets.iter().copied().step_by(3).take(INPUTS).collect();
+    row("mode change", &inputs, inputs.len(), engine_change, plain_rust_change);
+    let runs = &runs[..10];
+    let number = runs.iter().map(|run| run.heard.len()).sum();
+    let name = "feed, one after another in a run with mode changes";
+    row(name, runs, number, engine_changing_run, plain_rust_changing_run);
 }
 
 /// Whether a feed answers a window that is bundled, or one that is not.
@@ -597,6 +614,54 @@ fn plain_rust_run(run: &Run) -> u64 {
 fn whole_run(run: &Run, mut handset: Handset, feed: impl Fn(Handset, Heard) -> Fed) -> u64 {
     let mut sum = 0u64;
     for heard in &run.heard {
+        let fed = feed(handset, *heard);
+        sum = sum.wrapping_add(u64::from(fed.resource));
+        handset = fed.handset;
+    }
+    sum
+}
+
+/// To the other mode.
+fn engine_change(handset: &Handset) -> u64 {
+    // SAFETY: the call takes numbers and gives numbers, and is lent no memory.
+    mode(unsafe { feedback_change_mode(*handset, 1 - handset.settings.mode) })
+}
+
+fn plain_rust_change(handset: &Handset) -> u64 {
+    mode(plain_change_mode(*handset, 1 - handset.settings.mode))
+}
+
+fn mode(changed: Changed) -> u64 {
+    let changed = black_box(&changed);
+    u64::from(changed.refusal) << 32 | u64::from(changed.handset.settings.mode)
+}
+
+fn engine_changing_run(run: &Run) -> u64 {
+    // SAFETY: the calls take numbers and give numbers, and are lent no memory.
+    let handset = unsafe { feedback_make(run.settings) }.handset;
+    let change = |handset, mode| unsafe { feedback_change_mode(handset, mode) };
+    changing_run(run, handset, engine_fed, change)
+}
+
+fn plain_rust_changing_run(run: &Run) -> u64 {
+    let change = |handset, mode| plain_change_mode(handset, mode);
+    changing_run(run, plain_make(run.settings).handset, plain_rust_fed, change)
+}
+
+/// The same with a change to the other mode before one subframe in eleven, each time another
+/// one of the frame.
+#[inline(always)]
+fn changing_run(
+    run: &Run,
+    mut handset: Handset,
+    feed: impl Fn(Handset, Heard) -> Fed,
+    change: impl Fn(Handset, u16) -> Changed,
+) -> u64 {
+    let mut sum = 0u64;
+    for (s, heard) in run.heard.iter().enumerate() {
+        if s % 11 == 5 {
+            handset = change(handset, 1 - handset.settings.mode).handset;
+        }
         let fed = feed(handset, *heard);
         sum = sum.wrapping_add(u64::from(fed.resource));
         handset = fed.handset;

@@ -1,16 +1,25 @@
-//! The handset's side: making one and feeding it.
+//! The handset's side: making one, feeding it, and changing its mode.
 //!
 //! What a handset remembers is read as a diary: what was heard, each with its
 //! time, a count of subframes of which the last digit is the subframe in the
-//! frame. Windows then have times too, those of their uplink subframes, and two
-//! things are in one window if they are answered at the same time.
+//! frame, and with the mode that stood then. Windows then have times too, those of
+//! their uplink subframes, and two things are in one window if they are answered at
+//! the same time. A window is answered in the mode of its first entry.
 
-use super::{bundles, edge, first_met, is_short, is_uplink, settings_refusal, Model, Window};
-use crate::{Block, Fed, Grant, Handset, Heard, Made, Release, Settings, Slot, NONE};
+use super::{
+    bundles, edge, first_met, is_short, is_uplink, mode_causes, settings_refusal, Model, Window,
+};
+use crate::{Block, Changed, Fed, Grant, Handset, Heard, Made, Release, Settings, Slot, NONE};
 use std::cmp::Reverse;
 
-/// What was heard, and when.
-type Entry = (u16, Heard);
+/// When something was heard, what it was, and the mode that stood then. Before the start
+/// nothing was heard, and the mode was the one that the handset was made with.
+#[derive(Clone, Copy)]
+struct Entry {
+    time: u16,
+    heard: Heard,
+    mode: u16,
+}
 
 /// What was heard at a position of a window.
 struct Member {
@@ -33,17 +42,19 @@ impl Model {
             return Fed::refused(8, handset);
         };
         let Handset { settings, next, .. } = handset;
-        if let Some(refusal) = self.refusal(settings, &diary, (now(&handset), brought)) {
+        let new = Entry { time: now(&handset), heard: brought, mode: settings.mode };
+        if let Some(refusal) = self.refusal(settings, &diary, new) {
             return Fed::refused(refusal, handset);
         }
-        let after = remember(&handset, brought);
+        let after = remember(&handset, new);
         if !is_uplink(settings.config, next) {
             return Fed::answer(Fed::TAKEN, after);
         }
         match self.window(settings.config, next) {
             None => Fed::answer(Fed::NO_WINDOW, after),
             Some(window) => {
-                let members = members(window, now(&handset), &diary);
+                let settings = Settings { mode: mode_of(window, new.time, &diary), ..settings };
+                let members = members(window, new.time, &diary);
                 let reply = match bundles(settings, window.size()) {
                     true => self.bundled(settings, window, members),
                     false => self.multiplexed(settings, window, members),
@@ -53,6 +64,16 @@ impl Model {
                     Fed::reply(kind, resource, bits, after)
                 })
             }
+        }
+    }
+
+    /// A new mode is judged by the state's configuration, and only then the state.
+    pub fn change_mode(&self, handset: Handset, mode: u16) -> Changed {
+        let [no_mode, no_multiplexing] = mode_causes(handset.settings.config, mode);
+        let is_bad = self.diary_of_good(&handset).is_none();
+        match first_met([no_mode, no_multiplexing, (8, is_bad)]) {
+            Some(refusal) => Changed::refused(refusal, handset),
+            None => Changed::to(handset.in_mode(mode)),
         }
     }
 
@@ -107,14 +128,17 @@ impl Model {
             return None;
         }
         let diary = diary(handset)?;
-        let is_bad = |entry: &Entry| self.refusal(handset.settings, &diary, *entry).is_some();
+        let is_bad = |entry: &Entry| {
+            let mode_refusal = first_met(mode_causes(handset.settings.config, entry.mode));
+            mode_refusal.is_some() || self.refusal(handset.settings, &diary, *entry).is_some()
+        };
         (!diary.iter().any(is_bad)).then_some(diary)
     }
 
     /// The first among the causes that something heard meets at its time, beside
     /// all that was heard.
     fn refusal(&self, settings: Settings, diary: &[Entry], entry: Entry) -> Option<u16> {
-        let (time, heard) = entry;
+        let Entry { time, heard, .. } = entry;
         let Settings { config, nrb, blocks, scheduled, .. } = settings;
         first_met([
             (9, heard != Heard::Nothing && is_uplink(config, time % 10)),
@@ -128,8 +152,9 @@ impl Model {
 
     /// Whether the window of a time has a scheduled block at another time.
     fn is_second(&self, config: u16, diary: &[Entry], time: u16) -> bool {
-        let mut others = diary.iter().filter(|(other, heard)| *other != time && is_block(*heard));
-        others.any(|(other, _)| self.answered_at(config, *other) == self.answered_at(config, time))
+        let mut others = diary.iter().filter(|other| other.time != time && is_block(other.heard));
+        let answered_at = |time| self.answered_at(config, time);
+        others.any(|other| answered_at(other.time) == answered_at(time))
     }
 
     /// The time at which a downlink subframe is answered.
@@ -149,8 +174,36 @@ fn now(handset: &Handset) -> u16 {
 /// All that a handset remembers, or nothing if one of it is of a kind that does
 /// not exist.
 fn diary(handset: &Handset) -> Option<Vec<Entry>> {
-    let ages = 1..=handset.past.len() as u16;
-    ages.zip(handset.past).map(|(age, slot)| Some((now(handset) - age, heard(slot)?))).collect()
+    let times = (0..now(handset)).rev();
+    let remembered = times.zip(handset.past).zip(modes_at_feeds(handset.modes));
+    let entry = |((time, slot), mode)| Some(Entry { time, heard: heard(slot)?, mode });
+    remembered.map(entry).collect()
+}
+
+/// The modes at the last 13 feeds, newest first. Their number is halved again and again,
+/// and what is left over is the next mode; what is left at the end says nothing.
+fn modes_at_feeds(number: u16) -> Vec<u16> {
+    let mut rest = number;
+    let mut modes = Vec::new();
+    while modes.len() < 13 {
+        modes.push(rest % 2);
+        rest /= 2;
+    }
+    modes
+}
+
+/// The number of 13 modes, newest first: from the oldest on it is doubled, and the next
+/// mode added.
+fn number_of(modes: &[u16]) -> u16 {
+    modes.iter().rev().fold(0, |number, mode| 2 * number + mode)
+}
+
+/// The mode in which a window is answered now: the one that stood when the earliest of
+/// its subframes was fed, or before the start the one that the handset was made with.
+fn mode_of(window: &Window, now: u16, diary: &[Entry]) -> u16 {
+    let of_window = diary.iter().filter(|entry| window.k.contains(&(now - entry.time)));
+    let earliest = of_window.min_by_key(|entry| entry.time);
+    earliest.expect("a handset remembers all of a window").mode
 }
 
 /// What was heard in the window that is answered now.
@@ -158,20 +211,22 @@ fn members(window: &Window, now: u16, diary: &[Entry]) -> Vec<Member> {
     let mut members = Vec::new();
     for (position, k) in (0..).zip(window.k.iter().copied()) {
         let here =
-            diary.iter().filter(|(time, heard)| *time == now - k && *heard != Heard::Nothing);
-        members.extend(here.map(|(_, heard)| Member { position, k, heard: *heard }));
+            diary.iter().filter(|entry| entry.time == now - k && entry.heard != Heard::Nothing);
+        members.extend(here.map(|entry| Member { position, k, heard: entry.heard }));
     }
     members
 }
 
-/// The handset that has heard one thing more.
-fn remember(handset: &Handset, heard: Heard) -> Handset {
-    let Handset { settings, next, past } = *handset;
-    let remembered: Vec<Slot> = [slot(heard)].into_iter().chain(past).take(past.len()).collect();
+/// The handset that has one entry more.
+fn remember(handset: &Handset, new: Entry) -> Handset {
+    let Handset { settings, next, modes, past } = *handset;
+    let slots: Vec<Slot> = [slot(new.heard)].into_iter().chain(past).take(13).collect();
+    let modes = [new.mode].into_iter().chain(modes_at_feeds(modes)).take(13);
     Handset {
         settings,
         next: if next == 9 { 0 } else { next + 1 },
-        past: remembered.try_into().expect("as many as before"),
+        modes: number_of(&modes.collect::<Vec<_>>()),
+        past: slots.try_into().expect("as many as before"),
     }
 }
 

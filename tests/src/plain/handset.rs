@@ -1,7 +1,30 @@
-//! The handset's side: making one and feeding it.
+//! The handset's side: making one, feeding it, and changing its mode.
 
 use super::{bundles, cces, check, is_short, region, DOWNLINK, K, SPECIAL};
-use crate::{Fed, Handset, Made, Settings, Slot, NONE};
+use crate::{Changed, Fed, Handset, Made, Settings, Slot, NONE};
+
+/// How long before its answer each window begins: its largest k; 0 where there is none.
+const BEGINS: [[u8; 10]; 7] = beginnings();
+
+const fn beginnings() -> [[u8; 10]; 7] {
+    let mut beginnings = [[0; 10]; 7];
+    let mut config = 0;
+    while config < 7 {
+        let mut n = 0;
+        while n < 10 {
+            let mut position = 0;
+            while position < K[config][n].len() {
+                if K[config][n][position] > beginnings[config][n] {
+                    beginnings[config][n] = K[config][n][position];
+                }
+                position += 1;
+            }
+            n += 1;
+        }
+        config += 1;
+    }
+    beginnings
+}
 
 /// How many subframes later each downlink subframe is answered; 0 for an uplink one.
 const DISTANCE: [[u8; 10]; 7] = distances();
@@ -76,11 +99,13 @@ pub extern "C" fn plain_feed_nothing(handset: Handset) -> Fed {
         return Fed::answer(Fed::TAKEN, after);
     }
     let settings = &handset.settings;
-    let window = K[usize::from(settings.config)][usize::from(handset.next)];
+    let (config, n) = (usize::from(settings.config), usize::from(handset.next));
+    let window = K[config][n];
     if window.is_empty() {
         return Fed::answer(Fed::NO_WINDOW, after);
     }
-    match reply(settings, window, |k| handset.past[usize::from(k) - 1]) {
+    let mode = handset.modes >> (BEGINS[config][n] - 1) & 1;
+    match reply(settings, mode, window, |k| handset.past[usize::from(k) - 1]) {
         Some(Reply { kind, resource, bits }) => Fed::reply(kind, resource, bits, after),
         None => Fed::answer(Fed::SILENT, after),
     }
@@ -137,6 +162,20 @@ pub extern "C" fn plain_feed_release(handset: Handset, cce: u16, dai: u16) -> Fe
     }
     let slot = Slot { kind: Slot::RELEASE, cce: cce as u8, dai: dai as u8, results: 0 };
     Fed::answer(Fed::TAKEN, remember(&handset, slot))
+}
+
+/// A mode change, under the signature of the C call.
+#[inline(never)]
+pub extern "C" fn plain_change_mode(handset: Handset, mode: u16) -> Changed {
+    if mode > 1 {
+        Changed::refused(4, handset)
+    } else if mode == 1 && handset.settings.config == 5 {
+        Changed::refused(5, handset)
+    } else if limits_of_good(&handset).is_none() {
+        Changed::refused(8, handset)
+    } else {
+        Changed::to(handset.in_mode(mode))
+    }
 }
 
 impl Limits {
@@ -242,7 +281,8 @@ impl Limits {
 fn limits_of_good(handset: &Handset) -> Option<Limits> {
     let settings = &handset.settings;
     check(settings).ok()?;
-    if handset.next > 9 {
+    let multiplexed = handset.modes & Handset::ALL_MULTIPLEXING != 0;
+    if handset.next > 9 || multiplexed && settings.config == 5 {
         return None;
     }
     let mut limits = Limits::new(settings);
@@ -289,13 +329,20 @@ fn remember(handset: &Handset, slot: Slot) -> Handset {
     after.past.copy_within(..12, 1);
     after.past[0] = slot;
     after.next = if handset.next == 9 { 0 } else { handset.next + 1 };
+    after.modes = (handset.modes << 1 | handset.settings.mode) & Handset::ALL_MULTIPLEXING;
     after
 }
 
-/// What is sent for a window; `ago` has what was heard k subframes ago.
+/// What is sent for a window that is answered in a mode; `ago` has what was heard k
+/// subframes ago.
 #[inline(always)]
-pub(super) fn reply(settings: &Settings, window: &[u8], ago: impl Fn(u8) -> Slot) -> Option<Reply> {
-    let is_bundled = bundles(settings, window.len() as u16);
+pub(super) fn reply(
+    settings: &Settings,
+    mode: u16,
+    window: &[u8],
+    ago: impl Fn(u8) -> Slot,
+) -> Option<Reply> {
+    let is_bundled = bundles(mode, window.len() as u16);
     let (kind, sent) = match is_bundled {
         true => (Fed::BUNDLED, bundled(settings, window, ago)),
         false => (Fed::MULTIPLEXED, multiplexed(settings, window, ago)),

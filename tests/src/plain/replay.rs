@@ -171,7 +171,8 @@ fn play(settings: &Settings, records: &[[u8; RECORD]], out: &mut [u8]) -> Replay
                 Some(before) => slot(&records[before]),
                 None => Slot::NOTHING,
             };
-            out[written] = window_bytes(subframe, reply(settings, window, ago));
+            let reply = reply(settings, settings.mode, window, ago);
+            out[written] = window_bytes(subframe, reply);
             written += 1;
         }
         limits.go_on(subframe, heard.kind == Slot::BLOCK);

@@ -149,7 +149,7 @@ fn meaning(
     if b0 > 1 || b1 > 1 {
         return Err(14);
     }
-    if bundles(settings, size) {
+    if bundles(settings.mode, size) {
         if settings.blocks == 1 && b1 == 1 {
             return Err(14);
         }

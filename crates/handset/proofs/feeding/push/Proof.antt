@@ -12,12 +12,20 @@ slot-of-requires c κs = passed _ _ (c .before .before .pre) .stored
 shifted-requires : tie.Need-shifted-requires
 shifted-requires c κs = search needs
 
-add-t7 : tie.Need-add-t7
-add-t7 c = omega (arith, passed _ _ (c .before .before .before .before .before .pre) .state .next)
+add-next : tie.Need-add-next
+add-next c = omega (arith, passed _ _ (c .before .before .before .before .before .pre) .state .next)
+
+mul-modes : tie.Need-mul-modes
+mul-modes c = omega arith
+
+add-modes : tie.Need-add-modes
+add-modes c = omega (arith, passed _ _ (c .before .before .before .before .before .before .before .pre) .state .settings .mode)
 
 returns : tie.Need-returns
 unfolding pushed
-returns c = rw (c .before .shifted .ensures, c .before .before .slot-of .ensures)
+returns c =
+    let fed = c .before .before .before in
+    rw (fed .shifted .ensures, fed .before .slot-of .ensures)
 
 pub push-spec : {M : Type 1} → statement M
-push-spec = tie.close (tie.spec slot-of-requires shifted-requires add-t7 returns)
+push-spec = tie.close (tie.spec slot-of-requires shifted-requires add-next mul-modes add-modes returns)
