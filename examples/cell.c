@@ -11,15 +11,17 @@
 #include <stdlib.h>
 
 /*
- * The runs: each configuration in each mode it has, and two with special subframes too short for
- * data (SHORT 1, else 0). Arguments replace the numbers of the first.
+ * The runs: each configuration in each mode it has, two with special subframes too short for data
+ * (SHORT 1, else 0), and one whose mode changes (each CHANGE subframes, 0 for never). Arguments
+ * replace the numbers of the first.
  */
-enum { CONFIG, MODE, FRAMES, LOSS, SEED, SHORT, ARGUMENTS };
+enum { CONFIG, MODE, FRAMES, LOSS, SEED, SHORT, CHANGE, ARGUMENTS };
 static uint16_t runs[][ARGUMENTS] = {
     {0, 0, 2, 30, 230},  {0, 1, 2, 30, 230},  {1, 0, 2, 30, 16},      {1, 1, 2, 30, 16},
     {2, 0, 4, 30, 1021}, {2, 1, 4, 30, 1021}, {3, 0, 3, 30, 102},     {3, 1, 3, 30, 102},
     {4, 0, 4, 30, 372},  {4, 1, 4, 30, 372},  {5, 0, 10, 50, 17369},
     {6, 0, 2, 30, 657},  {6, 1, 2, 30, 657},  {2, 0, 4, 30, 1021, 1}, {2, 1, 4, 30, 1021, 1},
+    {3, 0, 4, 30, 102, 0, 7},
 };
 
 /* A number below the limit; the same seed gives the same numbers. */
@@ -50,6 +52,7 @@ struct window {
     struct feedback_window_answer table;    /* M, K and the time order of K */
     struct sent sent[FEEDBACK_WINDOW_MOST]; /* by position */
     uint16_t scheduled;                     /* the scheduled block's position, or FEEDBACK_NONE */
+    uint16_t mode; /* the mode that stood in its first subframe: it is answered and read in that */
     unsigned held; /* bit m: at position m a grant of the second handset was held back */
 };
 
@@ -97,7 +100,8 @@ static unsigned hold_back(const struct station *station, uint16_t n, uint16_t *c
  */
 static struct window plan(struct station *station, uint16_t n)
 {
-    struct window window = {.table = feedback_window(station->settings, n)};
+    struct window window = {.table = feedback_window(station->settings, n),
+                            .mode = station->settings.mode};
     accepted(window.table.refusal);
     uint16_t claims[2 * FEEDBACK_WINDOW_MOST], due = draw(&station->random, 2u * window.table.size);
     size_t count = 0;
@@ -189,12 +193,14 @@ struct verdict {
     unsigned left[2]; /* bit m of left[0]: the first block at position m; of left[1]: the second */
 };
 
-/* A reply in subframe s is read; the call is told where a scheduled block was sent. */
+/* A reply in subframe s is read, in the mode of its window and told where a block was scheduled. */
 static struct verdict conclude(const struct station *station, unsigned s, uint16_t resource,
                                uint16_t b0, uint16_t b1)
 {
     const struct window *window = &station->window[s % 16];
-    struct verdict verdict = {.reading = feedback_reading(station->settings, (uint16_t)(s % 10),
+    struct feedback_settings settings = station->settings;
+    settings.mode = window->mode;
+    struct verdict verdict = {.reading = feedback_reading(settings, (uint16_t)(s % 10),
                                                           window->scheduled, resource, b0, b1)};
     accepted(verdict.reading.refusal);
     for (unsigned i = 0; i < 2u * window->table.size; i++)
@@ -240,6 +246,20 @@ static struct feedback_fed receive_in(struct radio *radio, unsigned s, struct se
     accepted(fed.refusal);
     radio->handset = fed.handset;
     return fed;
+}
+
+/* ==== Higher layers. They change the mode of both ends between two subframes. ==== */
+
+static const char *const modes[] = {"bundling", "multiplexing"};
+
+static void change_mode(struct station *station, struct radio *radio, unsigned s)
+{
+    uint16_t mode = !station->settings.mode;
+    struct feedback_changed changed = feedback_change_mode(radio->handset, mode);
+    accepted(changed.refusal);
+    radio->handset = changed.handset;
+    station->settings.mode = mode;
+    printf("%5u.%u | %s for the windows that begin from here on\n", s / 10, s % 10, modes[mode]);
 }
 
 /* ==== The check. It alone sees both: a window's line, and whether what left was decoded. ==== */
@@ -300,12 +320,14 @@ static int run(const uint16_t number[ARGUMENTS])
     struct radio radio = {.handset = made.handset, .random = ~station.random, .loss = number[LOSS]};
     struct tally tally = {0};
     int width = number[CONFIG] == 5 ? 55 : 25; /* of nine subframes, or four */
-    printf("\nconfiguration %u, %s, %u frames, %u %% lost, seed %u%s\n"
+    printf("\nconfiguration %u, %s%s, %u frames, %u %% lost, seed %u%s\n"
            "frame.n |%-*s| reply          | reading            | blocks that leave the buffer\n",
-           number[CONFIG], number[MODE] == 0 ? "bundling" : "multiplexing", number[FRAMES],
+           number[CONFIG], modes[number[MODE]], number[CHANGE] ? " at first" : "", number[FRAMES],
            number[LOSS], number[SEED], number[SHORT] ? ", no data in special subframes" : "",
            width, " subframes in time order");
     for (unsigned s = 0; s < number[FRAMES] * 10u; s++) {
+        if (number[CHANGE] != 0 && s != 0 && s % number[CHANGE] == 0)
+            change_mode(&station, &radio, s);
         struct feedback_fed fed = receive_in(&radio, s, send_in(&station, s));
         struct verdict verdict = {0};
         if (fed.kind == FEEDBACK_KIND_TAKEN || fed.kind == FEEDBACK_KIND_NO_WINDOW ||
@@ -327,8 +349,8 @@ int main(int argc, char **argv)
         long value = strtol(argv[i], &end, 10), most = i - 1 == LOSS ? 100 : 65535;
         if (i > ARGUMENTS || end == argv[i] || *end != '\0' || value < 0 || value > most) {
             fprintf(stderr,
-                    "usage: cell [CONFIGURATION [MODE [FRAMES [LOSS-PERCENT [SEED [SHORT]]]]]]; "
-                    "refused argument %d: one too many, or not a number 0 to %ld\n",
+                    "usage: cell [CONFIGURATION [MODE [FRAMES [LOSS-PERCENT [SEED [SHORT "
+                    "[CHANGE]]]]]]]; refused argument %d: one too many, or not a number 0 to %ld\n",
                     i, most);
             return 2;
         }

@@ -13,9 +13,9 @@
  *   calls of the station    feedback_resource, feedback_inverse,
  *                           feedback_reading, feedback_claims,
  *                           feedback_claims_bits
- *   calls of the handset    feedback_make, feedback_feed_nothing,
- *                           feedback_feed_grant, feedback_feed_scheduled,
- *                           feedback_feed_release
+ *   calls of the handset    feedback_make, feedback_change_mode,
+ *                           feedback_feed_nothing, feedback_feed_grant,
+ *                           feedback_feed_scheduled, feedback_feed_release
  *   calls on a recorded     feedback_replay, feedback_record,
  *   drive                   feedback_trace_write
  *
@@ -79,6 +79,12 @@
  *             station sends in a window, in time order, carries
  *             ((j - 1) mod 4) + 1. Those that get lost are counted too; a
  *             scheduled block is not.
+ * mode        0 bundling, 1 multiplexing: a setting of the handset that may change
+ *             between two subframes, while windows are open. A window is answered
+ *             in the mode that stood when its EARLIEST subframe was fed, n - k for
+ *             the largest k, which need not be k_0 (7,6,11 and 6,5,4,7); where that
+ *             lies before the start, in the mode that the handset was made with. A
+ *             reply is read in the mode of its window.
  * bundled     one reply for the window, in mode 0, and in mode 1 where M = 1.
  *             The handset is silent if it heard nothing. In configurations 1 to
  *             6 it is silent too if the DAI of the last PDCCH heard, V, shows a
@@ -190,10 +196,11 @@
  *             feedback_claims         128
  *             feedback_claims_bits    128
  *             feedback_make           128
- *             feedback_feed_nothing   1024
- *             feedback_feed_grant     1024
- *             feedback_feed_scheduled 1024
- *             feedback_feed_release   1024
+ *             feedback_change_mode    512
+ *             feedback_feed_nothing   1280
+ *             feedback_feed_grant     1280
+ *             feedback_feed_scheduled 1280
+ *             feedback_feed_release   1280
  *             feedback_replay         2048
  *             feedback_record         64
  *             feedback_trace_write    2048
@@ -211,8 +218,8 @@
 #include <stdint.h>
 
 /* This header's version: major * 10000 + minor * 100 + patch, and the same as text. */
-#define FEEDBACK_VERSION 30301
-#define FEEDBACK_VERSION_TEXT "3.3.1"
+#define FEEDBACK_VERSION 40000
+#define FEEDBACK_VERSION_TEXT "4.0.0"
 
 #define FEEDBACK_WINDOW_MOST 9     /* the most subframes of a window: M in configuration 5 */
 #define FEEDBACK_MEMORY 13         /* the subframes that a handset remembers: the greatest k */
@@ -259,11 +266,11 @@ extern "C" {
  * feedback_replay after 19 and before any record, in feedback_trace_write last of all.
  * A refused call changes nothing: no buffer is written, no state moves on, nothing is
  * made. Beside a refusal every other number of the answer is 0. There are four
- * exceptions: a feed gives back the handset as it was; 16 comes with an index; a replay
- * that stops at a record has the kind FEEDBACK_REPLAY_STOPPED, leaves the windows before
- * it in the output, and tells how many they are and the record's number; and where a
- * record keeps a trace from being written, the kind is FEEDBACK_WRITE_STOPPED, with the
- * record's number.
+ * exceptions: a feed and a change of mode give back the handset as it was; 16 comes with
+ * an index; a replay that stops at a record has the kind FEEDBACK_REPLAY_STOPPED, leaves
+ * the windows before it in the output, and tells how many they are and the record's
+ * number; and where a record keeps a trace from being written, the kind is
+ * FEEDBACK_WRITE_STOPPED, with the record's number.
  */
 enum feedback_refusal {
     FEEDBACK_NOT_REFUSED = 0,
@@ -277,7 +284,8 @@ enum feedback_refusal {
                                            feedback_answered an uplink subframe, which lies in no
                                            window, or one over 9 */
     FEEDBACK_REFUSED_STATE = 8,         /* lent state fails 1 to 6, 17 or 19, expects a subframe
-                                           over 9, or remembers what fails 9 to 12, 18 or 20
+                                           over 9, or remembers a mode that fails 5 (mode 1 in
+                                           configuration 5) or what fails 9 to 12, 18 or 20
                                            there, in the subframe that brought it (so two
                                            scheduled blocks of one window too); also a remembered
                                            kind that is not in enum feedback_slot_kind */
@@ -385,7 +393,8 @@ enum feedback_slot_results {
 /*
  * The settings of a handset in a cell. 16 bytes. config, nrb, n1, prefix and special are
  * the cell's, the same for all its handsets; mode, blocks and scheduled are the
- * handset's own, set by higher layers for each, and its replies are read with them.
+ * handset's own, set by higher layers for each, and its replies are read with them,
+ * each in the mode of its own window.
  * Every call that takes settings refuses 1 to 6, 17 and 19 for them; feedback_window,
  * feedback_answered, feedback_resource, feedback_inverse, feedback_claims and
  * feedback_claims_bits ask no more of mode, blocks, scheduled, prefix and special than
@@ -479,32 +488,41 @@ struct feedback_slot {
 };
 
 /*
- * The state of a handset. 70 bytes without padding.
+ * The state of a handset. 72 bytes without padding.
  *
- * feedback_make makes one, a feed takes one and gives back the next. It is plain
- * bytes: it may be copied, stored, and given back later, as often as you like,
- * on a machine of the same byte order. Other bytes may be given as well: a feed
- * then refuses 8, or answers as for what these bytes say was heard. Bytes and bits
- * of a slot that have no meaning are carried along unchanged; a feed puts 0 into such
- * bytes of the slot that it adds.
+ * feedback_make makes one, a feed or a change of mode takes one and gives back the next.
+ * It is plain bytes: it may be copied, stored, and given back later, as often as you
+ * like, on a machine of the same byte order. Other bytes may be given as well: a call
+ * then refuses 8, or answers as for what these bytes say was heard. Bytes and bits of a
+ * slot that have no meaning are carried along unchanged; a feed puts 0 into such bytes of
+ * the slot that it adds. Bits of modes that have no meaning are dropped by the next feed.
  *
- * A handset that was stored by a version before 3.0.0 has 64 or 66 bytes and another
+ * A handset that was stored by a version before 4.0.0 has 64, 66 or 70 bytes and another
  * layout: it cannot be fed to this one. Make a fresh handset.
  */
 struct feedback_handset {
-    struct feedback_settings settings;
-    uint16_t next; /* the subframe that the next feed brings, 0 to 9 */
+    struct feedback_settings settings; /* its mode is the one that stands */
+    uint16_t next;  /* the subframe that the next feed brings, 0 to 9 */
+    uint16_t modes; /* bit i (value 1 << i), i 0 to 12: the mode that stood when the subframe
+                       i + 1 ago was fed, that of past[i]; before the start the mode that the
+                       handset was made with. Bits 13 to 15 have no meaning */
     struct feedback_slot past[FEEDBACK_MEMORY]; /* the last 13 subframes, the newest first */
 };
 
-/* The answer of feedback_make. 72 bytes. */
+/* The answer of feedback_make. 74 bytes. */
 struct feedback_made {
     uint16_t refusal;                /* 0, or 1 to 6, 17 or 19 */
-    struct feedback_handset handset; /* the fresh handset; 70 zero bytes if refused, a state
+    struct feedback_handset handset; /* the fresh handset; 72 zero bytes if refused, a state
                                         that every feed refuses with 8 */
 };
 
-/* The answer of a feed. 80 bytes. */
+/* The answer of feedback_change_mode. 74 bytes. */
+struct feedback_changed {
+    uint16_t refusal;                /* 0, or 4, 5 or 8 */
+    struct feedback_handset handset; /* in the new mode; if refused, the handset as it was */
+};
+
+/* The answer of a feed. 82 bytes. */
 struct feedback_fed {
     uint16_t refusal;  /* 0, or 8 (feedback_feed_nothing), 8 to 12 or 20 (feedback_feed_grant), 8,
                           9, 10, 18 or 20 (feedback_feed_scheduled), 8, 9, 11 or 12
@@ -608,7 +626,11 @@ struct feedback_inverse_answer feedback_inverse(struct feedback_settings setting
 /*
  * What a reply on PUCCH says.
  *
- *   settings             the settings of the handset that replied
+ *   settings             the settings of the handset that replied. settings.mode is the
+ *                        mode of THIS window: the one that stood when its earliest
+ *                        subframe was fed, and not a later one. There is no other way
+ *                        to tell the mode. feedback_window tells which subframe that
+ *                        is, k[order[0]] before n
  *   n                    the uplink subframe of the reply, 0 to 9, one with a window
  *   scheduled_position   the position m of the scheduled block that was SENT to this
  *                        handset in the window of n, heard or not, 0 to M - 1, and
@@ -676,8 +698,9 @@ struct feedback_inverse_answer feedback_inverse(struct feedback_settings setting
  * crates/agreement/proofs/Conclusions.antt the proof. It needs PDCCHs with DAIs by
  * the rule above, at most one scheduled block sent in a window and its position told
  * here, no grant and no scheduled block sent in a special subframe too short for data,
- * a handset that is fed, for every subframe, what was sent there or nothing, and its
- * reply as it was sent, read with its own settings.
+ * a handset that is fed, for every subframe, what was sent there or nothing, with
+ * changes of mode in between as you like, and its reply as it was sent, read with its own
+ * settings in the mode of the window.
  *
  * Refuses 1 to 6, 17, 19, 7, 20, 11, 18, 13 and 14. 20 is a position told whose subframe
  * is a special one too short for data, 11 one told that is not below M, and 18 one told
@@ -763,26 +786,47 @@ struct feedback_claims_answer feedback_claims_bits(struct feedback_settings sett
 /*
  * A fresh handset. It expects subframe 0; the 13 subframes before it count as
  * unheard. To start elsewhere in the frame, set next: that is the state to which
- * as many feeds of nothing lead. When a setting changes, make a fresh handset.
+ * as many feeds of nothing lead. When the mode changes, call feedback_change_mode; when
+ * any other setting changes, make a fresh handset.
  *
  *   settings   the settings of the handset
  *
  * Refuses 1 to 6, 17 and 19; nothing is made then, and the handset beside the refusal
- * is 70 zero bytes.
+ * is 72 zero bytes.
  */
 FEEDBACK_MUST_USE
 struct feedback_made feedback_make(struct feedback_settings settings);
+
+/*
+ * The mode changes between two subframes, while windows may be open.
+ *
+ *   handset    the state that the call before answered
+ *   mode       the new mode, one of enum feedback_mode
+ *
+ * The subframes that are fed from now on are fed in the new mode. Nothing else moves:
+ * the handset expects the same subframe as before, and a window whose earliest subframe
+ * was fed already is answered in the mode that stood then, however late. The mode counts
+ * at the feed: of two changes between two feeds the second counts, and a change to the
+ * mode that stands changes nothing. Windows that begin before the first feed are answered
+ * in the mode of feedback_make, also after a change that comes before it. The station
+ * reads each reply in the mode of its window: see feedback_reading.
+ *
+ * Refuses 4 and 5 for the new mode with the other settings of the handset, then 8. The
+ * handset of the answer is then the one given, byte for byte: the old mode stands.
+ */
+FEEDBACK_MUST_USE
+struct feedback_changed feedback_change_mode(struct feedback_handset handset, uint16_t mode);
 
 /*
  * The next subframe brought nothing: nothing was sent, or it was lost, or the
  * subframe is uplink. Call one of the four feeds for every subframe, uplink ones
  * too, and use the handset of its answer for the next: after subframe 9 comes 0.
  * For subframes that the radio slept through feed nothing, once for each of them:
- * the handset knows where in the frame it is by counting its feeds. (13 of them
- * empty its memory: after so long a sleep a fresh handset with next set is the
- * same.)
+ * the handset knows where in the frame it is by counting its feeds. (13 of them, with
+ * no change of mode among them, empty its memory: after so long a sleep a fresh handset
+ * with next set is the same.)
  *
- *   handset    the state that the feed before answered, or feedback_make
+ *   handset    the state that the call before answered
  *
  * In a downlink subframe the kind of the answer is FEEDBACK_KIND_TAKEN. In an
  * uplink subframe it is what to send in that very subframe: FEEDBACK_KIND_BUNDLED
@@ -797,7 +841,7 @@ struct feedback_fed feedback_feed_nothing(struct feedback_handset handset);
 /*
  * The next subframe brought a grant.
  *
- *   handset    the state that the feed before answered, or feedback_make
+ *   handset    the state that the call before answered
  *   blocks     transport blocks carried, 1 to the setting's
  *   first      the first block, or the only one: decoded unless this is 0
  *   second     the second block: decoded unless this is 0; without effect on any
@@ -823,7 +867,7 @@ struct feedback_fed feedback_feed_grant(struct feedback_handset handset, uint16_
  * has in this subframe and that could not be decoded is fed here too, as not decoded:
  * then it is answered. After feedback_feed_nothing it is not.
  *
- *   handset    the state that the feed before answered, or feedback_make
+ *   handset    the state that the call before answered
  *   blocks     transport blocks carried, 1 to the setting's
  *   first      the first block, or the only one: decoded unless this is 0
  *   second     the second block: decoded unless this is 0; without effect on any
@@ -845,7 +889,7 @@ struct feedback_fed feedback_feed_scheduled(struct feedback_handset handset, uin
  * The next subframe brought a release: a PDCCH that releases the schedule. It counts as
  * a heard grant that decoded everything, its first CCE and its DAI included.
  *
- *   handset    the state that the feed before answered, or feedback_make
+ *   handset    the state that the call before answered
  *   cce        the first CCE of the release, 0 to N_4 - 1
  *   dai        the DAI of the release, 1 to 4 (in configuration 0 too, where no
  *              reply depends on it)
@@ -971,11 +1015,11 @@ struct feedback_write_answer feedback_trace_write(const uint8_t *trace, size_t l
  * ld --gc-sections by retain, where they have it. With a compiler that has neither,
  * use FEEDBACK_LAYOUT_LINKED once in your code: its value is 1, and it refers to the
  * name in the same way. A program without the library, such as a test of your own,
- * needs a feedback_layout_3 of its own.
+ * needs a feedback_layout_4 of its own.
  */
 FEEDBACK_MUST_USE
-uint16_t feedback_layout_3(void);
-#define FEEDBACK_LAYOUT_LINKED (feedback_layout_3() == 3)
+uint16_t feedback_layout_4(void);
+#define FEEDBACK_LAYOUT_LINKED (feedback_layout_4() == 4)
 
 #if defined(__GNUC__)
 #if defined(__ELF__) && defined(__has_attribute)
@@ -986,7 +1030,7 @@ uint16_t feedback_layout_3(void);
 #ifndef FEEDBACK_KEPT
 #define FEEDBACK_KEPT __attribute__((used))
 #endif
-static uint16_t (*const feedback_layout_kept)(void) FEEDBACK_KEPT = feedback_layout_3;
+static uint16_t (*const feedback_layout_kept)(void) FEEDBACK_KEPT = feedback_layout_4;
 #undef FEEDBACK_KEPT
 #endif
 
@@ -1047,14 +1091,18 @@ FEEDBACK_PLACE(feedback_slot, kind, 0)
 FEEDBACK_PLACE(feedback_slot, cce, 1)
 FEEDBACK_PLACE(feedback_slot, dai, 2)
 FEEDBACK_PLACE(feedback_slot, results, 3)
-FEEDBACK_SIZE(feedback_handset, 70)
+FEEDBACK_SIZE(feedback_handset, 72)
 FEEDBACK_PLACE(feedback_handset, settings, 0)
 FEEDBACK_PLACE(feedback_handset, next, 16)
-FEEDBACK_PLACE(feedback_handset, past, 18)
-FEEDBACK_SIZE(feedback_made, 72)
+FEEDBACK_PLACE(feedback_handset, modes, 18)
+FEEDBACK_PLACE(feedback_handset, past, 20)
+FEEDBACK_SIZE(feedback_made, 74)
 FEEDBACK_PLACE(feedback_made, refusal, 0)
 FEEDBACK_PLACE(feedback_made, handset, 2)
-FEEDBACK_SIZE(feedback_fed, 80)
+FEEDBACK_SIZE(feedback_changed, 74)
+FEEDBACK_PLACE(feedback_changed, refusal, 0)
+FEEDBACK_PLACE(feedback_changed, handset, 2)
+FEEDBACK_SIZE(feedback_fed, 82)
 FEEDBACK_PLACE(feedback_fed, refusal, 0)
 FEEDBACK_PLACE(feedback_fed, kind, 2)
 FEEDBACK_PLACE(feedback_fed, resource, 4)

@@ -12,6 +12,7 @@ void drop(struct feedback_settings settings, struct feedback_handset handset)
     feedback_claims(settings, 7, NULL, 0, NULL, 0);
     feedback_claims_bits(settings, 7, NULL, 0, NULL, 0);
     feedback_make(settings);
+    feedback_change_mode(handset, 1);
     feedback_feed_nothing(handset);
     feedback_feed_grant(handset, 2, 1, 0, 5, 3);
     feedback_feed_scheduled(handset, 2, 1, 0);
@@ -19,5 +20,5 @@ void drop(struct feedback_settings settings, struct feedback_handset handset)
     feedback_replay(NULL, 0, NULL, 0);
     feedback_record(NULL, 0, 0);
     feedback_trace_write(NULL, 0, NULL, 0);
-    feedback_layout_3();
+    feedback_layout_4();
 }

@@ -12,7 +12,7 @@
 #include <stdlib.h>
 #include <string.h>
 
-#if FEEDBACK_VERSION != 30301
+#if FEEDBACK_VERSION != 40000
 #error "FEEDBACK_VERSION is for the preprocessor too"
 #endif
 
@@ -43,7 +43,7 @@ static void same(int line, const char *what, const char *got, const char *wanted
 
 /* ---- the header's text ---- */
 
-static char text[65536];
+static char text[131072];
 
 static void read_header(const char *name)
 {
@@ -197,11 +197,11 @@ static void numbers(void)
     EQUAL(FEEDBACK_SPELLED_FIRST, 18);
     EQUAL(FEEDBACK_SPELLED_MOST, 65534); /* 18 + 4 * 16379 */
     EQUAL(FEEDBACK_NONE, 65535);
-    EQUAL(FEEDBACK_VERSION, 30301);
+    EQUAL(FEEDBACK_VERSION, 40000);
     sprintf(version, "%d.%d.%d", FEEDBACK_VERSION / 10000, FEEDBACK_VERSION / 100 % 100,
             FEEDBACK_VERSION % 100);
     SAME(FEEDBACK_VERSION_TEXT, version);
-    EQUAL(feedback_layout_3(), 3);
+    EQUAL(feedback_layout_4(), 4);
     EQUAL(FEEDBACK_LAYOUT_LINKED, 1);
 }
 
@@ -254,14 +254,18 @@ static void layout(void)
     PLACE(feedback_slot, cce, 1);
     PLACE(feedback_slot, dai, 2);
     PLACE(feedback_slot, results, 3);
-    SIZE(feedback_handset, 70);
+    SIZE(feedback_handset, 72);
     PLACE(feedback_handset, settings, 0);
     PLACE(feedback_handset, next, 16);
-    PLACE(feedback_handset, past, 18);
-    SIZE(feedback_made, 72);
+    PLACE(feedback_handset, modes, 18);
+    PLACE(feedback_handset, past, 20);
+    SIZE(feedback_made, 74);
     PLACE(feedback_made, refusal, 0);
     PLACE(feedback_made, handset, 2);
-    SIZE(feedback_fed, 80);
+    SIZE(feedback_changed, 74);
+    PLACE(feedback_changed, refusal, 0);
+    PLACE(feedback_changed, handset, 2);
+    SIZE(feedback_fed, 82);
     PLACE(feedback_fed, refusal, 0);
     PLACE(feedback_fed, kind, 2);
     PLACE(feedback_fed, resource, 4);
@@ -344,6 +348,7 @@ static void settings_refused(struct feedback_settings bad, unsigned refusal)
     struct feedback_claims_answer by_bits = feedback_claims_bits(bad, 11, &claim, 1, &bits, 1);
     struct feedback_made made = feedback_make(bad);
     struct feedback_handset handset = zero;
+    struct feedback_changed changed;
     struct feedback_fed fed;
     unsigned i;
     EQUAL(window.refusal, refusal);
@@ -384,6 +389,9 @@ static void settings_refused(struct feedback_settings bad, unsigned refusal)
     EQUAL(fed.refusal, FEEDBACK_REFUSED_STATE);
     EQUAL(fed.kind, FEEDBACK_KIND_REFUSED);
     BYTES(&fed.handset, &handset, sizeof handset);
+    changed = feedback_change_mode(handset, FEEDBACK_MODE_BUNDLING);
+    EQUAL(changed.refusal, FEEDBACK_REFUSED_STATE);
+    BYTES(&changed.handset, &handset, sizeof handset);
 }
 
 /*
@@ -935,6 +943,7 @@ static struct feedback_handset fresh(struct feedback_settings settings)
     unsigned i;
     EQUAL(made.refusal, 0);
     EQUAL(made.handset.next, 0);
+    EQUAL(made.handset.modes, settings.mode == FEEDBACK_MODE_MULTIPLEXING ? 8191 : 0);
     BYTES(&made.handset.settings, &settings, sizeof settings);
     for (i = 0; i < FEEDBACK_MEMORY; i++)
         EQUAL(made.handset.past[i].kind, FEEDBACK_SLOT_NOTHING);
@@ -1051,6 +1060,113 @@ static void multiplexed(void)
     replies(handset, FEEDBACK_KIND_MULTIPLEXED, 47, 1, 0); /* 3 * 11 + 4 + 10 */
     handset.past[5].kind = FEEDBACK_SLOT_NOTHING;
     replies(handset, FEEDBACK_KIND_MULTIPLEXED, 24, 0, 1); /* 1 * 11 + 3 + 10 */
+}
+
+/* ---- the change of mode ---- */
+
+static struct feedback_handset change(struct feedback_handset handset, uint16_t mode)
+{
+    struct feedback_changed changed = CALL(feedback_change_mode, (handset, mode));
+    EQUAL(changed.refusal, 0);
+    EQUAL(changed.handset.settings.mode, mode);
+    handset.settings.mode = mode;
+    BYTES(&changed.handset, &handset, sizeof handset);
+    return changed.handset;
+}
+
+static void change_refused(struct feedback_handset handset, uint16_t mode, unsigned refusal)
+{
+    struct feedback_changed changed = feedback_change_mode(handset, mode);
+    EQUAL(changed.refusal, refusal);
+    BYTES(&changed.handset, &handset, sizeof handset);
+}
+
+/*
+ * Configuration 3: 12 answers for 1, 5 and 6 in time order, 13 for 7 and 8, 14 for 9 and 10. Mode 1
+ * stands from 2 to 8. So 12 is bundled, by subframe 1, though 5, of k_0, was fed in mode 1; 13 is
+ * multiplexed, though mode 0 stands again; 14 is bundled.
+ */
+static void changed_between(void)
+{
+    struct feedback_settings settings = settings_of(3, FEEDBACK_MODE_BUNDLING, 1);
+    struct feedback_handset handset = fresh(settings);
+    struct feedback_reading_answer reading;
+    unsigned i;
+    handset = nothing(handset, FEEDBACK_KIND_TAKEN);
+    handset = grant(handset, 1, 1, 0, 4, 1);
+    handset = change(handset, FEEDBACK_MODE_MULTIPLEXING);
+    for (i = 2; i < 5; i++)
+        handset = nothing(handset, FEEDBACK_KIND_SILENT);
+    handset = grant(handset, 1, 1, 0, 12, 2);
+    handset = grant(handset, 1, 1, 0, 30, 3);
+    handset = grant(handset, 1, 1, 0, 3, 1);
+    handset = grant(handset, 1, 0, 0, 5, 2);
+    handset = change(handset, FEEDBACK_MODE_BUNDLING);
+    handset = grant(handset, 1, 1, 0, 3, 1);
+    handset = grant(handset, 1, 1, 0, 10, 2);
+    handset = nothing(handset, FEEDBACK_KIND_TAKEN);
+    EQUAL(handset.modes, 1016); /* bits 3 to 9: subframes 8 to 2 */
+    replies(handset, FEEDBACK_KIND_BUNDLED, 111, 1, 0); /* 27 + 44 + 30 + 10 */
+    handset = feedback_feed_nothing(handset).handset;
+    replies(handset, FEEDBACK_KIND_MULTIPLEXED, 13, 0, 1); /* A,N: 3 + 10 */
+    handset = feedback_feed_nothing(handset).handset;
+    replies(handset, FEEDBACK_KIND_BUNDLED, 31, 1, 0); /* 11 + 10 + 10 */
+    settings.mode = FEEDBACK_MODE_MULTIPLEXING;
+    reading = feedback_reading(settings, 3, FEEDBACK_NONE, 13, 0, 1); /* the mode of the window */
+    EQUAL(reading.refusal, 0);
+    EQUAL(reading.kind, FEEDBACK_KIND_MULTIPLEXED);
+    EQUAL(reading.position, 0);
+    EQUAL(reading.cce, 3);
+    EQUAL(reading.delivered, 1);
+    settings.mode = FEEDBACK_MODE_BUNDLING; /* the mode that stands: a second bit is refused */
+    EQUAL(feedback_reading(settings, 3, FEEDBACK_NONE, 13, 0, 1).refusal, FEEDBACK_REFUSED_BITS);
+}
+
+/* Configuration 2: 7 answers for -1, 0, 1 and 3, so in the mode of feedback_make; 12 for 4 to 8. */
+static void changed_first(void)
+{
+    struct feedback_handset handset = fresh(settings_of(2, FEEDBACK_MODE_MULTIPLEXING, 1));
+    unsigned i;
+    handset = change(handset, FEEDBACK_MODE_BUNDLING);
+    handset = grant(handset, 1, 1, 0, 0, 1);
+    handset = nothing(handset, FEEDBACK_KIND_TAKEN);
+    handset = nothing(handset, FEEDBACK_KIND_SILENT);
+    handset = nothing(handset, FEEDBACK_KIND_TAKEN);
+    handset = grant(handset, 1, 1, 0, 3, 1);
+    handset = nothing(handset, FEEDBACK_KIND_TAKEN);
+    handset = nothing(handset, FEEDBACK_KIND_TAKEN);
+    replies(handset, FEEDBACK_KIND_MULTIPLEXED, 21, 0, 1); /* -A--: 1 * 11 + 0 + 10 */
+    handset = feedback_feed_nothing(handset).handset;
+    for (i = 8; i < 12; i++)
+        handset = nothing(handset, FEEDBACK_KIND_TAKEN);
+    replies(handset, FEEDBACK_KIND_BUNDLED, 13, 1, 0); /* 3 + 10 */
+}
+
+static void changes_refused(void)
+{
+    struct feedback_handset three = fresh(settings_of(3, FEEDBACK_MODE_BUNDLING, 1));
+    struct feedback_handset five = fresh(settings_of(5, FEEDBACK_MODE_BUNDLING, 1));
+    static const uint16_t bit[] = {1,   2,   4,    8,    16,   32,   64,    128,
+                                   256, 512, 1024, 2048, 4096, 8192, 16384, 32768};
+    unsigned i;
+    change_refused(three, 2, FEEDBACK_REFUSED_MODE);
+    change_refused(three, 65535, FEEDBACK_REFUSED_MODE);
+    change_refused(five, 2, FEEDBACK_REFUSED_MODE);
+    change_refused(five, FEEDBACK_MODE_MULTIPLEXING, FEEDBACK_REFUSED_MULTIPLEXING);
+    three = change(change(three, FEEDBACK_MODE_MULTIPLEXING), FEEDBACK_MODE_MULTIPLEXING);
+    three.next = five.next = 10; /* 4 and 5 come before 8 */
+    change_refused(three, 0, FEEDBACK_REFUSED_STATE);
+    change_refused(three, 2, FEEDBACK_REFUSED_MODE);
+    change_refused(five, 1, FEEDBACK_REFUSED_MULTIPLEXING);
+    five.next = 0;
+    for (i = 0; i < 16; i++) { /* a remembered mode 1 in configuration 5; from bit 13 on nothing */
+        unsigned refusal = i < FEEDBACK_MEMORY ? FEEDBACK_REFUSED_STATE : FEEDBACK_NOT_REFUSED;
+        five.modes = bit[i];
+        EQUAL(feedback_feed_nothing(five).refusal, refusal);
+        EQUAL(feedback_change_mode(five, 0).refusal, refusal);
+    }
+    EQUAL(feedback_change_mode(five, 0).handset.modes, 32768);
+    EQUAL(feedback_feed_nothing(five).handset.modes, 0);
 }
 
 /* Fed up to subframe 7 as above: with a release in 0, a grant in 1 and a scheduled block in 3. */
@@ -1242,7 +1358,9 @@ static void short_refused(void)
     for (i = 3; i < 7; i++)
         handset = nothing(handset, FEEDBACK_KIND_TAKEN);
     replies(handset, FEEDBACK_KIND_BUNDLED, 47, 1, 0); /* 3 * 11 + 4 + 10; the block's bits */
-    handset.settings.mode = FEEDBACK_MODE_MULTIPLEXING;
+    handset.settings.mode = FEEDBACK_MODE_MULTIPLEXING; /* the window was fed in mode 0 */
+    replies(handset, FEEDBACK_KIND_BUNDLED, 47, 1, 0);
+    handset.modes = 8191; /* and now in mode 1 */
     replies(handset, FEEDBACK_KIND_MULTIPLEXED, 47, 0, 0); /* -N-A is ---A, 00 of 3 */
     handset.past[5].kind = FEEDBACK_SLOT_GRANT;            /* in place of the release */
     refused(handset, feedback_feed_nothing(handset), FEEDBACK_REFUSED_STATE);
@@ -1825,6 +1943,9 @@ int main(int argc, char **argv)
     multiplexed();
     bundled_scheduled();
     multiplexed_scheduled();
+    changed_between();
+    changed_first();
+    changes_refused();
     no_window();
     slept();
     feeds_refused();

@@ -76,6 +76,9 @@ LOOP(claims_bits, feedback_claims_answer,
 LOOP(make, feedback_made, (struct feedback_settings s),
      EACH(i, SETTINGS) sink += call(settings[i]).refusal;)
 
+LOOP(change_mode, feedback_changed, (struct feedback_handset handset, uint16_t mode),
+     EACH(i, HANDSETS) EACH(m, 3) sink += call(handsets[i], (uint16_t)m).refusal;)
+
 LOOP(feed_nothing, feedback_fed, (struct feedback_handset handset),
      EACH(i, HANDSETS) sink += call(handsets[i]).resource;)
 
@@ -240,7 +243,7 @@ static unsigned used(void (*loop)(void), int made)
     return STACK - painted;
 }
 
-static char text[65536];
+static char text[131072];
 
 /* The figure that the header's comment has for a call; 0 if there is none. */
 static unsigned stated(const char *name)
@@ -278,6 +281,7 @@ int main(int argc, char **argv)
     all &= HELD(claims, 8);
     all &= HELD(claims_bits, 8);
     all &= HELD(make, 0);
+    all &= HELD(change_mode, 72);
     all &= HELD(feed_nothing, 72);
     all &= HELD(feed_grant, 72);
     all &= HELD(feed_scheduled, 72);

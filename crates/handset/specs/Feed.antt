@@ -4,9 +4,8 @@ use Prim.Native.Nat.{ℕ, zero, suc, _+_, _%_}
 use mathlib.Core.Bool.{cond}
 use mathlib.Core.List.{_∷_}
 use Rattle.frame.specs.declared.Settings.{Settings}
-use Rattle.frame.specs.Earliest.{earliestOf}
 use Rattle.frame.specs.Layout.{downlink}
-use Rattle.frame.specs.Settings.{orElse, inMode}
+use Rattle.frame.specs.Settings.{orElse}
 use Rattle.reply.specs.declared.Answer.{Answer}
 use Rattle.reply.specs.declared.Answer.the-variants.{Taken, Refused}
 use Rattle.heard.specs.declared.Heard.{Heard}
@@ -17,17 +16,16 @@ use Rattle.reply.specs.Replies.{windowAnswer}
 use Rattle.handset.specs.declared.Fed.{Fed}
 use Rattle.handset.specs.declared.Handset.{Handset}
 use Rattle.handset.specs.Make.{slotsFrom}
-use Rattle.handset.specs.Modes.{modeAgo, modesPushed}
+use Rattle.handset.specs.Modes.{modesPushed, settingsThen}
 use Rattle.handset.specs.Sound.{stateRefusal}
 
 -- Feeding a downlink subframe answers "taken"; an uplink one what its window says of the subframes before it.
 unfoldable pub answerOf : Settings → ℕ → (ℕ → View) → Answer
 answerOf s n view = cond (downlink (s .config) n) Taken (windowAnswer s n view)
 
--- The settings in which the window of the subframe that is expected is answered: U8, "in the mode that stood when its earliest
--- downlink subframe was fed".
+-- The settings in which the window of the subframe that is expected is answered.
 unfoldable pub windowSettings : Handset → Settings
-windowSettings h = inMode (h .settings) (modeAgo (h .modes) (earliestOf (h .settings .config) (h .next)))
+windowSettings h = settingsThen (h .settings) (h .next) (h .modes)
 
 -- The answer of a state at the subframe it expects.
 unfoldable pub nextAnswer : Handset → Answer

@@ -117,7 +117,8 @@ fn next_answer(h: Handset) -> Answer
         return Answer::Taken;
     }
     let past = h.past;
-    reply::answer_in(window_settings(h), h.next, past)
+    let then = window_settings(s, h.next, h.modes);
+    reply::answer_in(then, h.next, past)
 }
 
 // 8, then 9, 20, 10 to 12 and 18 for what is brought in the subframe that is expected; 0 if the feed is not refused.

@@ -1,10 +1,8 @@
 // The modes that a handset remembers, a bit for each of its 13 subframes (document 02, U8).
-use crate::Handset;
 use frame::Settings;
 ghost use mathlib.Core.Path.{_≡_};
 ghost use Prim.Native.Nat.{_≤_};
-ghost use Rattle.handset.specs.Feed.{windowSettings};
-ghost use Rattle.handset.specs.Modes.{modeAgo, modesBefore, modesSound};
+ghost use Rattle.handset.specs.Modes.{modeAgo, modesBefore, modesSound, settingsThen};
 
 // The mode that stood when the subframe k ago was fed; with k = 0, which no window has, that of the newest.
 fn mode_ago(modes: u16, k: u16) -> u16
@@ -35,12 +33,11 @@ pub fn modes_sound(s: Settings, modes: u16) -> bool
     (modes % 8192 == 0) | (other == 0)
 }
 
-// The settings in which the window of the subframe that is expected is answered.
-pub fn window_settings(h: Handset) -> Settings
-    ensures { λ r. ⌜ r ≡ windowSettings h ⌝ }
+// The settings in which the window of subframe n is answered: in the mode of its earliest subframe.
+pub fn window_settings(s: Settings, n: u16, modes: u16) -> Settings
+    ensures { λ r. ⌜ r ≡ settingsThen s n modes ⌝ }
 {
-    let s = h.settings;
-    let k = frame::earliest_of(s.config, h.next);
-    let mode = mode_ago(h.modes, k);
+    let k = frame::earliest_of(s.config, n);
+    let mode = mode_ago(modes, k);
     frame::in_mode(s, mode)
 }

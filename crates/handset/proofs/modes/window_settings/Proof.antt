@@ -6,16 +6,13 @@ use Rattle.frame.specs.declared.Settings.{Settings}
 use Rattle.frame.specs.Earliest.{earliestOf}
 use Rattle.frame.specs.Settings.{inMode}
 use Rattle.frame.proofs.Earliest.{earliest-most}
-use Rattle.handset.specs.declared.Handset.{Handset}
-use Rattle.handset.specs.Feed.{windowSettings}
-use Rattle.handset.specs.Modes.{modeAgo}
+use Rattle.handset.specs.Modes.{modeAgo, settingsThen}
 use Rattle.handset.proofs.modes.window_settings.Statement.{statement}
 use Rattle.handset.proofs.modes.window_settings.Tie as tie
 
-same : (h : Handset) (k : ℕ) → k ≡ earliestOf (h .settings .config) (h .next) → (mode : ℕ) → mode ≡ modeAgo (h .modes) k
-    → (s : Settings) → s ≡ inMode (h .settings) mode → s ≡ windowSettings h
-unfolding windowSettings
-same h k e mode f s g = g ∙ rw (f, e)
+same : (s : Settings) (n modes k : ℕ) → k ≡ earliestOf (s .config) n → (mode : ℕ) → mode ≡ modeAgo modes k
+    → (r : Settings) → r ≡ inMode s mode → r ≡ settingsThen s n modes
+same s n modes k e mode f r g = g ∙ rw (f, e)
 
 reached : (c n k : ℕ) → k ≡ earliestOf c n → k ≤ 13
 reached c n k e = rw e (earliest-most c n)
@@ -30,7 +27,7 @@ in-mode-requires : tie.Need-in-mode-requires
 in-mode-requires c κs = search needs
 
 returns : tie.Need-returns
-returns c = same _ _ (c .before .before .earliest-of .ensures) _ (c .before .mode-ago .ensures) _ (c .in-mode .ensures)
+returns c = same (c .before .before .before .args .s) _ _ _ (c .before .before .earliest-of .ensures) _ (c .before .mode-ago .ensures) _ (c .in-mode .ensures)
 
 pub window-settings-spec : {M : Type 1} → statement M
 window-settings-spec = tie.close (tie.spec earliest-of-requires mode-ago-requires in-mode-requires returns)
