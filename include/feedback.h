@@ -628,9 +628,9 @@ struct feedback_inverse_answer feedback_inverse(struct feedback_settings setting
  *
  *   settings             the settings of the handset that replied. settings.mode is the
  *                        mode of THIS window: the one that stood when its earliest
- *                        subframe was fed, and not a later one. There is no other way
- *                        to tell the mode. feedback_window tells which subframe that
- *                        is, k[order[0]] before n
+ *                        subframe was fed, k[order[0]] of feedback_window before n, or
+ *                        where that lies before the start, the one that the handset
+ *                        was made with. No other argument tells the mode
  *   n                    the uplink subframe of the reply, 0 to 9, one with a window
  *   scheduled_position   the position m of the scheduled block that was SENT to this
  *                        handset in the window of n, heard or not, 0 to M - 1, and
@@ -806,10 +806,11 @@ struct feedback_made feedback_make(struct feedback_settings settings);
  * The subframes that are fed from now on are fed in the new mode. Nothing else moves:
  * the handset expects the same subframe as before, and a window whose earliest subframe
  * was fed already is answered in the mode that stood then, however late. The mode counts
- * at the feed: of two changes between two feeds the second counts, and a change to the
- * mode that stands changes nothing. Windows that begin before the first feed are answered
- * in the mode of feedback_make, also after a change that comes before it. The station
- * reads each reply in the mode of its window: see feedback_reading.
+ * at the feed: of several changes between two feeds the last that is not refused counts,
+ * and a change to the mode that stands changes nothing. Windows that begin before the
+ * first feed are answered in the mode of feedback_make, also after a change that comes
+ * before it. The station reads each reply in the mode of its window: see
+ * feedback_reading.
  *
  * Refuses 4 and 5 for the new mode with the other settings of the handset, then 8. The
  * handset of the answer is then the one given, byte for byte: the old mode stands.

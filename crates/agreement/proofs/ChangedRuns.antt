@@ -15,8 +15,8 @@ use Rattle.agreement.proofs.Worked.{Run, Worked, worked, Left, changesO
 abbrev pub Changes : Run → List ℕ → Type 0
 Changes r refusals = changesOf (makeOf (r .set) .handset) (r .items) ≡ refusals
 
-abbrev pub InMode : Run → ℕ → ℕ → Type 0
-InMode r s mode = windowMode (r .set) (r .items) s ≡ mode
+abbrev pub HasMode : Run → ℕ → ℕ → Type 0
+HasMode r s mode = windowMode (r .set) (r .items) s ≡ mode
 
 -- Configuration 3, made in mode 0: the window of subframe 12 is 5, 6 and 1, that of 13 is 7 and 8, that of 14 is 9 and 10. The mode is
 -- changed to 1 after subframe 1, while the window of 12 is open, and back to 0 after subframe 8, while those of 12 and 13 are. So 12 is
@@ -45,7 +45,7 @@ pub between-changes : Changes betweenWindows (0 ∷ 0 ∷ [])
 unfolding handsets
 between-changes = refl
 
-pub between-modes : InMode betweenWindows 12 0 × InMode betweenWindows 13 1 × InMode betweenWindows 14 0
+pub between-modes : HasMode betweenWindows 12 0 × HasMode betweenWindows 13 1 × HasMode betweenWindows 14 0
 unfolding schedules
 between-modes = (refl, refl, refl)
 
@@ -71,7 +71,7 @@ pub first-changes : Changes changedFirst (0 ∷ [])
 unfolding handsets
 first-changes = refl
 
-pub first-modes : InMode changedFirst 7 1 × InMode changedFirst 12 0
+pub first-modes : HasMode changedFirst 7 1 × HasMode changedFirst 12 0
 unfolding schedules
 first-modes = (refl, refl)
 
@@ -114,3 +114,7 @@ afterRefused =
 pub after-refused : Worked afterRefused
 unfolding handsets stations
 after-refused = worked afterRefused refl tt tt refl refl
+
+pub refused-and-changed : Changes afterRefused (0 ∷ []) × HasMode afterRefused 7 1
+unfolding handsets
+refused-and-changed = (refl, refl)

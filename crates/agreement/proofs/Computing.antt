@@ -1,7 +1,7 @@
 -- The definitions that a worked run computes with, under two names for an `unfolding` line.
 -- Assumes nothing.
 use Rattle.frame.specs.Distance.{distanceUpTo, distanceOf, subframeOf, shares}
-use Rattle.frame.specs.Earliest.{earliestOf}
+use Rattle.frame.specs.Earliest.{earliestK}
 use Rattle.frame.specs.Layout.{layouts, letterOf, downlink, isSpecial}
 use Rattle.frame.specs.Order.{timesOf, orderOf}
 use Rattle.frame.specs.Settings.{bundles, cellRefusal, modeRefusal, blocksRefusal, hasScheduled, scheduledRefusal, laterRefusal, settingsRefusal, noWindowRefusal, windowRefusal}
@@ -27,9 +27,9 @@ unfoldable pub schedules : Unit {0}
 unfolding layouts letterOf downlink isSpecial timesOf cellRefusal modeRefusal blocksRefusal hasScheduled scheduledRefusal specialRefusal laterRefusal settingsRefusal noWindowRefusal windowRefusal table windowOf distanceUpTo distanceOf subframeOf shares edge noPdsch tooShort uplinkRefusal shortRefusal dataRefusal carriedRefusal pdcchRefusal unsetRefusal heardRefusal blockBefore secondRefusal causeOf
 schedules = tt
 
--- The handset's half: making and feeding.
+-- The handset's half: making, feeding and changing mode.
 unfoldable pub handsets : Unit {0}
-unfolding schedules orderOf earliestOf bundles pairRefusal resourceOf regionOf resourceNumber symbolOf tableOf table2 table3 table4 viewOf slotOf heardIn viewIn viewAgo blockAgo stepOf seenFrom seenOf replyOn expected missShown secondBit loneAnswer bundledAnswer stateOf carrierOf windowState symbolAnswer multiplexedAnswer windowAnswer answerOf modeAgo windowSettings nextAnswer pushed feedRefusal feedOf changeRefusal changeOf fresh makeOf modesSound slotSound allSound stateSound stateRefusal
+unfolding schedules orderOf earliestK bundles pairRefusal resourceOf regionOf resourceNumber symbolOf tableOf table2 table3 table4 viewOf slotOf heardIn viewIn viewAgo blockAgo stepOf seenFrom seenOf replyOn expected missShown secondBit loneAnswer bundledAnswer stateOf carrierOf windowState symbolAnswer multiplexedAnswer windowAnswer answerOf modeAgo windowSettings nextAnswer pushed feedRefusal feedOf changeRefusal changeOf fresh makeOf modesSound slotSound allSound stateSound stateRefusal
 handsets = tt
 
 -- The station's half: inverse and reading.

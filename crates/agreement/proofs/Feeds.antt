@@ -12,7 +12,7 @@ use lib.ListN.{length, getD, List·getD-eq-default}
 use borrow.Author.Tests.{eq-eqb, ne-eqb, le-leb, lt-leb}
 use Rattle.frame.specs.declared.Settings.{Settings}
 use Rattle.frame.specs.Distance.{before, subframeOf}
-use Rattle.frame.specs.Earliest.{earliestOf}
+use Rattle.frame.specs.Earliest.{earliestK}
 use Rattle.frame.specs.Layout.{downlink}
 use Rattle.frame.specs.Settings.{modeRefusal, hasScheduled, bundles, settingsRefusal, inMode}
 use Rattle.frame.specs.Special.{tooShort}
@@ -296,7 +296,7 @@ module _ (set : Settings) (good : settingsRefusal set ≡ 0) (sent : ℕ → Sen
     stood-then : window-mode ≡ getD ms (earliest - 1) (set .mode)
     stood-then = rw (history .same) at (ago-past (set .mode) modes ms (history .stood) earliest least)
 
-    remembered : modeAgo (modesAfter (set .mode) ms) (earliestOf (set .config) now) ≡ window-mode
+    remembered : modeAgo (modesAfter (set .mode) ms) (earliestK (set .config) now) ≡ window-mode
     remembered =
         ap (modeAgo (modesAfter (set .mode) ms)) (earliest-largest (set .config) now)
         ∙ modes-at set good ms (history .allowed .1) earliest least most ∙ sym stood-then

@@ -10,7 +10,7 @@ use lib.Dec.{T, eqb, leb, eqb→eq}
 use lib.ListN.{length, getD}
 use borrow.Author.Tests.{eqb-true}
 use Rattle.frame.specs.declared.Settings.{Settings}
-use Rattle.frame.specs.Earliest.{earliestOf}
+use Rattle.frame.specs.Earliest.{earliestK}
 use Rattle.frame.specs.Order.{timesOf}
 use Rattle.frame.specs.Settings.{modeRefusal, hasScheduled, settingsRefusal, inMode}
 use Rattle.frame.specs.Special.{tooShort}
@@ -48,8 +48,8 @@ largest-tested : T (everyRow (λ c n ks. eqb (getD (timesOf ks) 0 0) (largest ks
 unfolding table timesOf
 largest-tested = tt
 
-pub earliest-largest : (c n : ℕ) → earliestOf c n ≡ largest (windowOf c n)
-unfolding earliestOf timesOf
+pub earliest-largest : (c n : ℕ) → earliestK c n ≡ largest (windowOf c n)
+unfolding earliestK timesOf
 earliest-largest c n = eqb→eq _ _ (window-passes _ largest-tested c n tt)
 
 -- 4 and 5 allow every mode of a list.

@@ -10,7 +10,7 @@ use lib.ListN.{getD}
 use Rattle.frame.specs.declared.Settings.{Settings}
 use Rattle.frame.specs.Distance.{subframeOf, answeredRefusal, answeredOf}
 use Rattle.frame.specs.Layout.{isSpecial}
-use Rattle.frame.specs.Earliest.{earliestOf}
+use Rattle.frame.specs.Earliest.{earliestK}
 use Rattle.frame.specs.Settings.{modeRefusal, bundles, hasScheduled, settingsRefusal, inMode, windowRefusal}
 use Rattle.frame.specs.Special.{noPdsch, tooShort}
 use Rattle.frame.specs.Table.{windowOf}
@@ -216,7 +216,7 @@ module _ (s : Settings) (prefix special : ℕ) (good : settingsRefusal s ≡ 0) 
     next-alike : nextAnswer first ≡ nextAnswer second
     unfolding nextAnswer answerOf windowSettings
     next-alike =
-        let m : ℕ = modeAgo modes (earliestOf (s .config) next) in
+        let m : ℕ = modeAgo modes (earliestK (s .config) next) in
         rw (answer-alike (inMode s m) prefix special (in-mode-alike m) next (viewAgo past))
 
     refusal-alike : feedRefusal first x ≡ feedRefusal second x

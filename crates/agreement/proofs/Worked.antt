@@ -1,6 +1,6 @@
 -- Runs that meet the hypotheses of demand 3, each with every answer and with the station's reading of every reply: the theorem is
--- about something. Those with changes of mode are in ChangedRuns.antt. N_RB 50, N1 10; the scheduled resource, where one is set, is 7. The prefix is normal and the special configuration
--- 7, which allows data, but in the cells that are named short.
+-- about something. Those with changes of mode are in ChangedRuns.antt. N_RB 50, N1 10; the scheduled resource, where one is set, is 7.
+-- The prefix is normal and the special configuration 7, which allows data, but in the cells that are named short.
 -- Assumes nothing.
 use Prim.Native.Nat.{ℕ, suc, zero, _+_, _<_}
 use mathlib.Core.Bool.{Bool, true, false}

@@ -125,12 +125,12 @@ not-ignores d = omega (arith, in-between-second (changedBy ignores) d .1 _ refl 
 abbrev pub countsChange : Handset → ℕ → Changed
 countsChange = changesTo (λ h m. record { settings = inMode (h .settings) m; next = (h .next + 1) % 10; modes = h .modes; past = h .past })
 
--- After two changes it takes subframe 11 for 13, which is uplink.
+-- After one change it takes subframe 1 for 2, which is uplink, and is silent.
 pub not-counts-change : Demand3 (changedBy countsChange) → ⊥
 unfolding handsets
 not-counts-change d =
-    let t = holds-in (changedBy countsChange) d betweenWindows between-windows .taken 13 11 Nothing (fed-nothing-at betweenWindows 13 11 (omega arith) refl refl) refl in
-    omega (arith, same-answer refl t)
+    let t = holds-in (changedBy countsChange) d changedFirst changed-first .taken 2 1 Nothing (fed-nothing-at changedFirst 2 1 (omega arith) refl refl) refl in
+    omega (arith, same-answer {b = answer.Silent} refl t)
 
 -- A refused change is kept: the new mode stands, though its number is answered.
 abbrev pub keepsRefused : Handset → ℕ → Changed
@@ -146,7 +146,7 @@ not-keeps-refused d =
 abbrev saysInstead : (ℕ → ℕ) → Handset → ℕ → Changed
 saysInstead number h m = record { refusal = number (changeOf h m .refusal); handset = changeOf h m .handset }
 
--- 5 is not known: mode 1 in configuration 5 is not refused.
+-- 5 is not answered: a change to mode 1 in configuration 5 leaves the handset and answers 0.
 abbrev pub acceptsFive : Handset → ℕ → Changed
 acceptsFive = saysInstead (λ (k : ℕ). cond (eqb k 5) 0 k)
 
@@ -164,7 +164,7 @@ unfolding handsets
 not-five-for-four d =
     omega (arith, holds-in (changedBy fiveForFour) d refusedChanges refused-changes .changedExactly 2 2 (record { inside = omega arith; changes = refl }))
 
--- 8 for a change while a window is open.
+-- 8 for a change while something heard is remembered.
 abbrev pub refusesOpen : Handset → ℕ → Changed
 refusesOpen h m = record { refusal = cond (noneHeard (h .past)) (changeOf h m .refusal) 8; handset = cond (noneHeard (h .past)) (changeOf h m .handset) h }
 

@@ -98,8 +98,8 @@
 -- `isSymbol`, since the tables give no other (`index-inside` in MultiplexedWindow.antt). That m is one, `m < length ks` in `isRead` and
 -- `alone`, follows from the part beside it, `getD ks m 0 ≡ k`: beyond the list getD gives 0, and no k of a window is 0. It stays, said
 -- outright. `refusedExactly` is broken by no engine alone: of accepted settings it follows from the other fields of HoldsAfter, for a
--- feed whose cause is met is refused by `leaves`, and any other is answered by one of the four after it. It stays, since it is 01's
--- sentence.
+-- feed whose cause is met is refused by `leaves`, and any other is answered by `taken`, `noWindow`, `bundled` or `multiplexed`. It
+-- stays, since it is 01's sentence.
 -- Assumes nothing.
 use Prim.Native.Nat.{ℕ, _+_, _%_, _<_}
 use mathlib.Core.Bool.{Bool, true, false, cond, false≢true}
@@ -141,7 +141,7 @@ use Rattle.agreement.proofs.Finite.{sending}
 use Rattle.agreement.proofs.SameModes.{AllFeeds, made-mode, made-settings}
 use Rattle.agreement.proofs.Worked.{Run, Worked, fed-nothing, allHeard, all-heard, missed, first-missed, oneUndecoded, one-undecoded, twoWindows, two-windows, shared, symbol-shared, loneBlock, lone-block, blockLast, block-last, missedWithBlock, missed-with-block, releaseLast, release-last, blockAtIndex, block-at-index, releaseAtIndex, release-at-index, shortMultiplexed, short-multiplexed}
 
--- The engine of this repository, with another making, feeding, change of mode, resource call, inverse or reading.
+-- The engine of this repository, with another making, feeding, resource call, inverse or reading; with another change of mode.
 abbrev pub engine : (Settings → Made) → (Handset → Heard → Fed) → (Settings → ℕ → ℕ → ℕ → Mapped) → (Settings → ℕ → ℕ → Inverted)
     → (Settings → ℕ → Told → ℕ → ℕ → ℕ → Reading) → Engine
 engine make step onto back read = record { make = make; feed = step; change = changeOf; resource = onto; inverse = back; read = read }

@@ -9,7 +9,7 @@ use Rattle.frame.specs.declared.Window.{Window}
 use Rattle.frame.specs.declared.table.Order.{Order}
 use Rattle.frame.specs.declared.table.Row.{Row}
 use Rattle.frame.specs.Distance.{distanceOf, answeredPosition}
-use Rattle.frame.specs.Earliest.{earliestOf}
+use Rattle.frame.specs.Earliest.{earliestK}
 use Rattle.frame.specs.Layout.{Letter, D, S, U, letterOf, downlink}
 use Rattle.frame.specs.Order.{orderOf}
 use Rattle.frame.specs.Table.{windowOf}
@@ -61,7 +61,7 @@ sizeDigits c = digits 10 (λ (n : ℕ). length (windowOf c n))
 
 -- how far before each of a configuration's ten subframes its window begins
 unfoldable pub earliestDigits : ℕ → ℕ
-earliestDigits c = digits 10 (earliestOf c)
+earliestDigits c = digits 10 (earliestK c)
 
 -- how far after each of a configuration's ten subframes its answer stands
 unfoldable pub distanceDigits : ℕ → ℕ

@@ -1,4 +1,5 @@
--- Settings and their refusals: document 01, "Settings" and "Causes and their numbers", 1 to 7; document 02, U1, 17, and U2, 19.
+-- Settings and their refusals: document 01, "Settings" and "Causes and their numbers", 1 to 7; document 02, U1, 17, U2, 19,
+-- and U8.
 -- Assumes nothing.
 use Prim.Native.Nat.{ℕ, suc}
 use mathlib.Core.Bool.{Bool, cond, not, _&&_, _||_}

@@ -1,5 +1,5 @@
-// Settings and their refusals (document 01, "Settings"; refusals 1 to 7; document 02, U1, 17, and U2, 19), and which reply a window
-// takes.
+// Settings and their refusals (document 01, "Settings"; refusals 1 to 7; document 02, U1, 17, U2, 19), the settings in another mode (U8), and
+// which reply a window takes.
 use crate::Settings;
 use crate::special::special_refusal;
 use crate::table::size_of;

@@ -6,7 +6,7 @@ ghost use mathlib.Core.Path.{_≡_};
 ghost use lib.ListN.{length};
 ghost use Rattle.frame.specs.Coded.{layoutDigits, sizeDigits, earliestDigits, distanceDigits, positionDigits, codedPosition, codedK, codedOrder, codedWindow};
 ghost use Rattle.frame.specs.Distance.{distanceOf};
-ghost use Rattle.frame.specs.Earliest.{earliestOf};
+ghost use Rattle.frame.specs.Earliest.{earliestK};
 ghost use Rattle.frame.specs.Layout.{downlink, isSpecial};
 ghost use Rattle.frame.specs.Table.{windowOf};
 
@@ -204,8 +204,8 @@ pub fn size_of(config: u16, n: u16) -> u16
 }
 
 // How many subframes before n the earliest one of its window is; 0 where there is no window, outside the table too.
-pub fn earliest_of(config: u16, n: u16) -> u16
-    ensures { λ r. ⌜ r ≡ earliestOf config n ⌝ }
+pub fn earliest_k(config: u16, n: u16) -> u16
+    ensures { λ r. ⌜ r ≡ earliestK config n ⌝ }
 {
     if 9 < n {
         return 0;

@@ -9,7 +9,7 @@ use native.Mathlib.Omega.{arith}
 use lib.ListN.{getD}
 use Rattle.frame.specs.declared.Settings.{Settings}
 use Rattle.frame.specs.Distance.{before}
-use Rattle.frame.specs.Earliest.{earliestOf}
+use Rattle.frame.specs.Earliest.{earliestK}
 use Rattle.frame.specs.Settings.{settingsRefusal, windowRefusal}
 use Rattle.frame.specs.Table.{windowOf}
 use Rattle.frame.proofs.Accepted.{accepted as asAccepted, accepting, accepted-in}
@@ -54,7 +54,7 @@ module _ (h : Handset) (accepted : stateRefusal h ≡ 0) (window : 0 < sizeOf (h
   unfolding windowSettings
   settings-accepted =
       let c : ℕ = h .settings .config in
-      let k : ℕ = earliestOf c (h .next) in
+      let k : ℕ = earliestK c (h .next) in
       accepted-in (h .settings) (modeAgo (h .modes) k) (accepting (h .settings) (sound h accepted .settings))
       (modes-exactly (h .settings) (h .modes) .0 (sound h accepted .modes) k (earliest-least c (h .next) window) (earliest-most c (h .next)))
 

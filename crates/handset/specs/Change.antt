@@ -10,7 +10,7 @@ use Rattle.handset.specs.Sound.{stateRefusal}
 unfoldable pub changeRefusal : Handset → ℕ → ℕ
 changeRefusal h mode = orElse (modeRefusal (inMode (h .settings) mode)) (stateRefusal h)
 
--- The new mode stands from now on; nothing else moves, and the modes of the subframes fed before least of all.
+-- The new mode stands from now on. Nothing else moves: the modes of the subframes that were fed before stay too.
 abbrev pub inNewMode : Handset → ℕ → Handset
 inNewMode h mode = record { settings = inMode (h .settings) mode; next = h .next; modes = h .modes; past = h .past }
 

@@ -16,7 +16,7 @@ use Rattle.reply.specs.Replies.{windowAnswer}
 use Rattle.handset.specs.declared.Fed.{Fed}
 use Rattle.handset.specs.declared.Handset.{Handset}
 use Rattle.handset.specs.Make.{slotsFrom}
-use Rattle.handset.specs.Modes.{modesPushed, settingsThen}
+use Rattle.handset.specs.Modes.{modesPushed, inWindowMode}
 use Rattle.handset.specs.Sound.{stateRefusal}
 
 -- Feeding a downlink subframe answers "taken"; an uplink one what its window says of the subframes before it.
@@ -25,7 +25,7 @@ answerOf s n view = cond (downlink (s .config) n) Taken (windowAnswer s n view)
 
 -- The settings in which the window of the subframe that is expected is answered.
 unfoldable pub windowSettings : Handset → Settings
-windowSettings h = settingsThen (h .settings) (h .next) (h .modes)
+windowSettings h = inWindowMode (h .settings) (h .next) (h .modes)
 
 -- The answer of a state at the subframe it expects.
 unfoldable pub nextAnswer : Handset → Answer

@@ -6,7 +6,7 @@ use mathlib.Core.Bool.{Bool, cond, _||_}
 use mathlib.Core.Path.{_≡_}
 use lib.Dec.{eqb}
 use Rattle.frame.specs.declared.Settings.{Settings}
-use Rattle.frame.specs.Earliest.{earliestOf}
+use Rattle.frame.specs.Earliest.{earliestK}
 use Rattle.frame.specs.Settings.{modeRefusal, inMode}
 
 -- The mode that stood when the subframe k ago was fed, k from 1 to 13.
@@ -29,6 +29,6 @@ modesSound s modes = eqb (modes % 8192) 0 || eqb (modeRefusal (inMode s 1)) 0
 abbrev pub ModesFit : Settings → ℕ → Type 0
 ModesFit s modes = (k : ℕ) → 1 ≤ k → k ≤ 13 → modeRefusal (inMode s (modeAgo modes k)) ≡ 0
 
--- The settings in which the window of subframe n is answered: U8, "in the mode that stood when its earliest downlink subframe was fed".
-abbrev pub settingsThen : Settings → ℕ → ℕ → Settings
-settingsThen s n modes = inMode s (modeAgo modes (earliestOf (s .config) n))
+-- Settings in the mode of the window of subframe n: U8, "the mode that stood when its earliest downlink subframe was fed".
+abbrev pub inWindowMode : Settings → ℕ → ℕ → Settings
+inWindowMode s n modes = inMode s (modeAgo modes (earliestK (s .config) n))

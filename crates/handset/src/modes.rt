@@ -2,7 +2,7 @@
 use frame::Settings;
 ghost use mathlib.Core.Path.{_≡_};
 ghost use Prim.Native.Nat.{_≤_};
-ghost use Rattle.handset.specs.Modes.{modeAgo, modesBefore, modesSound, settingsThen};
+ghost use Rattle.handset.specs.Modes.{modeAgo, modesBefore, modesSound, inWindowMode};
 
 // The mode that stood when the subframe k ago was fed; with k = 0, which no window has, that of the newest.
 fn mode_ago(modes: u16, k: u16) -> u16
@@ -35,9 +35,9 @@ pub fn modes_sound(s: Settings, modes: u16) -> bool
 
 // The settings in which the window of subframe n is answered: in the mode of its earliest subframe.
 pub fn window_settings(s: Settings, n: u16, modes: u16) -> Settings
-    ensures { λ r. ⌜ r ≡ settingsThen s n modes ⌝ }
+    ensures { λ r. ⌜ r ≡ inWindowMode s n modes ⌝ }
 {
-    let k = frame::earliest_of(s.config, n);
+    let k = frame::earliest_k(s.config, n);
     let mode = mode_ago(modes, k);
     frame::in_mode(s, mode)
 }

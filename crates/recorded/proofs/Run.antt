@@ -33,11 +33,12 @@ use Rattle.replaying.specs.Written.{bytesOf}
 use Rattle.replaying.proofs.Feeds.{taken-up, grows}
 use Rattle.replaying.proofs.Brought.{brought-length, brought-at}
 use Rattle.agreement.specs.Demand3.{causeAt}
-use Rattle.agreement.specs.Run.{Item, feed, itemAt, handsetAfter, causeAfter, heardFrom, heardInRun}
+use Rattle.agreement.specs.Run.{Item, feed, itemAt, handsetAfter, causeAfter, heardFrom, heardInRun, settingsIn}
 use Rattle.agreement.proofs.Demand3.{demand3}
 use Rattle.agreement.proofs.Feeds.{causeIn, Past, cause-past}
 use Rattle.agreement.proofs.Memory.{ValidPast, unchanged, accepted-unchanged, refused-unchanged, made-fresh}
-use Rattle.recorded.specs.Run.{feedsFrom, runOf, answerTo, bytesFrom, IsRun}
+use Rattle.agreement.proofs.SameModes.{AllFeeds, made-settings}
+use Rattle.recorded.specs.Run.{unlessRefused, feedsFrom, runOf, answerTo, bytesFrom, IsRun}
 
 not-refused : (a : Answer) → ((k : ℕ) → a ≡ answer.Refused k → ⊥) → refusalIn a ≡ 0
 not-refused answer.Taken h = refl
@@ -277,6 +278,16 @@ module _ (set : Settings) (good : settingsRefusal set ≡ 0) where
             (record { item = refl; count = refl; cause = here ∙ e ∙ rw (eq-eqb (length l + 0) (length l) (add-zero (length l))); refused = refusal-after l valid x ∙ sym here })
         go (suc k) e (suc i) h next = absurd (omega (arith, rw (feeds-last x xs l valid k e) at h))
 
+-- They are feeds, and no changes of mode.
+all-feeds : (h : Handset) (xs : List Heard) → AllFeeds (feedsFrom h xs)
+unfolding feedsFrom
+all-feeds h [] = tt
+all-feeds h (x ∷ xs) = go (refusalIn (feedOf h x .answer)) (all-feeds (feedOf h x .handset) xs)
+  where
+    go : (k : ℕ) → AllFeeds (feedsFrom (feedOf h x .handset) xs) → AllFeeds (unlessRefused k (feedsFrom (feedOf h x .handset) xs))
+    go zero rest = rest
+    go (suc k) rest = tt
+
 answer-with : (h h′ : Handset) (items items′ : List Item) (x x′ : Heard) (i : ℕ) → h ≡ h′ → items ≡ items′ → x ≡ x′
     → feedOf (handsetAfter feedOf changeOf h (take i items)) x .answer ≡ feedOf (handsetAfter feedOf changeOf h′ (take i items′)) x′ .answer
 answer-with h h′ items items′ x x′ i e f g = cc
@@ -341,6 +352,10 @@ module _ (l : List ℕ) (good : settingsRefusal (settingsOf l) ≡ 0) where
       let z : 8 * windowsBefore (set .config) i - 0 ≡ 8 * windowsBefore (set .config) i = omega arith in
       rw (zero-add i, z, ← play-is) at q
 
+  one-mode : (s : ℕ) → settingsIn set (runOf l) s ≡ set
+  unfolding runOf
+  one-mode s = made-settings set (runOf l) (all-feeds (makeOf set .handset) (broughtIn l)) s
+
   pub is-run : IsRun l
   unfolding broughtIn
   is-run =
@@ -354,5 +369,6 @@ module _ (l : List ℕ) (good : settingsRefusal (settingsOf l) ≡ 0) where
         window = windows;
         output = λ old e. outputs old e ∙ ap (λ (b : List ℕ). written b old) printed;
         told = tells;
+        mode = one-mode;
         holds = λ sent schedule brings. demand3 .run set good sent schedule (runOf l) brings;
       }

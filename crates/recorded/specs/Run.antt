@@ -20,7 +20,7 @@ use Rattle.replaying.specs.Replay.{refusalIn, broughtIn, playedIn, startRefusal
 use Rattle.replaying.specs.Written.{bytesOf}
 use Rattle.spelling.specs.OneSpelling.{traceWriter, Writes, bytesWritten}
 use Rattle.agreement.specs.Demand3.{feedbackEngine, fedAt, IsFeed, causeAt, HoldsAfter}
-use Rattle.agreement.specs.Run.{Item, feed, subframeAt, Schedule, BringsSent}
+use Rattle.agreement.specs.Run.{Item, feed, subframeAt, settingsIn, Schedule, BringsSent}
 
 -- After a feed that is refused no more are made.
 abbrev pub unlessRefused : ℕ → List Item → List Item
@@ -62,6 +62,8 @@ pub record IsRun (l : List ℕ) : Type 0 where
   -- and that is what a replay with room enough leaves in its output, and what it tells
   pub output : (old : List ℕ) → startRefusal l (length old) ≡ 0 → outputOf l old ≡ written (bytesFrom (answerTo l) 0 (length (runOf l))) old
   pub told : (room : ℕ) → startRefusal l room ≡ 0 → replayOf l room ≡ endedAs (playedIn l)
+  -- every window of it is answered and read in the mode of the trace's settings, since a trace has no changes of mode (U8)
+  pub mode : (s : ℕ) → settingsIn (settingsOf l) (runOf l) s ≡ settingsOf l
   -- and demand 3 holds of it, for every schedule that its feeds bring
   pub holds : (sent : ℕ → Send) → Schedule (settingsOf l) sent → BringsSent (settingsOf l) sent (runOf l)
       → HoldsAfter feedbackEngine (settingsOf l) sent (runOf l)

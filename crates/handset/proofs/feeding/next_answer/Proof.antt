@@ -10,7 +10,7 @@ use Rattle.heard.specs.Memory.{viewAgo}
 use Rattle.reply.specs.Replies.{windowAnswer}
 use Rattle.handset.specs.declared.Handset.{Handset}
 use Rattle.handset.specs.Feed.{answerOf, windowSettings, nextAnswer}
-use Rattle.handset.specs.Modes.{settingsThen}
+use Rattle.handset.specs.Modes.{inWindowMode}
 use Rattle.handset.proofs.feeding.next_answer.Statement.{statement}
 use Rattle.handset.proofs.feeding.next_answer.Tie as tie
 
@@ -18,7 +18,7 @@ taken : (h : Handset) → downlink (h .settings .config) (h .next) ≡ true → 
 unfolding nextAnswer answerOf windowSettings
 taken h e = rw e
 
-answered : (h : Handset) (s : Settings) (a : Answer) → downlink (h .settings .config) (h .next) ≡ false → s ≡ settingsThen (h .settings) (h .next) (h .modes)
+answered : (h : Handset) (s : Settings) (a : Answer) → downlink (h .settings .config) (h .next) ≡ false → s ≡ inWindowMode (h .settings) (h .next) (h .modes)
     → a ≡ windowAnswer s (h .next) (viewAgo (h .past)) → a ≡ nextAnswer h
 unfolding nextAnswer answerOf windowSettings
 answered h s a e g f = rw (e, ← g) f
