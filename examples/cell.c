@@ -1,7 +1,8 @@
 /*
- * A worked cell in three parts: a station that sends grants, scheduled blocks and releases and
- * reads the replies, a radio that loses some on the way to the handset, and a check that sees both.
- * A line for each window; it fails if a block leaves the station's retransmission buffer undecoded.
+ * A worked cell: a station that sends grants, scheduled blocks and releases and reads the replies,
+ * a radio that loses some on the way to the handset, higher layers that change the mode, and a
+ * check that sees both ends. A line for each window and each change; it fails if a block leaves the
+ * station's retransmission buffer undecoded.
  *   cc -std=c11 -I include -o cell examples/cell.c target/staticlib/libfeedback.a
  *   ./cell 5 0 40 50 7   configuration 5, mode 0 (bundling), 40 frames, 50 % lost, seed 7
  */
@@ -31,7 +32,10 @@ static uint16_t draw(uint32_t *random, unsigned limit)
     return (uint16_t)((*random >> 16) % limit);
 }
 
-/* Ends the program on a refusal: once the settings are accepted, that is a fault of this file. */
+/*
+ * Ends the program on a refusal: once the settings, and the mode that they change to, are accepted,
+ * that is a fault of this file.
+ */
 static void accepted(uint16_t refusal)
 {
     if (refusal == FEEDBACK_NOT_REFUSED)

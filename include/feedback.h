@@ -116,6 +116,8 @@
  * either order, and bytes that are in no part are ignored. No two parts share a byte,
  * and none leaves the file. The records follow one another: record 0 is subframe 0 of a
  * frame, record i is subframe i modulo 10. Numbers of two bytes have the low byte first.
+ * A trace has one mode, that of its settings: no record changes it, and every window of
+ * its replay is answered in it.
  *
  *             header, 8 bytes
  *             0, 1     records     the number of records; at most 16379 have room
@@ -493,9 +495,10 @@ struct feedback_slot {
  * feedback_make makes one, a feed or a change of mode takes one and gives back the next.
  * It is plain bytes: it may be copied, stored, and given back later, as often as you
  * like, on a machine of the same byte order. Other bytes may be given as well: a call
- * then refuses 8, or answers as for what these bytes say was heard. Bytes and bits of a
- * slot that have no meaning are carried along unchanged; a feed puts 0 into such bytes of
- * the slot that it adds. Bits of modes that have no meaning are dropped by the next feed.
+ * then refuses 8, or answers as for what these bytes say was heard, and in which mode.
+ * Bytes and bits of a slot that have no meaning are carried along unchanged; a feed puts
+ * 0 into such bytes of the slot that it adds. Bits of modes that have no meaning are
+ * carried along by a change of mode, and dropped by the next feed that is not refused.
  *
  * A handset that was stored by a version before 4.0.0 has 64, 66 or 70 bytes and another
  * layout: it cannot be fed to this one. Make a fresh handset.
@@ -513,7 +516,8 @@ struct feedback_handset {
 struct feedback_made {
     uint16_t refusal;                /* 0, or 1 to 6, 17 or 19 */
     struct feedback_handset handset; /* the fresh handset; 72 zero bytes if refused, a state
-                                        that every feed refuses with 8 */
+                                        that every feed refuses with 8, and every change to
+                                        mode 0 or 1 */
 };
 
 /* The answer of feedback_change_mode. 74 bytes. */
@@ -532,7 +536,7 @@ struct feedback_fed {
     uint16_t b0;       /* bundled: 1 ACK of the first block, 0 NACK; multiplexed: b(0); else 0 */
     uint16_t b1;       /* bundled: the same of the second block, 0 in a one-bit reply;
                           multiplexed: b(1); else 0 */
-    struct feedback_handset handset; /* for the next feed; if refused, the handset as it was */
+    struct feedback_handset handset; /* for the next call; if refused, the handset as it was */
 };
 
 /* The answer of feedback_replay. 8 bytes. */
@@ -800,7 +804,7 @@ struct feedback_made feedback_make(struct feedback_settings settings);
 /*
  * The mode changes between two subframes, while windows may be open.
  *
- *   handset    the state that the call before answered
+ *   handset    the state that feedback_make, or the feed or change before, answered
  *   mode       the new mode, one of enum feedback_mode
  *
  * The subframes that are fed from now on are fed in the new mode. Nothing else moves:
@@ -825,9 +829,9 @@ struct feedback_changed feedback_change_mode(struct feedback_handset handset, ui
  * For subframes that the radio slept through feed nothing, once for each of them:
  * the handset knows where in the frame it is by counting its feeds. (13 of them, with
  * no change of mode among them, empty its memory: after so long a sleep a fresh handset
- * with next set is the same.)
+ * that is made in the mode that stands, with handset.settings, and next set is the same.)
  *
- *   handset    the state that the call before answered
+ *   handset    the state that feedback_make, or the feed or change before, answered
  *
  * In a downlink subframe the kind of the answer is FEEDBACK_KIND_TAKEN. In an
  * uplink subframe it is what to send in that very subframe: FEEDBACK_KIND_BUNDLED
@@ -842,7 +846,7 @@ struct feedback_fed feedback_feed_nothing(struct feedback_handset handset);
 /*
  * The next subframe brought a grant.
  *
- *   handset    the state that the call before answered
+ *   handset    the state that feedback_make, or the feed or change before, answered
  *   blocks     transport blocks carried, 1 to the setting's
  *   first      the first block, or the only one: decoded unless this is 0
  *   second     the second block: decoded unless this is 0; without effect on any
@@ -868,7 +872,7 @@ struct feedback_fed feedback_feed_grant(struct feedback_handset handset, uint16_
  * has in this subframe and that could not be decoded is fed here too, as not decoded:
  * then it is answered. After feedback_feed_nothing it is not.
  *
- *   handset    the state that the call before answered
+ *   handset    the state that feedback_make, or the feed or change before, answered
  *   blocks     transport blocks carried, 1 to the setting's
  *   first      the first block, or the only one: decoded unless this is 0
  *   second     the second block: decoded unless this is 0; without effect on any
@@ -890,7 +894,7 @@ struct feedback_fed feedback_feed_scheduled(struct feedback_handset handset, uin
  * The next subframe brought a release: a PDCCH that releases the schedule. It counts as
  * a heard grant that decoded everything, its first CCE and its DAI included.
  *
- *   handset    the state that the call before answered
+ *   handset    the state that feedback_make, or the feed or change before, answered
  *   cce        the first CCE of the release, 0 to N_4 - 1
  *   dai        the DAI of the release, 1 to 4 (in configuration 0 too, where no
  *              reply depends on it)

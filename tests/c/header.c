@@ -1122,7 +1122,7 @@ static void changed_between(void)
     EQUAL(feedback_reading(settings, 3, FEEDBACK_NONE, 13, 0, 1).refusal, FEEDBACK_REFUSED_BITS);
 }
 
-/* Configuration 2: 7 answers for -1, 0, 1 and 3, so in the mode of feedback_make; 12 for 4 to 8. */
+/* Configuration 2: 7 answers for -1, 0, 1 and 3, so in the mode of feedback_make; 12 for 4, 5, 6, 8. */
 static void changed_first(void)
 {
     struct feedback_handset handset = fresh(settings_of(2, FEEDBACK_MODE_MULTIPLEXING, 1));
@@ -1231,16 +1231,35 @@ static void no_window(void)
     EQUAL(handset.next, 5);
 }
 
-/* 13 feeds of nothing empty the memory: what a fresh handset is that expects the same subframe. */
+static struct feedback_handset sleeping(struct feedback_handset handset, unsigned subframes)
+{
+    for (; subframes > 0; subframes--)
+        handset = feedback_feed_nothing(handset).handset;
+    return handset;
+}
+
+/*
+ * 13 feeds of nothing empty the memory: what a fresh handset is that expects the same subframe and
+ * is made in the mode that stands. With a change among them they do not.
+ */
 static void slept(void)
 {
     struct feedback_handset handset = fresh(settings_of(5, FEEDBACK_MODE_BUNDLING, 2));
     struct feedback_handset woken = handset;
-    unsigned i;
-    handset = grant(handset, 2, 1, 1, 7, 2);
-    for (i = 1; i < 14; i++)
-        handset = feedback_feed_nothing(handset).handset;
+    handset = sleeping(grant(handset, 2, 1, 1, 7, 2), 13);
     woken.next = 4;
+    BYTES(&handset, &woken, sizeof woken);
+    handset = grant(fresh(settings_of(2, FEEDBACK_MODE_BUNDLING, 2)), 2, 1, 1, 7, 1);
+    handset = sleeping(change(handset, FEEDBACK_MODE_MULTIPLEXING), 13);
+    woken = fresh(settings_of(2, FEEDBACK_MODE_MULTIPLEXING, 2));
+    woken.next = 4;
+    BYTES(&handset, &woken, sizeof woken);
+    handset = sleeping(change(sleeping(handset, 1), FEEDBACK_MODE_BUNDLING), 12);
+    woken = fresh(settings_of(2, FEEDBACK_MODE_BUNDLING, 2));
+    woken.next = 7;
+    HOLDS(memcmp(&handset, &woken, sizeof woken) != 0);
+    EQUAL(handset.modes, 4096); /* the one before the change, 13 ago */
+    woken.modes = 4096;
     BYTES(&handset, &woken, sizeof woken);
 }
 

@@ -24,8 +24,8 @@ const FEEDS: usize = 30;
 /// and so in shorter ones.
 const PATTERNS: usize = 81;
 
-/// Both settings of mode and blocks in a configuration that has both modes, each with a
-/// bandwidth and an N1 of its own.
+/// Each mode with one block and with two, in a configuration that has both modes, and three
+/// bandwidths with an N1 each.
 fn cells(config: u16) -> [Settings; 4] {
     let cell = |(nrb, n1, mode, blocks)| Settings::plain(config, nrb, n1, mode, blocks);
     [(50, 10, 0, 1), (50, 10, 1, 1), (6, 2047, 0, 2), (110, 0, 1, 2)].map(cell)

@@ -111,7 +111,7 @@ fn three_open_windows() {
             }
         }
     }
-    // With a change before each of 2, 8 and 10 the three windows have three modes in turn.
+    // With a change before each of 2, 8 and 10 each window has another mode than the one before.
     let answers = run(cell(3, 0), &heard, &[(2, 1), (8, 0), (10, 1)]);
     assert_eq!(answers[12..15], [THREE_BUNDLED[0], THREE_MULTIPLEXED[1], THREE_BUNDLED[2]]);
 }

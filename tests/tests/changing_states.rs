@@ -170,7 +170,7 @@ fn damaged_states() {
 /// is uplink, ten ago.
 type Damage = fn(&mut Handset);
 
-const DAMAGES: [Damage; 14] = [
+const DAMAGES: [Damage; 15] = [
     |handset| handset.settings.config = 7,
     |handset| handset.settings.nrb = 5,
     |handset| handset.settings.n1 = 2048,
@@ -185,6 +185,7 @@ const DAMAGES: [Damage; 14] = [
     |handset| handset.past[0] = Slot::grant(0, 5, 1),
     |handset| handset.past[9] = Slot::release(0, 1),
     |handset| (handset.past[0], handset.past[1]) = (Slot::block(1), Slot::block(1)),
+    |handset| handset.modes = 1,
 ];
 
 /// 4 for what is no mode, then 5 for multiplexing in configuration 5, then 8 for a state that
@@ -225,16 +226,17 @@ fn four_then_five_then_eight() {
     assert!(good > 0 && eight > 0);
 }
 
-/// Whether a set of damages makes a bad state. The two blocks of the last one come in place
-/// of what 9 to 11 did to a slot. They are bad where 0 and 1 are in one window, as in
-/// configurations 1, 2, 4 and 5; in the others each is in a window of its own.
+/// Whether a set of damages makes a bad state. The two blocks of damage 13 come in place of
+/// what 9 to 11 did to a slot. They are bad where 0 and 1 are in one window, as in
+/// configurations 1, 2, 4 and 5; in the others each is in a window of its own. A remembered
+/// mode 1, of damage 14, is bad in configuration 5.
 fn is_bad(config: u16, set: usize) -> bool {
     let has = |at: usize| set >> at & 1 == 1;
     let by_slots = match has(13) {
         true => [1, 2, 4, 5].contains(&config),
         false => (9..12).any(has),
     };
-    by_slots || has(12) || (0..9).any(has)
+    by_slots || has(12) || (0..9).any(has) || has(14) && config == 5
 }
 
 /// Windows for which every number of remembered modes is tried: configuration, subframe,

@@ -858,21 +858,27 @@ fn every_pattern_with_short_specials() {
         [(1, 6, 3, &SHORT_CELLS[..]), (2, 10, 7, &SHORT_CELLS[1..3])]
     {
         let (checked, met) = hold(&UP_TO_FOUR, blocks, cells, &Fates::all(blocks), 1);
-        let frames = |long: u32, short: u32| {
-            let with_a_block = u64::from(long) * of_block * u64::pow(fates, long - 1);
-            FIRST_FRAMES + (u64::pow(fates, long) + with_a_block) * 3u64.pow(short)
-        };
-        let windows = [
-            4 * frames(1, 0),
-            4 * frames(1, 1),
-            2 * frames(3, 1),
-            3 * frames(2, 1),
-            2 * frames(4, 0),
-            5 * frames(1, 0),
-        ];
-        assert_eq!(checked, cells.len() as u64 * 2 * windows.iter().sum::<u64>());
+        let windows = windows_with_short_specials(fates, of_block);
+        assert_eq!(checked, cells.len() as u64 * 2 * windows);
         assert_all_met_but_four_lost(&met);
     }
+}
+
+/// The windows of up to four with short specials, in one cell and mode.
+fn windows_with_short_specials(fates: u64, of_block: u64) -> u64 {
+    let frames = |long: u32, short: u32| {
+        let with_a_block = u64::from(long) * of_block * fates.pow(long - 1);
+        FIRST_FRAMES + (fates.pow(long) + with_a_block) * 3u64.pow(short)
+    };
+    let windows = [
+        4 * frames(1, 0),
+        4 * frames(1, 1),
+        2 * frames(3, 1),
+        3 * frames(2, 1),
+        2 * frames(4, 0),
+        5 * frames(1, 0),
+    ];
+    windows.iter().sum()
 }
 
 /// Likewise the window of nine: 3^9 patterns without a block, and for each of eight
@@ -910,7 +916,7 @@ fn every_pattern_of_two_blocks_with_mode_changes() {
 #[test]
 fn every_pattern_with_short_specials_and_mode_changes() {
     let (checked, met) = hold_in(Mode::Changes, &UP_TO_FOUR, 1, &SHORT_CELLS, &Fates::all(1), 1);
-    assert!(checked > 50_000);
+    assert_eq!(checked, SHORT_CELLS.len() as u64 * windows_with_short_specials(6, 3));
     assert_all_met_but_four_lost(&met);
 }
 

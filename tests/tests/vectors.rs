@@ -583,7 +583,7 @@ fn u07_rules() {
 }
 
 /// Left out are the lines that remember a mode over 1, which has no bit, and those that
-/// remember a grant or a block with none.
+/// remember a grant of no blocks, which a slot cannot hold.
 #[test]
 fn u08_states() {
     let text = include_str!("../data/u08-states.csv");

@@ -1,14 +1,10 @@
 pub mod BundledWindow
-pub mod ChangedRuns
-pub mod Computing
 pub mod Conclusions
 pub mod Confirmation
-pub mod ConfirmedRuns
 pub mod Demand3
 pub mod Entries
 pub mod Exactly
 pub mod Feeds
-pub mod Finite
 pub mod Folded
 pub mod Limit
 pub mod Memory
@@ -17,9 +13,5 @@ pub mod MultiplexedWindow
 pub mod SameModes
 pub mod SameWindows
 pub mod Second
+pub mod SentPositions
 pub mod Unchanged
-pub mod Worked
-pub mod WrongChanges
-pub mod WrongEngines
-pub mod WrongHandsets
-pub mod WrongStations

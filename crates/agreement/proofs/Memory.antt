@@ -1,4 +1,5 @@
--- The handset after a history, newest first, of what was heard: it remembers the last 13, expects the next subframe, and is sound.
+-- The handset after a history, newest first, of the modes that stood and of what was heard: it remembers the last 13 of each, expects the
+-- next subframe, and is sound.
 -- Assumes nothing.
 use Prim.Native.Nat.{ℕ, zero, suc, _+_, _-_, _*_, _/_, _%_, _<_, _≤_}
 use mathlib.Core.Bool.{Bool, true, false, cond, false≢true}

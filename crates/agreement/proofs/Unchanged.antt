@@ -27,7 +27,7 @@ use Rattle.station.specs.declared.Place.the-variants as place
 use Rattle.station.specs.declared.Reading.{Reading}
 use Rattle.station.specs.declared.Told.the-variants as told
 use Rattle.agreement.specs.Demand3.{Engine, readingIn}
-use Rattle.agreement.specs.Run.{Item, sentOf, sentAgo, heardAgo, heardInRun, windowAt, Brings, BringsSent}
+use Rattle.agreement.specs.Run.{Item, sentOf, sentAgo, heardAgo, heardInRun, windowAt, settingsIn, Brings, BringsSent}
 use Rattle.agreement.specs.Window.{Entry, isHeard, isPdcch, anyOf, BlockAt, lostBefore, inTime, ReadAs, Bundled}
 use Rattle.agreement.proofs.Entries.{all-of, entry, block-at, all-none}
 use Rattle.agreement.proofs.Feeds.{ago-brings}
@@ -113,8 +113,8 @@ module _ (set : Settings) (sent : ℕ → Send) (ordinary : (s : ℕ) → isOrdi
   pub told-nothing : toldOf (windowAt set s) (sentAgo sent s) ≡ told.NotTold
   told-nothing = untold (sentAgo sent s) H ordinary-ago brought-ago (windowAt set s) 0
 
-  pub reads-as-untold : (e : Engine) → readingIn e set sent s ≡ e .read set (s % 10) told.NotTold
-  reads-as-untold e = ap (e .read set (s % 10)) told-nothing
+  pub reads-as-untold : (e : Engine) → readingIn e (settingsIn set items s) sent s ≡ e .read (settingsIn set items s) (s % 10) told.NotTold
+  reads-as-untold e = ap (e .read (settingsIn set items s) (s % 10)) told-nothing
 
   -- No scheduled block is heard, and what is heard is a PDCCH.
   pub none-scheduled : anyOf isBlock es ≡ false
@@ -141,7 +141,8 @@ module _ (set : Settings) (sent : ℕ → Send) (ordinary : (s : ℕ) → isOrdi
       there (inl p) = (sym heard-is-pdcch ∙ p .0, p .1)
       there (inr p) = absurd (false≢true (sym none-scheduled ∙ p .1))
 
-  pub sent-as-before : (resource : ℕ → ℕ → Mapped) (read : ℕ → ℕ → ℕ → Reading) (a : Answer) → Bundled set resource read (windowAt set s) es a
+  pub sent-as-before : (resource : ℕ → ℕ → Mapped) (read : ℕ → ℕ → ℕ → Reading) (a : Answer)
+      → Bundled (settingsIn set items s) resource read (windowAt set s) es a
       → ((r : Reply) × (a ≡ answer.Sent r)) ↔ ((anyOf isHeard es ≡ true) × ZeroFourOrEight)
   sent-as-before resource read a b = (λ r. due-as-before .0 (b .0 .0 r), λ due. b .0 .1 (due-as-before .1 due))
 

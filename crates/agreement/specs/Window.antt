@@ -119,8 +119,9 @@ SentExactly a Due Right =
     × ((r : Reply) → a ≡ answer.Sent r → Right r)
     × (((r : Reply) → a ≡ answer.Sent r → ⊥) → a ≡ answer.Silent)
 
--- "If 01 bundles it": `ks` is K as printed, `es` the window's subframes in time order; `resource` is the resource call and `read`
--- the station's reading, with the same settings and n = s mod 10, told the position of the scheduled block that was sent.
+-- "If 01 bundles it": `set` are the settings in the window's own mode, `ks` is K as printed, `es` the window's subframes in time order;
+-- `resource` is the resource call and `read` the station's reading, with the same settings and n = s mod 10, told the position of the
+-- scheduled block that was sent.
 pub record BundledReply (set : Settings) (resource : ℕ → ℕ → Mapped) (read : ℕ → ℕ → ℕ → Reading) (ks : List ℕ) (es : List Entry) (r : Reply) : Type 0 where
   pub kind : r .kind ≡ kindBundled
   -- "It is read as that last grant", U1: "the last heard grant, whose resource carries the reply, [is] over PDCCHs": its position is

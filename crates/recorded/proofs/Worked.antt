@@ -1,5 +1,5 @@
 -- Two traces with their replays, so that the statement of specs/Run.antt is about something: one that is replayed to its end, whose
--- feeds are a worked run of agreement/proofs/Worked.antt and bring what its station sends, and one that stops.
+-- feeds are a worked run of engines/proofs/Worked.antt and bring what its station sends, and one that stops.
 -- Assumes nothing.
 use Prim.Native.Nat.{ℕ}
 use mathlib.Core.List.{List, [], _∷_, _++_}
@@ -11,9 +11,9 @@ use Rattle.reader.specs.Record.{slotAt, usedResults, usedIn, broughtBy, recordS
 use Rattle.replaying.specs.Replay.{broughtIn, played, playedIn, outputNeeded, startRefusal, replayOf, outputOf}
 use Rattle.replaying.specs.Written.{windowBytes}
 use Rattle.agreement.specs.Demand3.{feedbackEngine, HoldsAfter}
-use Rattle.agreement.proofs.Computing.{handsets}
-use Rattle.agreement.proofs.Finite.{sending}
-use Rattle.agreement.proofs.Worked.{allHeard, all-heard}
+use Rattle.engines.proofs.Computing.{handsets}
+use Rattle.engines.proofs.Finite.{sending}
+use Rattle.engines.proofs.Worked.{allHeard, all-heard}
 use Rattle.recorded.specs.Run.{feedsFrom, runOf}
 use Rattle.recorded.proofs.Run.{is-run}
 

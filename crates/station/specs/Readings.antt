@@ -1,4 +1,5 @@
 -- The station's reading: document 01, "The station's reading" and refusal 14; document 02, U1, 11 and 18, and U2, 20.
+-- U8: "The station is told the mode per window": the settings' mode is that of the reply's window.
 -- Assumes nothing.
 use Prim.Native.Nat.{ℕ, zero, suc}
 use mathlib.Core.Bool.{Bool, cond, _&&_, _||_}

@@ -1,4 +1,5 @@
-// The station's reading of a reply (document 01, "The station's reading"; document 02, U1 and U2).
+// The station's reading of a reply (document 01, "The station's reading"; document 02, U1 and U2). The settings' mode is that
+// of the reply's window (U8).
 use frame::Settings;
 use resource::Cce;
 use resource::Inverted;

@@ -5,7 +5,7 @@
 use Prim.Native.Nat.{ℕ, suc, zero, _+_, _<_}
 use mathlib.Core.Bool.{Bool, true, false}
 use mathlib.Core.List.{List, [], _∷_}
-use mathlib.Core.Path.{_≡_, refl, ap}
+use mathlib.Core.Path.{_≡_, refl, ap, _∙_, fun-ext}
 use native.Mathlib.Omega.{arith}
 use lib.Dec.{T}
 use lib.ListN.{length, getD}
@@ -25,10 +25,11 @@ use Rattle.handset.specs.Make.{makeOf}
 use Rattle.station.specs.declared.Place.the-variants as place
 use Rattle.station.specs.declared.Reading.{Reading}
 use Rattle.station.specs.declared.Reading.the-variants as reading
 use Rattle.agreement.specs.Demand3.{feedbackEngine, handsetAt, readingIn, IsSubframe}
 use Rattle.agreement.specs.Run.{Item, feed, change, itemAt, subframeAt, settingsIn, Schedule, BringsSent}
-use Rattle.agreement.proofs.Computing.{handsets, stations}
-use Rattle.agreement.proofs.Finite.{sending, scheduleTest, feedsTest, scheduled, brought}
+use Rattle.engines.proofs.Computing.{handsets, stations}
+use Rattle.engines.proofs.Finite.{sending, scheduleTest, feedsTest, scheduled, brought}
+use Rattle.agreement.proofs.SameModes.{AllFeeds, made-settings}
 
 -- a cell of so many blocks, with this scheduled resource, prefix and special configuration
 abbrev cellOf : ℕ → ℕ → ℕ → ℕ → ℕ → ℕ → Settings
@@ -160,9 +161,9 @@ pub record Worked (r : Run) : Type 0 where
   pub answered : ourAnswers r ≡ r .answers
   pub read : ourReadings r ≡ r .readings
 
-pub worked : (r : Run) → settingsRefusal (r .set) ≡ 0 → T (scheduleTest (r .set) (r .sends)) → T (feedsTest (r .set) (r .sends) (r .items))
+pub worked-changed : (r : Run) → settingsRefusal (r .set) ≡ 0 → T (scheduleTest (r .set) (r .sends)) → T (feedsTest (r .set) (r .sends) (r .items))
     → ourAnswers r ≡ r .answers → ourReadings r ≡ r .readings → Worked r
-worked r good s b e f =
+worked-changed r good s b e f =
     record {
       accepted = good;
       schedule = scheduled (r .set) (r .sends) s;
@@ -170,6 +171,13 @@ worked r good s b e f =
       answered = e;
       read = f;
     }
+
+-- Without changes of mode every reply is read in the run's own settings.
+worked : (r : Run) → settingsRefusal (r .set) ≡ 0 → T (scheduleTest (r .set) (r .sends)) → T (feedsTest (r .set) (r .sends) (r .items))
+    → ourAnswers r ≡ r .answers → AllFeeds (r .items) → readingsFrom (λ (s : ℕ). r .set) (sending (r .sends)) 0 (r .answers) ≡ r .readings → Worked r
+worked r good s b e feeds f =
+    worked-changed r good s b e
+    (ap (λ (set : ℕ → Settings). readingsFrom set (sending (r .sends)) 0 (r .answers)) (fun-ext (made-settings (r .set) (r .items) feeds)) ∙ f)
 
 -- In a worked run: what our handset answers to item i, and what our station reads from the j-th reply.
 pub answer-at : (r : Run) → Worked r → (i : ℕ) → getD (ourAnswers r) i answer.Silent ≡ getD (r .answers) i answer.Silent
@@ -203,7 +211,7 @@ allHeard =
 
 pub all-heard : Worked allHeard
 unfolding handsets stations
-all-heard = worked allHeard refl tt tt refl refl
+all-heard = worked allHeard refl tt tt refl tt refl
 
 -- The same with the first grant lost: a miss is shown.
 abbrev pub missed : Run
@@ -218,7 +226,7 @@ missed =
 
 pub first-missed : Worked missed
 unfolding handsets stations
-first-missed = worked missed refl tt tt refl refl
+first-missed = worked missed refl tt tt refl tt refl
 
 -- The same with feeds in between that are refused, and their subframes fed again: in subframe 1 grants of 2 blocks (10), of first
 -- CCE 61 (11) and of DAI 5 (12), in the uplink subframe 2 a grant (9).
@@ -236,7 +244,7 @@ refusedFeeds =
 
 pub refused-feeds : Worked refusedFeeds
 unfolding handsets stations
-refused-feeds = worked refusedFeeds refl tt tt refl refl
+refused-feeds = worked refusedFeeds refl tt tt refl tt refl
 
 -- Item i leaves the handset as it was.
 abbrev pub Left : Run → ℕ → Type 0
@@ -260,7 +268,7 @@ fourLost =
 
 pub four-lost : Worked fourLost
 unfolding handsets stations
-four-lost = worked fourLost refl tt tt refl refl
+four-lost = worked fourLost refl tt tt refl tt refl
 
 -- Configuration 5: the window of subframe 22 is 9, 10, 11 and 13 to 18, all nine sent; eight are lost and the last, in 18, is heard.
 abbrev pub eightLost : Run
@@ -278,7 +286,7 @@ eightLost =
 
 pub eight-lost : Worked eightLost
 unfolding handsets stations
-eight-lost = worked eightLost refl tt tt refl refl
+eight-lost = worked eightLost refl tt tt refl tt refl
 
 -- Configuration 5: four are sent in the window of subframe 12, in 0, 1, 3 and 4, all heard and decoded.
 abbrev pub fourHeard : Run
@@ -293,7 +301,7 @@ fourHeard =
 
 pub four-heard : Worked fourHeard
 unfolding handsets stations
-four-heard = worked fourHeard refl tt tt refl refl
+four-heard = worked fourHeard refl tt tt refl tt refl
 
 -- Configuration 5: six are sent there, the two more in 5 and 6; the first four are heard and decoded, the last two are lost.
 abbrev pub lastTwoLost : Run
@@ -308,7 +316,7 @@ lastTwoLost =
 
 pub last-two-lost : Worked lastTwoLost
 unfolding handsets stations
-last-two-lost = worked lastTwoLost refl tt tt refl refl
+last-two-lost = worked lastTwoLost refl tt tt refl tt refl
 
 -- Configuration 2, mode 0: the window of subframe 7 is -1, 0, 3 and 1, which reaches before the start; the grant in 0 is heard.
 abbrev pub beforeStart : Run
@@ -323,7 +331,7 @@ beforeStart =
 
 pub before-start : Worked beforeStart
 unfolding handsets stations
-before-start = worked beforeStart refl tt tt refl refl
+before-start = worked beforeStart refl tt tt refl tt refl
 
 -- Configuration 0 in a cell of two blocks: subframe 3 has no window. Subframe 4 answers for a grant in 0 whose second block alone
 -- decoded; subframe 7 for one in 1 of a sole block, which decoded and stands for both.
@@ -339,7 +347,7 @@ twoBlocks =
 
 pub two-blocks : Worked twoBlocks
 unfolding handsets stations
-two-blocks = worked twoBlocks refl tt tt refl refl
+two-blocks = worked twoBlocks refl tt tt refl tt refl
 
 -- Configuration 0: subframe 4 answers for 0, subframe 7 for 1; both grants are heard.
 abbrev pub twoWindows : Run
@@ -354,7 +362,7 @@ twoWindows =
 
 pub two-windows : Worked twoWindows
 unfolding handsets stations
-two-windows = worked twoWindows refl tt tt refl refl
+two-windows = worked twoWindows refl tt tt refl tt refl
 
 -- Configuration 1 in a cell of two blocks: of the grants in 0 and 1 the first block of the earlier one alone is not decoded.
 abbrev pub oneUndecoded : Run
@@ -369,7 +377,7 @@ oneUndecoded =
 
 pub one-undecoded : Worked oneUndecoded
 unfolding handsets stations
-one-undecoded = worked oneUndecoded refl tt tt refl refl
+one-undecoded = worked oneUndecoded refl tt tt refl tt refl
 
 -- The same with a sole block in 1, which decoded and stands for both: the second bit alone is ACK.
 abbrev pub soleBlock : Run
@@ -384,7 +392,7 @@ soleBlock =
 
 pub sole-block : Worked soleBlock
 unfolding handsets stations
-sole-block = worked soleBlock refl tt tt refl refl
+sole-block = worked soleBlock refl tt tt refl tt refl
 
 -- Multiplexed: mode 1.
 
@@ -401,7 +409,7 @@ laterOnly =
 
 pub later-only : Worked laterOnly
 unfolding handsets stations
-later-only = worked laterOnly refl tt tt refl refl
+later-only = worked laterOnly refl tt tt refl tt refl
 
 -- M = 2 in a cell of two blocks: all but the second block of the later grant is decoded. The state is A,N.
 abbrev pub secondUndecoded : Run
@@ -416,7 +424,7 @@ secondUndecoded =
 
 pub second-undecoded : Worked secondUndecoded
 unfolding handsets stations
-second-undecoded = worked secondUndecoded refl tt tt refl refl
+second-undecoded = worked secondUndecoded refl tt tt refl tt refl
 
 -- M = 3, configuration 3: the window of subframe 12 is 5, 6 and 1. The grant in 6 alone is not decoded. The state is A,N,A.
 abbrev pub middleUndecoded : Run
@@ -431,7 +439,7 @@ middleUndecoded =
 
 pub middle-undecoded : Worked middleUndecoded
 unfolding handsets stations
-middle-undecoded = worked middleUndecoded refl tt tt refl refl
+middle-undecoded = worked middleUndecoded refl tt tt refl tt refl
 
 -- M = 4, configuration 2: the window of subframe 12 is 4, 5, 8 and 6; A,A,D,D shares its symbol with A,A,A,N and others.
 abbrev pub shared : Run
@@ -446,7 +454,7 @@ shared =
 
 pub symbol-shared : Worked shared
 unfolding handsets stations
-symbol-shared = worked shared refl tt tt refl refl
+symbol-shared = worked shared refl tt tt refl tt refl
 
 -- The same window with a third grant, in 8, decoded too: A,A,A,D sends the same symbol, and position 2 is not delivered.
 abbrev pub sharedByThree : Run
@@ -461,7 +469,7 @@ sharedByThree =
 
 pub symbol-shared-by-three : Worked sharedByThree
 unfolding handsets stations
-symbol-shared-by-three = worked sharedByThree refl tt tt refl refl
+symbol-shared-by-three = worked sharedByThree refl tt tt refl tt refl
 
 -- Scheduled blocks and releases (document 02, U1). Most of these runs are in configuration 2, where the window of subframe 12 is 4,
 -- 5, 8 and 6; nothing is sent before it, so that it alone is answered.
@@ -484,7 +492,7 @@ loneBlock =
 
 pub lone-block : Worked loneBlock
 unfolding handsets stations
-lone-block = worked loneBlock refl tt tt refl refl
+lone-block = worked loneBlock refl tt tt refl tt refl
 
 -- In a cell of two blocks a grant in 4 is heard with both blocks decoded; the scheduled block in 8, later than it, is heard and is
 -- not decoded. The reply goes on the grant's resource; both bits are NACK, since a sole block stands for both.
@@ -500,7 +508,7 @@ blockLast =
 
 pub block-last : Worked blockLast
 unfolding handsets stations
-block-last = worked blockLast refl tt tt refl refl
+block-last = worked blockLast refl tt tt refl tt refl
 
 -- The scheduled block in 5 is lost, the grants in 4 and 6 are heard: it leaves no trace, and the reading, told its position, names
 -- the grant in 6.
@@ -516,7 +524,7 @@ blockLost =
 
 pub block-lost : Worked blockLost
 unfolding handsets stations
-block-lost = worked blockLost refl tt tt refl refl
+block-lost = worked blockLost refl tt tt refl tt refl
 
 -- The grant in 4 is lost; the scheduled block in 5 and the grant in 8 are heard. The miss is shown, the block counts for nothing.
 abbrev pub missedWithBlock : Run
@@ -531,7 +539,7 @@ missedWithBlock =
 
 pub missed-with-block : Worked missedWithBlock
 unfolding handsets stations
-missed-with-block = worked missedWithBlock refl tt tt refl refl
+missed-with-block = worked missedWithBlock refl tt tt refl tt refl
 
 -- In a cell of two blocks a grant in 4 and a release in 6 are heard: the reply goes on the release's resource, both bits ACK.
 abbrev pub releaseLast : Run
@@ -546,7 +554,7 @@ releaseLast =
 
 pub release-last : Worked releaseLast
 unfolding handsets stations
-release-last = worked releaseLast refl tt tt refl refl
+release-last = worked releaseLast refl tt tt refl tt refl
 
 -- Configuration 5, the window of subframe 12: the grants in 0, 1, 3 and 4 are lost and a release, the fifth PDCCH, is heard in 5. U is
 -- 1 and V is 1: the reply is sent.
@@ -562,7 +570,7 @@ fourLostRelease =
 
 pub four-lost-release : Worked fourLostRelease
 unfolding handsets stations
-four-lost-release = worked fourLostRelease refl tt tt refl refl
+four-lost-release = worked fourLostRelease refl tt tt refl tt refl
 
 -- After the scheduled block in 4 a second one in 5, in the same window, is refused 18; then 5 is fed again, with the grant that was
 -- sent there.
@@ -580,7 +588,7 @@ secondBlock =
 
 pub second-block : Worked secondBlock
 unfolding handsets stations
-second-block = worked secondBlock refl tt tt refl refl
+second-block = worked secondBlock refl tt tt refl tt refl
 
 -- Configuration 1 with no scheduled resource: a scheduled block in 0 is refused 18, and 0 is fed again.
 abbrev pub noResourceSet : Run
@@ -595,7 +603,7 @@ noResourceSet =
 
 pub no-resource-set : Worked noResourceSet
 unfolding handsets stations
-no-resource-set = worked noResourceSet refl tt tt refl refl
+no-resource-set = worked noResourceSet refl tt tt refl tt refl
 
 pub eighteen-left : Left secondBlock 5 × Left noResourceSet 0
 unfolding handsets
@@ -618,7 +626,7 @@ shortSpecial =
 
 pub short-special : Worked shortSpecial
 unfolding handsets stations
-short-special = worked shortSpecial refl tt tt refl refl
+short-special = worked shortSpecial refl tt tt refl tt refl
 
 pub twenty-left : Left shortSpecial 1 × Left shortSpecial 2 × Left shortSpecial 3
 unfolding handsets
@@ -645,7 +653,7 @@ blockInEach =
 
 pub block-in-each : Worked blockInEach
 unfolding handsets stations
-block-in-each = worked blockInEach refl tt tt refl refl
+block-in-each = worked blockInEach refl tt tt refl tt refl
 
 -- Multiplexed.
 
@@ -663,7 +671,7 @@ blockAtIndex =
 
 pub block-at-index : Worked blockAtIndex
 unfolding handsets stations
-block-at-index = worked blockAtIndex refl tt tt refl refl
+block-at-index = worked blockAtIndex refl tt tt refl tt refl
 
 -- The scheduled block in 4 and a grant in 5: the same state and symbol, whose index is the grant's. It goes on the grant's resource.
 abbrev pub blockNotAtIndex : Run
@@ -678,7 +686,7 @@ blockNotAtIndex =
 
 pub block-not-at-index : Worked blockNotAtIndex
 unfolding handsets stations
-block-not-at-index = worked blockNotAtIndex refl tt tt refl refl
+block-not-at-index = worked blockNotAtIndex refl tt tt refl tt refl
 
 -- A release in 5 alone is heard, which is A: the state is D,A,D,D.
 abbrev pub releaseAtIndex : Run
@@ -693,7 +701,7 @@ releaseAtIndex =
 
 pub release-at-index : Worked releaseAtIndex
 unfolding handsets stations
-release-at-index = worked releaseAtIndex refl tt tt refl refl
+release-at-index = worked releaseAtIndex refl tt tt refl tt refl
 
 -- The extended prefix, with special subframes too short for data: a scheduled block in 4 and a release in 6, which is special, are
 -- heard, a grant in 5 is lost. The state is A,D,D,A. The reply goes on the scheduled resource; the reading is told the block's
@@ -710,4 +718,4 @@ shortMultiplexed =
 
 pub short-multiplexed : Worked shortMultiplexed
 unfolding handsets stations
-short-multiplexed = worked shortMultiplexed refl tt tt refl refl
+short-multiplexed = worked shortMultiplexed refl tt tt refl tt refl

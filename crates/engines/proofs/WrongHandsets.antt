@@ -46,12 +46,12 @@ use Rattle.station.specs.declared.Place.the-variants as place
 use Rattle.station.specs.declared.Reading.{Reading}
 use Rattle.station.specs.declared.Told.{Told}
 use Rattle.station.specs.Readings.{readOf}
 use Rattle.agreement.specs.Demand3.{Engine, Demand3}
 use Rattle.agreement.specs.Run.{heardInRun}
 use Rattle.agreement.specs.Window.{isHeard}
-use Rattle.agreement.proofs.Computing.{schedules, handsets, stations}
-use Rattle.agreement.proofs.Worked.{answer-at, fed-nothing, cell, scheduledTwoBlockCell, heardGrant, heardBlock, reply, allHeard, all-heard, missed, first-missed, oneUndecoded, one-undecoded, refusedFeeds, refused-feeds, twoWindows, two-windows, shared, symbol-shared, loneBlock, lone-block, secondBlock, second-block, noResourceSet, no-resource-set, shortSpecial, short-special, blockInEach, block-in-each, blockAtIndex, block-at-index}
-use Rattle.agreement.proofs.WrongEngines.{engine, madeBy, fedBy, changed, knowsBy, answersBy, answering, replying, replyingIn, sentOn, withBits, same-answer, same-resource, symbol-parts, named-at, one-lost, holds-in, in-all-heard, in-missed, in-one-undecoded, in-two-windows, in-shared, in-shared-before, in-lone-block, in-block-last, in-missed-with-block, in-release-last, in-block-at-index, in-release-at-index, in-short-multiplexed}
+use Rattle.engines.proofs.Computing.{schedules, handsets, stations}
+use Rattle.engines.proofs.Worked.{answer-at, fed-nothing, cell, scheduledTwoBlockCell, heardGrant, heardBlock, reply, allHeard, all-heard, missed, first-missed, oneUndecoded, one-undecoded, refusedFeeds, refused-feeds, twoWindows, two-windows, shared, symbol-shared, loneBlock, lone-block, secondBlock, second-block, noResourceSet, no-resource-set, shortSpecial, short-special, blockInEach, block-in-each, blockAtIndex, block-at-index}
+use Rattle.engines.proofs.WrongEngines.{engine, madeBy, fedBy, changed, knowsBy, answersBy, answering, replying, replyingIn, sentOn, withBits, same-answer, same-resource, symbol-parts, named-at, one-lost, holds-in, in-all-heard, in-missed, in-one-undecoded, in-two-windows, in-shared, in-shared-before, in-lone-block, in-block-last, in-missed-with-block, in-release-last, in-block-at-index, in-release-at-index, in-short-multiplexed}
 
 -- Making.
 

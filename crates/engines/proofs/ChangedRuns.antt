@@ -7,9 +7,9 @@ use mathlib.Core.List.{List, [], _∷_}
 use mathlib.Core.Path.{_≡_, refl}
 use Rattle.reply.specs.declared.Answer.the-variants as answer
 use Rattle.handset.specs.Make.{makeOf}
 use Rattle.agreement.specs.Run.{change, windowMode}
-use Rattle.agreement.proofs.Computing.{schedules, handsets, stations}
-use Rattle.agreement.proofs.Worked.{Run, Worked, worked, Left, changesOf, cell, times, nothing, grant, hearsNothing, hears, reply, bundledRead, multiplexedRead}
+use Rattle.engines.proofs.Computing.{schedules, handsets, stations}
+use Rattle.engines.proofs.Worked.{Run, Worked, worked-changed, Left, changesOf, cell, times, nothing, grant, hearsNothing, hears, reply, bundledRead, multiplexedRead}
 
 -- The refusals of a run's changes, 0 for none, and the modes of some of its windows.
 abbrev pub Changes : Run → List ℕ → Type 0
@@ -39,7 +39,7 @@ betweenWindows =
 
 pub between-windows : Worked betweenWindows
 unfolding handsets stations
-between-windows = worked betweenWindows refl tt tt refl refl
+between-windows = worked-changed betweenWindows refl tt tt refl refl
 
 pub between-changes : Changes betweenWindows (0 ∷ 0 ∷ [])
 unfolding handsets
@@ -65,7 +65,7 @@ changedFirst =
 
 pub changed-first : Worked changedFirst
 unfolding handsets stations
-changed-first = worked changedFirst refl tt tt refl refl
+changed-first = worked-changed changedFirst refl tt tt refl refl
 
 pub first-changes : Changes changedFirst (0 ∷ [])
 unfolding handsets
@@ -89,7 +89,7 @@ refusedChanges =
 
 pub refused-changes : Worked refusedChanges
 unfolding handsets stations
-refused-changes = worked refusedChanges refl tt tt refl refl
+refused-changes = worked-changed refusedChanges refl tt tt refl refl
 
 pub five-and-four : Changes refusedChanges (5 ∷ 4 ∷ 5 ∷ [])
 unfolding handsets
@@ -113,7 +113,7 @@ afterRefused =
 
 pub after-refused : Worked afterRefused
 unfolding handsets stations
-after-refused = worked afterRefused refl tt tt refl refl
+after-refused = worked-changed afterRefused refl tt tt refl refl
 
 pub refused-and-changed : Changes afterRefused (0 ∷ []) × HasMode afterRefused 7 1
 unfolding handsets

@@ -31,10 +31,10 @@ use Rattle.station.specs.declared.Reading.the-variants as reading
 use Rattle.station.specs.declared.Told.{Told}
 use Rattle.station.specs.declared.Told.the-variants as told
 use Rattle.station.specs.Readings.{placePosition, readOf}
 use Rattle.agreement.specs.Demand3.{Engine, Demand3}
-use Rattle.agreement.proofs.Computing.{schedules, handsets, stations}
-use Rattle.agreement.proofs.Worked.{answer-at, reading-at, cell, scheduledCell, shortCell, allHeard, all-heard, shared, symbol-shared, loneBlock, lone-block, blockAtIndex, block-at-index}
-use Rattle.agreement.proofs.WrongEngines.{engine, mappedBy, invertedBy, readBy, changed, replying, sentOn, same-resource, symbol-parts, named-at, in-all-heard, in-shared, in-lone-block, in-block-at-index}
+use Rattle.engines.proofs.Computing.{schedules, handsets, stations}
+use Rattle.engines.proofs.Worked.{answer-at, reading-at, cell, scheduledCell, shortCell, allHeard, all-heard, shared, symbol-shared, loneBlock, lone-block, blockAtIndex, block-at-index}
+use Rattle.engines.proofs.WrongEngines.{engine, mappedBy, invertedBy, readBy, changed, replying, sentOn, same-resource, symbol-parts, named-at, in-all-heard, in-shared, in-lone-block, in-block-at-index}
 
 -- The resource call and its inverse.
 

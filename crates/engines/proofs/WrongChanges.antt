@@ -24,14 +24,14 @@ use Rattle.handset.specs.declared.Handset.{Handset}
 use Rattle.handset.specs.Change.{inNewMode, changeOf}
 use Rattle.handset.specs.Make.{fresh}
 use Rattle.handset.specs.Modes.{modeAgo, modesBefore}
 use Rattle.agreement.specs.Demand3.{Engine, fedAt, IsSubframe, readingIn, Demand3}
 use Rattle.agreement.specs.Run.{sentAgo, heardAgo, heardInRun, windowAt, settingsIn}
 use Rattle.agreement.specs.Window.{inTime, Bundled, Multiplexed}
-use Rattle.agreement.proofs.ChangedRuns.{betweenWindows, between-windows, changedFirst, changed-first, refusedChanges, refused-changes}
-use Rattle.agreement.proofs.Computing.{schedules, handsets}
-use Rattle.agreement.proofs.Finite.{sending}
-use Rattle.agreement.proofs.Worked.{Run, fed-nothing-at}
-use Rattle.agreement.proofs.WrongEngines.{changedBy, knowsBy, answering, same-answer, holds-in}
+use Rattle.engines.proofs.ChangedRuns.{betweenWindows, between-windows, changedFirst, changed-first, refusedChanges, refused-changes}
+use Rattle.engines.proofs.Computing.{schedules, handsets}
+use Rattle.engines.proofs.Finite.{sending}
+use Rattle.engines.proofs.Worked.{Run, fed-nothing-at}
+use Rattle.engines.proofs.WrongEngines.{changedBy, knowsBy, answering, same-answer, holds-in}
 
 -- What the statement says of the reply at subframe s, which item i feeds with nothing, in the window's own mode.
 abbrev BundledThere : Engine → Run → ℕ → ℕ → Type 0

@@ -13,13 +13,13 @@ use Rattle.station.specs.declared.Reading.the-variants as reading
 use Rattle.limit.specs.Rules.{Positions, Rule, Sound}
 use Rattle.confirmation.specs.Confirmed.{confirmed}
 use Rattle.heard.specs.declared.Heard.the-variants.{Nothing}
 use Rattle.agreement.specs.Confirmation.{Replied, sentThere}
 use Rattle.agreement.specs.Demand3.{feedbackEngine}
 use Rattle.agreement.specs.Run.{sentAgo, windowAt}
-use Rattle.agreement.proofs.Computing.{schedules, handsets}
+use Rattle.engines.proofs.Computing.{schedules, handsets}
 use Rattle.agreement.proofs.Conclusions.{scheduler-may-conclude}
-use Rattle.agreement.proofs.Finite.{sending}
-use Rattle.agreement.proofs.Worked.{Run, answer-at, reading-at, fed-nothing, fourHeard, fourLost, eightLost, lastTwoLost, oneUndecoded, soleBlock, secondUndecoded, middleUndecoded, shared, sharedByThree, symbol-shared-by-three, loneBlock, blockLost, secondBlock, releaseLast, fourLostRelease, blockAtIndex}
+use Rattle.engines.proofs.Finite.{sending}
+use Rattle.engines.proofs.Worked.{Run, answer-at, reading-at, fed-nothing, fourHeard, fourLost, eightLost, lastTwoLost, oneUndecoded, soleBlock, secondUndecoded, middleUndecoded, shared, sharedByThree, symbol-shared-by-three, loneBlock, blockLost, secondBlock, releaseLast, fourLostRelease, blockAtIndex}
 
 -- the numbers, of `count` from i on, that pass the test
 abbrev passing : (ℕ → Bool) → ℕ → ℕ → List ℕ

@@ -30,11 +30,11 @@
 --                   10 before 20                                                           not-ten-before-twenty
 --                   the handset moves on at a refused feed                                 not-moves-on
 --   taken           "silent" for "taken"                                                   not-silent-for-taken
+--                   a change of mode counts as a subframe                                  not-counts-change
 --   noWindow        "silent" for "no window"                                               not-silent-for-no-window
---   taken           a change of mode counts as a subframe                                  not-counts-change
 --   changedExactly  5 is not known                                                         not-accepts-five
 --                   5 for 4                                                                not-five-for-four
---                   8 while a window is open                                               not-refuses-open
+--                   8 while something heard is remembered                                  not-refuses-open
 --   changeLeaves    a refused change is kept                                               not-keeps-refused
 --   bundled, multiplexed: the mode of a window
 --                   every window in the mode that stands                                   not-in-standing
@@ -133,13 +133,13 @@ use Rattle.handset.specs.Make.{makeOf}
 use Rattle.station.specs.declared.Reading.{Reading}
 use Rattle.station.specs.declared.Told.{Told}
 use Rattle.station.specs.Readings.{readOf}
 use Rattle.agreement.specs.Demand3.{Engine, fedAt, readingIn, HoldsAfter, Demand3}
 use Rattle.agreement.specs.Run.{feed, itemAt, heardInRun, subframeAt, sentAgo, heardAgo, windowAt}
 use Rattle.agreement.specs.Window.{inTime, Bundled, ReadAs, MultiplexedReply, Multiplexed}
-use Rattle.agreement.proofs.Computing.{schedules}
-use Rattle.agreement.proofs.Finite.{sending}
+use Rattle.engines.proofs.Computing.{schedules}
+use Rattle.engines.proofs.Finite.{sending}
 use Rattle.agreement.proofs.SameModes.{AllFeeds, made-mode, made-settings}
-use Rattle.agreement.proofs.Worked.{Run, Worked, fed-nothing, allHeard, all-heard, missed, first-missed, oneUndecoded, one-undecoded, twoWindows, two-windows, shared, symbol-shared, loneBlock, lone-block, blockLast, block-last, missedWithBlock, missed-with-block, releaseLast, release-last, blockAtIndex, block-at-index, releaseAtIndex, release-at-index, shortMultiplexed, short-multiplexed}
+use Rattle.engines.proofs.Worked.{Run, Worked, fed-nothing, allHeard, all-heard, missed, first-missed, oneUndecoded, one-undecoded, twoWindows, two-windows, shared, symbol-shared, loneBlock, lone-block, blockLast, block-last, missedWithBlock, missed-with-block, releaseLast, release-last, blockAtIndex, block-at-index, releaseAtIndex, release-at-index, shortMultiplexed, short-multiplexed}
 
 -- The engine of this repository, with another making, feeding, resource call, inverse or reading; with another change of mode.
 abbrev pub engine : (Settings → Made) → (Handset → Heard → Fed) → (Settings → ℕ → ℕ → ℕ → Mapped) → (Settings → ℕ → ℕ → Inverted)

@@ -1,4 +1,4 @@
--- The definitions that a worked run computes with, under two names for an `unfolding` line.
+-- The definitions that a worked run computes with, under three names for an `unfolding` line.
 -- Assumes nothing.
 use Rattle.frame.specs.Distance.{distanceUpTo, distanceOf, subframeOf, shares}
 use Rattle.frame.specs.Earliest.{earliestK}

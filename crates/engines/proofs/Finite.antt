@@ -1,4 +1,4 @@
--- A schedule that sends a finite list and then nothing, and a list of feeds against it: the hypotheses of demand 3 as tests that compute.
+-- A schedule that sends a finite list and then nothing, and a list of items against it: the hypotheses of demand 3 as tests that compute.
 -- Assumes nothing.
 use Prim.Native.Nat.{ℕ, _+_, _-_, _%_, _<_, _≤_}
 use mathlib.Core.Bool.{Bool, true, false, cond, not, _&&_, _||_, false≢true}

@@ -1,0 +1,9 @@
+pub mod ChangedRuns
+pub mod Computing
+pub mod ConfirmedRuns
+pub mod Finite
+pub mod Worked
+pub mod WrongChanges
+pub mod WrongEngines
+pub mod WrongHandsets
+pub mod WrongStations
