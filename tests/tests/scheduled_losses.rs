@@ -859,12 +859,12 @@ fn every_pattern_with_short_specials() {
     {
         let (checked, met) = hold(&UP_TO_FOUR, blocks, cells, &Fates::all(blocks), 1);
         let windows = windows_with_short_specials(fates, of_block);
-        assert_eq!(checked, cells.len() as u64 * 2 * windows);
+        assert_eq!(checked, cells.len() as u64 * windows);
         assert_all_met_but_four_lost(&met);
     }
 }
 
-/// The windows of up to four with short specials, in one cell and mode.
+/// The windows of up to four with short specials, in one cell and both modes.
 fn windows_with_short_specials(fates: u64, of_block: u64) -> u64 {
     let frames = |long: u32, short: u32| {
         let with_a_block = u64::from(long) * of_block * fates.pow(long - 1);
@@ -878,7 +878,7 @@ fn windows_with_short_specials(fates: u64, of_block: u64) -> u64 {
         2 * frames(4, 0),
         5 * frames(1, 0),
     ];
-    windows.iter().sum()
+    2 * windows.iter().sum::<u64>()
 }
 
 /// Likewise the window of nine: 3^9 patterns without a block, and for each of eight
