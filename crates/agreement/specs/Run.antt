@@ -104,6 +104,7 @@ modesInRun set items = modesFrom set [] (set .mode) items
 abbrev pub stoodAgo : Settings → List ℕ → ℕ → ℕ → ℕ
 stoodAgo set modes s k = cond (leb k s) (getD modes (s - k) (set .mode)) (set .mode)
 
+-- The largest number of a list; 0 of an empty one.
 abbrev pub largest : List ℕ → ℕ
 largest [] = 0
 largest (k ∷ ks) = cond (ltb (largest ks) k) k (largest ks)

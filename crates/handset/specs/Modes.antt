@@ -13,11 +13,11 @@ use Rattle.frame.specs.Settings.{modeRefusal, inMode}
 unfoldable pub modeAgo : ℕ → ℕ → ℕ
 modeAgo modes k = modes / 2 ^ (k - 1) % 2
 
--- Before the start: the mode that the handset was made with, 13 times.
+-- Before the start: the mode that the handset was made with, 13 times; 8191 is 13 bits of 1.
 abbrev pub modesBefore : ℕ → ℕ
 modesBefore mode = cond (eqb mode 1) 8191 0
 
--- A subframe was fed in this mode: it is the newest, and the oldest of the 13 is dropped with what stands above it.
+-- A subframe was fed in this mode: it is the newest, and of the others the 12 newest stay, one place further up.
 abbrev pub modesPushed : ℕ → ℕ → ℕ
 modesPushed modes mode = modes % 4096 * 2 + mode
 
