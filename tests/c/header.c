@@ -384,6 +384,10 @@ static void settings_refused(struct feedback_settings bad, unsigned refusal)
     EQUAL(bits, 98);
     EQUAL(made.refusal, refusal);
     BYTES(&made.handset, &zero, sizeof zero);
+    EQUAL(feedback_feed_nothing(zero).refusal, FEEDBACK_REFUSED_STATE);
+    EQUAL(feedback_change_mode(zero, 0).refusal, FEEDBACK_REFUSED_STATE);
+    EQUAL(feedback_change_mode(zero, 1).refusal, FEEDBACK_REFUSED_STATE);
+    EQUAL(feedback_change_mode(zero, 2).refusal, FEEDBACK_REFUSED_MODE);
     handset.settings = bad;
     fed = feedback_feed_nothing(handset);
     EQUAL(fed.refusal, FEEDBACK_REFUSED_STATE);

@@ -2,6 +2,7 @@
 //! states, and random runs. The whole answer is compared, handset included.
 
 use feedback_tests::compare::{Comparison, BANDWIDTHS, CCES};
+use feedback_tests::every;
 use feedback_tests::model::{edge, is_short, is_uplink, Model, NRB};
 use feedback_tests::random::Random;
 use feedback_tests::{Fed, Grant, Handset, Settings, Slot};
@@ -131,39 +132,6 @@ fn every_number_as_each_argument() {
     comparison.finish(2 * 5 * 65536 + before, 2 + 2 * 65536 + 61 + 4 + before);
 }
 
-/// The handset with one field changed, for each field and each of its values: 0,
-/// the limits, one past them, the largest of its type, and the like.
-fn damaged(handset: Handset) -> Vec<Handset> {
-    let mut all = Vec::new();
-    let mut each = |values: &[u16], set: &dyn Fn(&mut Handset, u16)| {
-        for value in values {
-            let mut changed = handset;
-            set(&mut changed, *value);
-            all.push(changed);
-        }
-    };
-    each(&[0, 1, 5, 6, 7, 65535], &|handset, value| handset.settings.config = value);
-    each(&[0, 5, 6, 110, 111, 65535], &|handset, value| handset.settings.nrb = value);
-    each(&[0, 2047, 2048, 65535], &|handset, value| handset.settings.n1 = value);
-    each(&[0, 1, 2, 65535], &|handset, value| handset.settings.mode = value);
-    each(&[0, 1, 2, 3, 65535], &|handset, value| handset.settings.blocks = value);
-    each(&[0, 1, 2, 65535], &|handset, value| handset.settings.prefix = value);
-    each(&[0, 4, 5, 8, 9, 65535], &|handset, value| handset.settings.special = value);
-    each(&[0, 1, 2, 5, 9, 10, 65535], &|handset, value| handset.next = value);
-    each(&[0, 1, 4096, 8191, 8192, 65535], &|handset, value| handset.modes = value);
-    let cces = edge(handset.settings.nrb, 4);
-    for at in 0..13 {
-        each(&[0, 1, 2, 255], &|handset, value| handset.past[at].kind = value as u8);
-        each(&[0, cces - 1, cces, 255], &|handset, value| handset.past[at].cce = value as u8);
-        each(&[0, 1, 4, 5, 255], &|handset, value| handset.past[at].dai = value as u8);
-        each(&[0, 1, 3, 4, 7, 8, 255], &|handset, value| handset.past[at].results = value as u8);
-    }
-    all
-}
-
-/// How many those are.
-const DAMAGED: u64 = 6 + 6 + 4 + 4 + 5 + 4 + 6 + 7 + 6 + 13 * (4 + 4 + 5 + 7);
-
 /// Each field of the handset with each of its special values, in every subframe
 /// of every configuration, empty and full, fed with nothing, an allowed grant and
 /// one that meets every cause there is.
@@ -180,7 +148,7 @@ fn damaged_states() {
             let empty = expecting(&mut comparison, settings, subframe);
             let full = full(&mut comparison, settings, subframe, &mut random);
             let prepared = comparison.total();
-            for handset in damaged(empty).into_iter().chain(damaged(full)) {
+            for handset in every::damaged(empty).into_iter().chain(every::damaged(full)) {
                 let grant = random.grant(settings);
                 for heard in [None, Some(grant), Some(all_wrong)] {
                     comparison.feed(handset, heard);
@@ -189,7 +157,7 @@ fn damaged_states() {
             fed += comparison.total() - prepared;
         }
     }
-    assert_eq!(fed, 26 * 10 * 2 * DAMAGED * 3);
+    assert_eq!(fed, 26 * 10 * 2 * every::DAMAGED * 3);
     comparison.finish_with(comparison.total(), &[0, 8, 9, 10, 20], &[0, 1, 2, 3, 4, 5]);
 }
 

@@ -49,7 +49,7 @@ use Rattle.station.specs.declared.Told.{Told}
 use Rattle.station.specs.declared.Told.the-variants as told
 use Rattle.station.specs.Readings.{toldRefusal, readOf}
 use Rattle.station.proofs.Back.{told-fine, read-there, read-block}
-use Rattle.agreement.specs.Run.{asHeard, sentAgo, heardAgo, causeAfter, stoodAgo, largest, Schedule, Brings, windowAt}
+use Rattle.agreement.specs.Run.{asHeard, sentAgo, agoIn, heardAgo, causeAfter, stoodAgo, largest, Schedule, Brings, windowAt}
 use Rattle.agreement.specs.Window.{inTime, Bundled, Multiplexed}
 use Rattle.agreement.proofs.BundledWindow.{LowCce, ReadsPdcch, ReadsBlock, bundled-window}
 use Rattle.agreement.proofs.Entries.{member-at}
@@ -93,15 +93,12 @@ Past none all [] = Unit {0}
 Past none all (x ∷ l) = (getD all (length l) none ≡ x) × Past none all l
 
 -- k before the next subframe stands what the history has there.
-pub ago-past : {A : Type 0} (none : A) (all l : List A) → Past none all l → (k : ℕ) → 1 ≤ k
-    → cond (leb k (length l)) (getD all (length l - k) none) none ≡ getD l (k - 1) none
+pub ago-past : {A : Type 0} (none : A) (all l : List A) → Past none all l → (k : ℕ) → 1 ≤ k → agoIn none all (length l) k ≡ getD l (k - 1) none
 ago-past none all [] p k h = rw (lt-leb k 0 h)
-ago-past {A} none all (x ∷ l) p k h = go k h (ago-past none all l (p .1))
+ago-past none all (x ∷ l) p k h = go k h (ago-past none all l (p .1))
   where
-    ago : ℕ → ℕ → A
-    ago s k = cond (leb k s) (getD all (s - k) none) none
-
-    go : (k : ℕ) → 1 ≤ k → ((j : ℕ) → 1 ≤ j → ago (length l) j ≡ getD l (j - 1) none) → ago (suc (length l)) k ≡ getD (x ∷ l) (k - 1) none
+    go : (k : ℕ) → 1 ≤ k → ((j : ℕ) → 1 ≤ j → agoIn none all (length l) j ≡ getD l (j - 1) none)
+        → agoIn none all (suc (length l)) k ≡ getD (x ∷ l) (k - 1) none
     go zero h rest = absurd (omega arith)
     go (suc zero) h rest =
         let e : suc (length l) - 1 ≡ length l = omega arith in
@@ -112,7 +109,8 @@ ago-past {A} none all (x ∷ l) p k h = go k h (ago-past none all l (p .1))
         let g : suc j - 1 ≡ j = omega arith in
         shift (decLe (suc j) (length l)) e ∙ rest (suc j) (omega arith) ∙ rw (f, g)
       where
-        shift : Dec (suc j ≤ length l) → suc (length l) - suc (suc j) ≡ length l - suc j → ago (suc (length l)) (suc (suc j)) ≡ ago (length l) (suc j)
+        shift : Dec (suc j ≤ length l) → suc (length l) - suc (suc j) ≡ length l - suc j
+            → agoIn none all (suc (length l)) (suc (suc j)) ≡ agoIn none all (length l) (suc j)
         shift (yes h) e = rw (le-leb (suc (suc j)) (suc (length l)) (omega arith), le-leb (suc j) (length l) h, e)
         shift (no h) e = rw (lt-leb (suc (suc j)) (suc (length l)) (omega arith), lt-leb (suc j) (length l) (omega arith))
 

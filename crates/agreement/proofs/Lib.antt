@@ -15,3 +15,4 @@ pub mod SameWindows
 pub mod Second
 pub mod SentPositions
 pub mod Unchanged
+pub mod WindowModes

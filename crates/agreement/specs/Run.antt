@@ -73,12 +73,16 @@ asHeard (send.Granted g) = Granted (record { blocks = g .blocks; first = false; 
 asHeard (send.Scheduled b) = Scheduled (record { blocks = b .blocks; first = false; second = false })
 asHeard (send.Released p) = Released (record { cce = p .cce; dai = p .dai })
 
+-- What a list, one entry for each of the run's subframes, has k before subframe s; before the start `none`.
+abbrev pub agoIn : {A : Type 0} → A → List A → ℕ → ℕ → A
+agoIn none all s k = cond (leb k s) (getD all (s - k) none) none
+
 -- What was sent, and what was heard, k before subframe s; "before the start .. nothing".
 abbrev pub sentAgo : (ℕ → Send) → ℕ → ℕ → Send
 sentAgo sent s k = cond (leb k s) (sent (s - k)) send.Nothing
 
 abbrev pub heardAgo : List Heard → ℕ → ℕ → Heard
-heardAgo heard s k = cond (leb k s) (getD heard (s - k) Nothing) Nothing
+heardAgo heard = agoIn Nothing heard
 
 -- "Each s whose s mod 10 has a window in the table, past the end of the list too, has the window s − k_0, s − k_1, .."
 abbrev pub windowAt : Settings → ℕ → List ℕ
@@ -102,7 +106,7 @@ modesInRun set items = modesFrom set [] (set .mode) items
 
 -- The mode that stood when the subframe k before s was fed; before the start, the mode that the handset was made with.
 abbrev pub stoodAgo : Settings → List ℕ → ℕ → ℕ → ℕ
-stoodAgo set modes s k = cond (leb k s) (getD modes (s - k) (set .mode)) (set .mode)
+stoodAgo set modes = agoIn (set .mode) modes
 
 -- The largest number of a list; 0 of an empty one.
 abbrev pub largest : List ℕ → ℕ

@@ -7,16 +7,13 @@ use mathlib.Core.List.{List, [], _∷_}
 use mathlib.Core.Path.{_≡_, refl}
 use Rattle.reply.specs.declared.Answer.the-variants as answer
 use Rattle.handset.specs.Make.{makeOf}
-use Rattle.agreement.specs.Run.{change, windowMode}
-use Rattle.engines.proofs.Computing.{schedules, handsets, stations}
+use Rattle.agreement.specs.Run.{change}
+use Rattle.engines.proofs.Computing.{handsets, stations}
 use Rattle.engines.proofs.Worked.{Run, Worked, worked-changed, Left, changesOf, cell, times, nothing, grant, hearsNothing, hears, reply, bundledRead, multiplexedRead}
 
--- The refusals of a run's changes, 0 for none, and the modes of some of its windows.
+-- The refusals of a run's changes, 0 for none.
 abbrev pub Changes : Run → List ℕ → Type 0
 Changes r refusals = changesOf (makeOf (r .set) .handset) (r .items) ≡ refusals
-
-abbrev pub HasMode : Run → ℕ → ℕ → Type 0
-HasMode r s mode = windowMode (r .set) (r .items) s ≡ mode
 
 -- Configuration 3, made in mode 0: the window of subframe 12 is 5, 6 and 1, that of 13 is 7 and 8, that of 14 is 9 and 10. The mode is
 -- changed to 1 after subframe 1, while the window of 12 is open, and back to 0 after subframe 8, while those of 12 and 13 are. So 12 is
@@ -45,10 +42,6 @@ pub between-changes : Changes betweenWindows (0 ∷ 0 ∷ [])
 unfolding handsets
 between-changes = refl
 
-pub between-modes : HasMode betweenWindows 12 0 × HasMode betweenWindows 13 1 × HasMode betweenWindows 14 0
-unfolding schedules
-between-modes = (refl, refl, refl)
-
 -- Configuration 2, made in mode 1 and changed to mode 0 before the first feed. The window of subframe 7 is -1, 0, 3 and 1: its earliest
 -- subframe lies before the start, so it is multiplexed, though all that was fed was fed in mode 0; the state is D,A,D,D. The window of
 -- 12, which is 4, 5, 8 and 6, is bundled.
@@ -70,10 +63,6 @@ changed-first = worked-changed changedFirst refl tt tt refl refl
 pub first-changes : Changes changedFirst (0 ∷ [])
 unfolding handsets
 first-changes = refl
-
-pub first-modes : HasMode changedFirst 7 1 × HasMode changedFirst 12 0
-unfolding schedules
-first-modes = (refl, refl)
 
 -- Configuration 5: changes to mode 1 are refused 5 and one to mode 2 is refused 4. They leave the handset and are no subframes; the
 -- window of subframe 12 is answered as if they had not come.
@@ -115,6 +104,6 @@ pub after-refused : Worked afterRefused
 unfolding handsets stations
 after-refused = worked-changed afterRefused refl tt tt refl refl
 
-pub refused-and-changed : Changes afterRefused (0 ∷ []) × HasMode afterRefused 7 1
+pub then-changed : Changes afterRefused (0 ∷ [])
 unfolding handsets
-refused-and-changed = (refl, refl)
+then-changed = refl

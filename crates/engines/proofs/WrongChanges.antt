@@ -31,20 +31,14 @@ use Rattle.engines.proofs.ChangedRuns.{betweenWindows, between-windows,
 use Rattle.engines.proofs.Computing.{schedules, handsets}
 use Rattle.engines.proofs.Finite.{sending}
 use Rattle.engines.proofs.Worked.{Run, fed-nothing-at}
-use Rattle.engines.proofs.WrongEngines.{changedBy, knowsBy, answering, same-answer, holds-in}
+use Rattle.engines.proofs.WrongEngines.{changedBy, knowsBy, answering, same-answer, holds-in, BundledAt, MultiplexedAt}
 
 -- What the statement says of the reply at subframe s, which item i feeds with nothing, in the window's own mode.
 abbrev BundledThere : Engine → Run → ℕ → ℕ → Type 0
-BundledThere e r i s =
-    let own : Settings = settingsIn (r .set) (r .items) s in
-    Bundled own (e .resource own (s % 10)) (readingIn e own (sending (r .sends)) s) (windowAt (r .set) s)
-    (inTime (sentAgo (sending (r .sends)) s) (heardAgo (heardInRun (r .set) (r .items)) s) (windowAt (r .set) s)) (fedAt e (r .set) (r .items) i Nothing .answer)
+BundledThere e r i s = BundledAt e r (settingsIn (r .set) (r .items) s) i s
 
 abbrev MultiplexedThere : Engine → Run → ℕ → ℕ → Type 0
-MultiplexedThere e r i s =
-    let own : Settings = settingsIn (r .set) (r .items) s in
-    Multiplexed own (e .resource own (s % 10)) (readingIn e own (sending (r .sends)) s) (windowAt (r .set) s) (heardAgo (heardInRun (r .set) (r .items)) s)
-    (inTime (sentAgo (sending (r .sends)) s) (heardAgo (heardInRun (r .set) (r .items)) s) (windowAt (r .set) s)) (fedAt e (r .set) (r .items) i Nothing .answer)
+MultiplexedThere e r i s = MultiplexedAt e r (settingsIn (r .set) (r .items) s) i s
 
 module _ (e : Engine) (d : Demand3 e) where
   -- Bundled, by the mode of subframe 1; mode 1 stood at subframe 5.

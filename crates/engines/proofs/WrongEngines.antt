@@ -220,20 +220,27 @@ pub one-lost : {b : Bool}
     → ((true ≡ true) × ((_≡_ {A = ℕ} 1 0) ⊎ (_≡_ {A = ℕ} 1 4) ⊎ (_≡_ {A = ℕ} 1 8))) ⊎ ((true ≡ false) × (b ≡ true)) → ⊥
 one-lost due = ⊎-elim (λ p. ⊎-elim (λ e. omega arith) (⊎-elim (λ e. omega arith) (λ e. omega arith)) (p .1)) (λ p. false≢true (sym (p .0))) due
 
--- In a worked run the statement holds; without changes of mode it gives the reply at the uplink subframe s, which item s feeds with
--- nothing.
+-- In a worked run the statement holds.
 pub holds-in : (e : Engine) → Demand3 e → (r : Run) → Worked r → HoldsAfter e (r .set) (sending (r .sends)) (r .items)
 holds-in e d r w = d .run (r .set) (w .accepted) (sending (r .sends)) (w .schedule) (r .items) (w .brings)
 
+-- What it says of the reply at subframe s, which item i feeds with nothing, where these are the window's settings.
+abbrev pub BundledAt : Engine → Run → Settings → ℕ → ℕ → Type 0
+BundledAt e r own i s =
+    Bundled own (e .resource own (s % 10)) (readingIn e own (sending (r .sends)) s) (windowAt (r .set) s)
+    (inTime (sentAgo (sending (r .sends)) s) (heardAgo (heardInRun (r .set) (r .items)) s) (windowAt (r .set) s)) (fedAt e (r .set) (r .items) i Nothing .answer)
+
+abbrev pub MultiplexedAt : Engine → Run → Settings → ℕ → ℕ → Type 0
+MultiplexedAt e r own i s =
+    Multiplexed own (e .resource own (s % 10)) (readingIn e own (sending (r .sends)) s) (windowAt (r .set) s) (heardAgo (heardInRun (r .set) (r .items)) s)
+    (inTime (sentAgo (sending (r .sends)) s) (heardAgo (heardInRun (r .set) (r .items)) s) (windowAt (r .set) s)) (fedAt e (r .set) (r .items) i Nothing .answer)
+
+-- Without changes of mode the settings are the run's own, and item s feeds subframe s.
 abbrev pub BundledIn : Engine → Run → ℕ → Type 0
-BundledIn e r s =
-    Bundled (r .set) (e .resource (r .set) (s % 10)) (readingIn e (r .set) (sending (r .sends)) s) (windowAt (r .set) s)
-    (inTime (sentAgo (sending (r .sends)) s) (heardAgo (heardInRun (r .set) (r .items)) s) (windowAt (r .set) s)) (fedAt e (r .set) (r .items) s Nothing .answer)
+BundledIn e r s = BundledAt e r (r .set) s s
 
 abbrev pub MultiplexedIn : Engine → Run → ℕ → Type 0
-MultiplexedIn e r s =
-    Multiplexed (r .set) (e .resource (r .set) (s % 10)) (readingIn e (r .set) (sending (r .sends)) s) (windowAt (r .set) s) (heardAgo (heardInRun (r .set) (r .items)) s)
-    (inTime (sentAgo (sending (r .sends)) s) (heardAgo (heardInRun (r .set) (r .items)) s) (windowAt (r .set) s)) (fedAt e (r .set) (r .items) s Nothing .answer)
+MultiplexedIn e r s = MultiplexedAt e r (r .set) s s
 
 module _ (e : Engine) (d : Demand3 e) where
   bundled-in : (r : Run) → Worked r → (s : ℕ) → s < length (r .items) → itemAt (r .items) s ≡ feed Nothing → subframeAt (r .set) (r .items) s ≡ s

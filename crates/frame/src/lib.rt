@@ -15,7 +15,7 @@ pub use refusals::settings_refusal;
 pub use refusals::window_refusal;
 pub use special::is_too_short;
 pub use special::position_too_short;
-pub use table::earliest_k;
+pub use table::earliest_k_of;
 pub use table::is_downlink;
 pub use table::size_of;
 pub use table::window_of;

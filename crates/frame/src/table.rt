@@ -105,7 +105,7 @@ fn sizes_of(config: u16) -> u64
 }
 
 // Derived from the rows: the largest k of subframes 9 to 0 of a configuration, a digit each; 0 where there is no window.
-fn earliest_digits(config: u16) -> u64
+fn earliest_ks_of(config: u16) -> u64
     ensures { λ r. ⌜ r ≡ earliestDigits config ⌝ }
 {
     match config {
@@ -204,13 +204,13 @@ pub fn size_of(config: u16, n: u16) -> u16
 }
 
 // How many subframes before n the earliest one of its window is; 0 where there is no window, outside the table too.
-pub fn earliest_k(config: u16, n: u16) -> u16
+pub fn earliest_k_of(config: u16, n: u16) -> u16
     ensures { λ r. ⌜ r ≡ earliestK config n ⌝ }
 {
     if 9 < n {
         return 0;
     }
-    digit_at(earliest_digits(config), n)
+    digit_at(earliest_ks_of(config), n)
 }
 
 // How far after subframe d, of an endless run, the uplink subframe stands that answers for it; 0 where there is none.

@@ -29,15 +29,15 @@ pub fn modes_before(mode: u16) -> u16
 pub fn modes_sound(s: Settings, modes: u16) -> bool
     ensures { λ r. ⌜ r ≡ modesSound s modes ⌝ }
 {
-    let other = frame::mode_refusal(frame::in_mode(s, 1));
-    (modes % 8192 == 0) | (other == 0)
+    let multiplexing = frame::mode_refusal(frame::in_mode(s, 1));
+    (modes % 8192 == 0) | (multiplexing == 0)
 }
 
 // The settings in which the window of subframe n is answered: in the mode of its earliest subframe.
 pub fn window_settings(s: Settings, n: u16, modes: u16) -> Settings
     ensures { λ r. ⌜ r ≡ inWindowMode s n modes ⌝ }
 {
-    let k = frame::earliest_k(s.config, n);
+    let k = frame::earliest_k_of(s.config, n);
     let mode = mode_ago(modes, k);
     frame::in_mode(s, mode)
 }

@@ -17,17 +17,17 @@ same s n modes k e mode f r g = g ∙ rw (f, e)
 reached : (c n k : ℕ) → k ≡ earliestK c n → k ≤ 13
 reached c n k e = rw e (earliest-most c n)
 
-earliest-k-requires : tie.Need-earliest-k-requires
-earliest-k-requires c κs = search needs
+earliest-k-of-requires : tie.Need-earliest-k-of-requires
+earliest-k-of-requires c κs = search needs
 
 mode-ago-requires : tie.Need-mode-ago-requires
-mode-ago-requires c κs = reached _ _ _ (c .earliest-k .ensures)
+mode-ago-requires c κs = reached _ _ _ (c .earliest-k-of .ensures)
 
 in-mode-requires : tie.Need-in-mode-requires
 in-mode-requires c κs = search needs
 
 returns : tie.Need-returns
-returns c = same (c .before .before .before .args .s) _ _ _ (c .before .before .earliest-k .ensures) _ (c .before .mode-ago .ensures) _ (c .in-mode .ensures)
+returns c = same (c .before .before .before .args .s) _ _ _ (c .before .before .earliest-k-of .ensures) _ (c .before .mode-ago .ensures) _ (c .in-mode .ensures)
 
 pub window-settings-spec : {M : Type 1} → statement M
-window-settings-spec = tie.close (tie.spec earliest-k-requires mode-ago-requires in-mode-requires returns)
+window-settings-spec = tie.close (tie.spec earliest-k-of-requires mode-ago-requires in-mode-requires returns)

@@ -1,4 +1,4 @@
--- `frame::table::earliest_digits` meets its contract: each digit is the largest k of the print's row. Assumes nothing.
+-- `frame::table::earliest_ks_of` meets its contract: each digit is the largest k of the print's row. Assumes nothing.
 use mathlib.Core.Path.{refl}
 use Rattle.frame.specs.Coded.{earliestDigits}
 use Rattle.frame.specs.Earliest.{earliestK}
@@ -6,8 +6,8 @@ use Rattle.frame.specs.Order.{timesOf}
 use Rattle.frame.specs.Table.{table, windowOf}
 use Rattle.frame.proofs.Arms.{at-config, over}
 use Rattle.frame.proofs.Earliest.{no-earliest}
-use Rattle.frame.proofs.table.earliest_digits.Statement.{statement}
-use Rattle.frame.proofs.table.earliest_digits.Tie as tie
+use Rattle.frame.proofs.table.earliest_ks_of.Statement.{statement}
+use Rattle.frame.proofs.table.earliest_ks_of.Tie as tie
 
 returns : tie.Need-returns
 unfolding table windowOf timesOf earliestK earliestDigits
@@ -40,8 +40,8 @@ returns-7 c = at-config earliestDigits 6 _ _ (c .match .keys7) refl
 returns-8 : tie.Need-returns-8
 returns-8 c = no-earliest _ (over _ (c .match .rest))
 
-pub earliest-digits-spec : {M : Type 1} → statement M
-earliest-digits-spec =
+pub earliest-ks-of-spec : {M : Type 1} → statement M
+earliest-ks-of-spec =
     tie.close
     (tie.spec
     returns
