@@ -2,7 +2,7 @@
  * A worked cell: a station that sends grants, scheduled blocks and releases and reads the replies,
  * a radio that loses some on the way to the handset, higher layers that change the mode, and a
  * check that sees both ends. A line for each window and each change; it fails if a block leaves the
- * station's retransmission buffer undecoded.
+ * station's retransmission buffer undecoded. Last comes a handset with two antenna ports.
  *   cc -std=c11 -I include -o cell examples/cell.c target/staticlib/libfeedback.a
  *   ./cell 5 0 40 50 7   configuration 5, mode 0 (bundling), 40 frames, 50 % lost, seed 7
  */
@@ -268,6 +268,9 @@ static void change_mode(struct station *station, struct radio *radio, unsigned s
 
 /* ==== The check. It alone sees both: a window's line, and whether what left was decoded. ==== */
 
+/* ACK bits as text, by 2 * b0 + b1. */
+static const char *const acks[] = {"NACK NACK", "NACK ACK", "ACK NACK", "ACK ACK"};
+
 struct tally {
     unsigned sent, left, undecoded; /* blocks */
 };
@@ -275,7 +278,6 @@ struct tally {
 static void check(struct tally *tally, const struct window *window, const struct radio *radio,
                   unsigned s, struct feedback_fed fed, struct verdict verdict, int width)
 {
-    static const char *const acks[] = {"NACK NACK", "NACK ACK", "ACK NACK", "ACK ACK"};
     static const char *const kinds[] = {"-", "", "s", "r"}; /* by enum feedback_slot_kind */
     const struct feedback_window_answer *table = &window->table;
     const struct feedback_reading_answer reading = verdict.reading;
@@ -346,6 +348,84 @@ static int run(const uint16_t number[ARGUMENTS])
     return tally.undecoded != 0;
 }
 
+/* ==== Two antenna ports: a handset that replies on two resources, beside one with one port ==== */
+
+/* Which of the two handsets a line is about, and the resources it sends on. */
+static void put_handset(struct feedback_settings settings)
+{
+    printf("handset with %s ", settings.ports == 2 ? "two ports:" : "one port: ");
+}
+
+static void put_resources(uint16_t resource, uint16_t second)
+{
+    printf(" on %u", resource);
+    if (second != 0)
+        printf(" and %u", second);
+}
+
+/* A grant in the window of 2, configuration 1: position 0 is subframe 5, position 1 is 6. */
+static void put_grant(struct feedback_settings settings, uint16_t position, uint16_t cce)
+{
+    struct feedback_resource_answer mapped = feedback_resource(settings, 2, position, cce);
+    accepted(mapped.refusal);
+    put_handset(settings);
+    printf("grant in %u, CCE %u, answered", 5 + position, cce);
+    put_resources(mapped.resource, mapped.second);
+}
+
+/* The handset hears that grant alone and replies. The station reads the first port's resource. */
+static int put_reply(struct feedback_settings settings, uint16_t position, uint16_t cce)
+{
+    struct feedback_made made = feedback_make(settings);
+    accepted(made.refusal);
+    made.handset.next = (uint16_t)(5 + position);
+    struct feedback_fed fed = feedback_feed_grant(made.handset, 2, 1, 1, cce, 1);
+    for (unsigned s = 6u + position; s <= 12 && fed.refusal == 0; s++) /* to 2 of the next frame */
+        fed = feedback_feed_nothing(fed.handset);
+    accepted(fed.refusal);
+    struct feedback_reading_answer reading =
+        feedback_reading(settings, 2, FEEDBACK_NONE, fed.resource, fed.b0, fed.b1);
+    accepted(reading.refusal);
+    put_handset(settings);
+    printf("bits %u%u", fed.b0, fed.b1);
+    put_resources(fed.resource, fed.second);
+    printf(", read as %u CCE %u %s\n", 5 + reading.position, reading.cce,
+           acks[2 * reading.b0 + reading.b1]);
+    return reading.position != position || reading.cce != cce || !reading.b0 || !reading.b1;
+}
+
+/*
+ * Both handsets get a grant that is answered in 2. The second one's is moved up until no two
+ * resources coincide. One handset has two ports, so the claims are to be checked with two: checked
+ * with one, no second resource is looked at, and they are clean from the start.
+ */
+static int two_ports(void)
+{
+    static const char *const kinds[] = {"refused", "clean", "clash"}; /* of claims */
+    struct feedback_settings one = FEEDBACK_SETTINGS(1, 50, 10, FEEDBACK_MODE_BUNDLING, 2);
+    struct feedback_settings two = one;
+    two.ports = 2; /* only with bundling, and with no resource for scheduled blocks */
+    uint8_t scratch[FEEDBACK_SCRATCH_MOST];
+    puts("\ntwo antenna ports: configuration 1, bundling, subframe 2 answers for 5 and 6");
+    put_grant(two, 0, 10);
+    puts("");
+    for (uint16_t cce = 0;; cce += 2) {
+        uint16_t claims[] = {FEEDBACK_CLAIM(0, 10), FEEDBACK_CLAIM(1, cce)};
+        struct feedback_claims_answer by_one =
+            feedback_claims(one, 2, claims, 2, scratch, sizeof scratch);
+        struct feedback_claims_answer by_two =
+            feedback_claims(two, 2, claims, 2, scratch, sizeof scratch);
+        accepted(by_one.refusal);
+        accepted(by_two.refusal);
+        put_grant(one, 1, cce);
+        printf("; checked with one port %s, with two %s\n", kinds[by_one.kind], kinds[by_two.kind]);
+        if (by_two.kind == FEEDBACK_CLAIMS_CLEAN) {
+            int failed = put_reply(two, 0, 10);
+            return put_reply(one, 1, cce) || failed;
+        }
+    }
+}
+
 int main(int argc, char **argv)
 {
     for (int i = 1; i < argc; i++) {
@@ -367,5 +447,7 @@ int main(int argc, char **argv)
     int status = 0;
     for (size_t i = 0; i < (argc > 1 ? 1 : sizeof runs / sizeof *runs); i++)
         status |= run(runs[i]);
+    if (argc == 1)
+        status |= two_ports();
     return status;
 }

@@ -6,7 +6,8 @@
  * acknowledged. The rules are those of 3GPP TS 36.213 version 9.3.0 (Release 9),
  * sections 7.3 and 10.1, and 7.1.7 for special subframes without data, for one
  * serving cell with dynamic grants and semi-persistent scheduling, and PUCCH formats
- * 1a, 1b and 1b with channel selection. Link with libfeedback.a, which is built for
+ * 1a, 1b and 1b with channel selection; for PUCCH on two antenna ports, those of a
+ * later release, section 10.1.3. Link with libfeedback.a, which is built for
  * x86-64 with the System V calling convention. For C99 and C++98 and all later.
  *
  *   calls of both ends      feedback_window, feedback_answered
@@ -74,7 +75,15 @@
  *             the pairs of position and first CCE and the resources N1 to
  *             N1 + M * N_4 - 1 belong to each other one to one. That of a
  *             scheduled block is the setting scheduled, below N1, which is no
- *             PDCCH's.
+ *             PDCCH's. A handset with two ports sends on a second resource too.
+ * port        a transmit antenna port of the handset for PUCCH. A handset has one
+ *             or two: a setting of the handset. With two a reply is sent on two
+ *             resources at once, with the same bits on both: from the first port on
+ *             the resource of its PDCCH, from the second port on the one above, which
+ *             is N1 + M * N_4 at most. Two ports are for bundled replies to PDCCHs:
+ *             the mode is then 0, and no resource is set for scheduled blocks. Where
+ *             a call takes one resource, or one to one is said of resources, the
+ *             first port's are meant.
  * DAI         1 to 4, counts the PDCCHs of a window: the j-th PDCCH that the
  *             station sends in a window, in time order, carries
  *             ((j - 1) mod 4) + 1. Those that get lost are counted too; a
@@ -84,7 +93,8 @@
  *             in the mode that stood when its EARLIEST subframe was fed, n - k for
  *             the largest k, which need not be k_0 (7,6,11 and 6,5,4,7); where that
  *             lies before the start, in the mode that the handset was made with. A
- *             reply is read in the mode of its window.
+ *             reply is read in the mode of its window. A handset with two ports
+ *             stays in mode 0.
  * bundled     one reply for the window, in mode 0, and in mode 1 where M = 1.
  *             The handset is silent if it heard nothing. In configurations 1 to
  *             6 it is silent too if the DAI of the last PDCCH heard, V, shows a
@@ -94,11 +104,11 @@
  *             every grant heard, and the scheduled block if heard, decoded that
  *             block; a release counts as decoded. The resource is that of the
  *             last PDCCH heard, last in time, though the scheduled block may be
- *             later. Where the scheduled block is the only thing heard, however
- *             many PDCCHs were lost, it is answered on its own resource. One bit
- *             (format 1a) where the setting blocks is 1, two (1b) where it is 2.
- *             There a grant or scheduled block with one block answers for both
- *             bits.
+ *             later; with two ports the second resource is one above it. Where the
+ *             scheduled block is the only thing heard, however many PDCCHs were
+ *             lost, it is answered on its own resource. One bit (format 1a) where
+ *             the setting blocks is 1, two (1b) where it is 2. There a grant or
+ *             scheduled block with one block answers for both bits.
  * multiplexed in mode 1 where M is 2 to 4. Each position is A (heard, every
  *             block carried was decoded; a release is A), N (heard, not so) or D
  *             (not heard). Tables 10.1-2 to 10.1-4 give a position i and two bits
@@ -117,7 +127,8 @@
  * and none leaves the file. The records follow one another: record 0 is subframe 0 of a
  * frame, record i is subframe i modulo 10. Numbers of two bytes have the low byte first.
  * A trace has one mode, that of its settings: no record changes it, and every window of
- * its replay is answered in it.
+ * its replay is answered in it. It has one antenna port always: there is no field for
+ * ports, and the replies of its replay are those of a handset with one.
  *
  *             header, 8 bytes
  *             0, 1     records     the number of records; at most 16379 have room
@@ -126,7 +137,7 @@
  *             4, 5     settings    the place of the settings
  *             6, 7     length      the number of bytes of the whole file
  *
- *             settings, 10 bytes: the fields of struct feedback_settings
+ *             settings, 10 bytes: the fields of struct feedback_settings but ports
  *             0        config
  *             1        nrb
  *             2        mode
@@ -187,8 +198,8 @@
  * STACK
  *
  * The most bytes of stack that a call takes, measured and rounded up, with what is
- * pushed to make it (the return address, and a handset, which goes in by value) and
- * without the answer, which lies where its caller puts it:
+ * pushed to make it (the return address, and settings or a handset, which go in by
+ * value) and without the answer, which lies where its caller puts it:
  *
  *             feedback_window         128
  *             feedback_answered       64
@@ -220,14 +231,16 @@
 #include <stdint.h>
 
 /* This header's version: major * 10000 + minor * 100 + patch, and the same as text. */
-#define FEEDBACK_VERSION 40000
-#define FEEDBACK_VERSION_TEXT "4.0.0"
+#define FEEDBACK_VERSION 50000
+#define FEEDBACK_VERSION_TEXT "5.0.0"
 
 #define FEEDBACK_WINDOW_MOST 9     /* the most subframes of a window: M in configuration 5 */
 #define FEEDBACK_MEMORY 13         /* the subframes that a handset remembers: the greatest k */
-#define FEEDBACK_SCRATCH_MOST 1206 /* the most scratch that feedback_claims needs: 9 * 134 */
+#define FEEDBACK_SCRATCH_MOST 1207 /* the most scratch that feedback_claims needs, with two
+                                      ports: 9 * 134 + 1 */
 #define FEEDBACK_BIT_SCRATCH_MOST 151 /* the most scratch that feedback_claims_bits needs, in
-                                         bytes: (9 * 134 + 7) / 8 */
+                                         bytes, with two ports: (9 * 134 + 8) / 8, rounded
+                                         down */
 
 #define FEEDBACK_TRACE_HEADER 8     /* the bytes of a trace's header */
 #define FEEDBACK_TRACE_SETTINGS 10  /* the bytes of its settings */
@@ -264,7 +277,7 @@ extern "C" {
  * Why a call refuses: the value of refusal in every answer, 0 for no refusal. Each
  * call names the refusals it can give. Where several causes are met, the first in this
  * order is given:
- * 21, 22, 1 to 6, 17, 19, 7, 8, 9, 20, 10, 11, 12, 18, 13, 14, 15, 16; 23 in
+ * 21, 22, 1 to 6, 17, 19, 24, 7, 8, 9, 20, 10, 11, 12, 18, 13, 14, 15, 16; 23 in
  * feedback_replay after 19 and before any record, in feedback_trace_write last of all.
  * A refused call changes nothing: no buffer is written, no state moves on, nothing is
  * made. Beside a refusal every other number of the answer is 0. There are four
@@ -285,26 +298,28 @@ enum feedback_refusal {
     FEEDBACK_REFUSED_SUBFRAME = 7,      /* subframe over 9 or without a window; in
                                            feedback_answered an uplink subframe, which lies in no
                                            window, or one over 9 */
-    FEEDBACK_REFUSED_STATE = 8,         /* lent state fails 1 to 6, 17 or 19, expects a subframe
-                                           over 9, or remembers a mode that fails 5 (mode 1 in
-                                           configuration 5) or what fails 9 to 12, 18 or 20
-                                           there, in the subframe that brought it (so two
-                                           scheduled blocks of one window too); also a remembered
-                                           kind that is not in enum feedback_slot_kind */
+    FEEDBACK_REFUSED_STATE = 8,         /* lent state fails 1 to 6, 17, 19 or 24, expects a
+                                           subframe over 9, or remembers a mode that fails 5 or 24
+                                           (mode 1 in configuration 5, or with two ports) or what
+                                           fails 9 to 12, 18 or 20 there, in the subframe that
+                                           brought it (so two scheduled blocks of one window too);
+                                           also a remembered kind that is not in enum
+                                           feedback_slot_kind */
     FEEDBACK_REFUSED_UPLINK = 9,        /* grant, scheduled block or release in an uplink
                                            subframe */
     FEEDBACK_REFUSED_CARRIED = 10,      /* blocks carried 0 or over the setting */
     FEEDBACK_REFUSED_CCE = 11,          /* first CCE not below N_4 (also position not below M, in
                                            feedback_resource and told to feedback_reading) */
     FEEDBACK_REFUSED_DAI = 12,          /* DAI not 1 to 4 */
-    FEEDBACK_REFUSED_RESOURCE = 13,     /* resource below N1 or above N1 + M * N_4 - 1 (but not
-                                           the scheduled resource, in feedback_reading where a
-                                           scheduled position is told) */
+    FEEDBACK_REFUSED_RESOURCE = 13,     /* resource below N1 or above N1 + M * N_4 - 1, with two
+                                           ports as with one (but not the scheduled resource, in
+                                           feedback_reading where a scheduled position is told) */
     FEEDBACK_REFUSED_BITS = 14,         /* bit over 1, second bit set in a one-bit reply, or a
                                            symbol in no row of Tables 10.1-2 to 10.1-4 */
-    FEEDBACK_REFUSED_SCRATCH = 15,      /* scratch shorter than M * N_4 bytes; in
-                                           feedback_claims_bits shorter than
-                                           (M * N_4 + 7) / 8 bytes, rounded down */
+    FEEDBACK_REFUSED_SCRATCH = 15,      /* scratch shorter than M * N_4 bytes, with two ports
+                                           M * N_4 + 1; in feedback_claims_bits shorter than
+                                           (M * N_4 + 7) / 8 bytes, with two ports
+                                           (M * N_4 + 8) / 8, rounded down */
     FEEDBACK_REFUSED_CLAIM = 16,        /* claim with m not below M or CCE not below N_4 */
     FEEDBACK_REFUSED_SCHEDULED_RESOURCE = 17, /* scheduled resource set and not below N1 */
     FEEDBACK_REFUSED_SCHEDULED = 18,    /* scheduled block with no scheduled resource set, or a
@@ -321,10 +336,13 @@ enum feedback_refusal {
     FEEDBACK_REFUSED_TRACE_PARTS = 22,  /* parts of the trace, the header too, that share a byte
                                            or leave the file (where there are no records, their
                                            place is ignored), or a record's kind over 3 */
-    FEEDBACK_REFUSED_OUTPUT = 23        /* output too short: in feedback_replay under eight bytes
+    FEEDBACK_REFUSED_OUTPUT = 23,       /* output too short: in feedback_replay under eight bytes
                                            for each window that the records of the header
                                            complete, in feedback_trace_write under 18 bytes and
                                            four for each record */
+    FEEDBACK_REFUSED_PORTS = 24         /* ports not 1 or 2, or two ports with mode 1 or with a
+                                           scheduled resource set; in feedback_change_mode two
+                                           ports and the new mode 1, and nothing else */
 };
 
 /* The kind of a feed's answer, and of a reading (there 0, 1 or 2). */
@@ -340,8 +358,8 @@ enum feedback_kind {
 /* The kind of an answer about claims. */
 enum feedback_claims_kind {
     FEEDBACK_CLAIMS_REFUSED = 0, /* refused; the refusal says why */
-    FEEDBACK_CLAIMS_CLEAN = 1,   /* no two claims are equal */
-    FEEDBACK_CLAIMS_CLASH = 2    /* two claims are equal */
+    FEEDBACK_CLAIMS_CLEAN = 1,   /* no two claims share a resource */
+    FEEDBACK_CLAIMS_CLASH = 2    /* two claims share a resource; with one port, they are equal */
 };
 
 /* The kind of a replay's answer. */
@@ -393,42 +411,50 @@ enum feedback_slot_results {
 };
 
 /*
- * The settings of a handset in a cell. 16 bytes. config, nrb, n1, prefix and special are
- * the cell's, the same for all its handsets; mode, blocks and scheduled are the
+ * The settings of a handset in a cell. 18 bytes. config, nrb, n1, prefix and special are
+ * the cell's, the same for all its handsets; mode, blocks, scheduled and ports are the
  * handset's own, set by higher layers for each, and its replies are read with them,
  * each in the mode of its own window.
- * Every call that takes settings refuses 1 to 6, 17 and 19 for them; feedback_window,
- * feedback_answered, feedback_resource, feedback_inverse, feedback_claims and
- * feedback_claims_bits ask no more of mode, blocks, scheduled, prefix and special than
- * that, and answer alike for all handsets of a cell.
+ * Every call that takes settings refuses 1 to 6, 17, 19 and 24 for them; feedback_window,
+ * feedback_answered and feedback_inverse ask no more of mode, blocks, scheduled, prefix,
+ * special and ports than that, and answer alike for all handsets of a cell.
+ * feedback_resource, feedback_claims and feedback_claims_bits ask besides for ports, and
+ * answer alike for all that have the same number of them: with two the first gives the
+ * second resource too, and the others take each claim to have two resources.
+ * feedback_reading asks no more of ports: it is told the first port's resource.
  *
  * FEEDBACK_SETTINGS, below, fills the first five, sets scheduled to FEEDBACK_NONE,
- * prefix to 0 and special to 7, with which special subframes carry data. Where a
- * scheduled resource is configured, and where the cell has another prefix or special
- * subframe configuration, write it into the field afterwards; with the extended prefix
- * write both, for it has no special subframe configuration 7. Settings that a later
- * version adds it fills too.
+ * prefix to 0, special to 7, with which special subframes carry data, and ports to 1.
+ * Where a scheduled resource or two ports are configured, and where the cell has another
+ * prefix or special subframe configuration, write it into the field afterwards; with the
+ * extended prefix write both, for it has no special subframe configuration 7. Settings
+ * that a later version adds it fills too.
  */
 struct feedback_settings {
     uint16_t config;    /* uplink-downlink configuration, 0 to 6 */
     uint16_t nrb;       /* bandwidth N_RB in resource blocks, 6 to 110 */
     uint16_t n1;        /* N1, the higher-layer N_PUCCH^(1), 0 to 2047 */
-    uint16_t mode;      /* 0 bundling, 1 multiplexing; configuration 5 has no multiplexing */
+    uint16_t mode;      /* 0 bundling, 1 multiplexing; configuration 5 has no multiplexing, nor has
+                           a handset with two ports */
     uint16_t blocks;    /* the most transport blocks of one grant or scheduled block, 1 or 2 */
     uint16_t scheduled; /* the PUCCH resource that higher layers configure for scheduled blocks,
-                           below N1, or FEEDBACK_NONE: none is set. A field left 0 is resource 0,
-                           and not "none"; where N1 is 0 it is refused 17 */
+                           below N1, or FEEDBACK_NONE: none is set, as with two ports it must be.
+                           A field left 0 is resource 0, and not "none"; where N1 is 0 it is
+                           refused 17, else with two ports 24 */
     uint16_t prefix;    /* the cyclic prefix of the downlink, 0 normal, 1 extended */
     uint16_t special;   /* special subframe configuration, 0 to 8 with the normal prefix, 0 to 6
                            with the extended. 0 forbids data in special subframes, as 5 does with
                            the normal prefix and 4 with the extended: a grant or scheduled block
                            there is refused 20. So where fields are filled by hand, set this one
                            too; FEEDBACK_SETTINGS gives 7, with which nothing is refused 20 */
+    uint16_t ports;     /* the transmit antenna ports of the handset for PUCCH, 1 or 2; 2 only with
+                           mode 0 and scheduled FEEDBACK_NONE. A field left 0 is refused 24: where
+                           fields are filled by hand, set this one too; FEEDBACK_SETTINGS gives 1 */
 };
 
 /* The answer of feedback_window. 40 bytes. */
 struct feedback_window_answer {
-    uint16_t refusal;                     /* 0, or 1 to 7, 17 or 19 */
+    uint16_t refusal;                     /* 0, or 1 to 7, 17, 19 or 24 */
     uint16_t size;                        /* M, 1 to 9; 0 if refused */
     uint16_t k[FEEDBACK_WINDOW_MOST];     /* k_0 to k_(M-1), K as printed; 0 from M on */
     uint16_t order[FEEDBACK_WINDOW_MOST]; /* the positions 0 to M - 1 in time order, the earliest
@@ -437,28 +463,31 @@ struct feedback_window_answer {
 
 /* The answer of feedback_answered. 8 bytes. */
 struct feedback_answered_answer {
-    uint16_t refusal;  /* 0, or 1 to 7, 17 or 19 */
+    uint16_t refusal;  /* 0, or 1 to 7, 17, 19 or 24 */
     uint16_t n;        /* the uplink subframe that answers; 0 if refused */
     uint16_t k;        /* how many subframes later that is, 4 to 13; 0 if refused */
     uint16_t position; /* the position m in the window of n, 0 to M - 1; 0 if refused */
 };
 
-/* The answer of feedback_resource. 4 bytes. */
+/* The answer of feedback_resource. 6 bytes. */
 struct feedback_resource_answer {
-    uint16_t refusal;  /* 0, or 1 to 7, 11, 17 or 19 */
-    uint16_t resource; /* the PUCCH resource, N1 to N1 + M * N_4 - 1; 0 if refused */
+    uint16_t refusal;  /* 0, or 1 to 7, 11, 17, 19 or 24 */
+    uint16_t resource; /* the PUCCH resource, with two ports that of the first port, N1 to
+                          N1 + M * N_4 - 1; 0 if refused */
+    uint16_t second;   /* with two ports the PUCCH resource of the second port, resource + 1; 0 with
+                          one port, or refused */
 };
 
 /* The answer of feedback_inverse. 6 bytes. */
 struct feedback_inverse_answer {
-    uint16_t refusal;  /* 0, or 1 to 7, 13, 17 or 19 */
+    uint16_t refusal;  /* 0, or 1 to 7, 13, 17, 19 or 24 */
     uint16_t position; /* the position m in the window, 0 to M - 1; 0 if refused */
     uint16_t cce;      /* the first CCE, 0 to N_4 - 1; 0 if refused */
 };
 
 /* The answer of feedback_reading. 16 bytes. */
 struct feedback_reading_answer {
-    uint16_t refusal;   /* 0, or 1 to 7, 11, 13, 14 or 17 to 20 */
+    uint16_t refusal;   /* 0, or 1 to 7, 11, 13, 14, 17 to 20 or 24 */
     uint16_t kind;      /* FEEDBACK_KIND_BUNDLED or FEEDBACK_KIND_MULTIPLEXED; 0 if refused */
     uint16_t position;  /* the position m of the PDCCH or scheduled block whose resource this is;
                            0 if refused */
@@ -474,10 +503,10 @@ struct feedback_reading_answer {
 
 /* The answer of feedback_claims and of feedback_claims_bits. 16 bytes. */
 struct feedback_claims_answer {
-    uint16_t refusal; /* 0, or 1 to 7, 15, 16, 17 or 19 */
+    uint16_t refusal; /* 0, or 1 to 7, 15, 16, 17, 19 or 24 */
     uint16_t kind;    /* FEEDBACK_CLAIMS_CLEAN or FEEDBACK_CLAIMS_CLASH; 0 if refused */
-    uint64_t index;   /* clash: the index of the first claim that is equal to an earlier one;
-                         refused 16: the index of the first bad claim; else 0 */
+    uint64_t index;   /* clash: the index of the first claim that shares a resource with an earlier
+                         one; refused 16: the index of the first bad claim; else 0 */
 };
 
 /* What one subframe brought: remembered by a handset, or a record of a trace. 4 bytes. */
@@ -490,7 +519,7 @@ struct feedback_slot {
 };
 
 /*
- * The state of a handset. 72 bytes without padding.
+ * The state of a handset. 74 bytes without padding.
  *
  * feedback_make makes one, a feed or a change of mode takes one and gives back the next.
  * It is plain bytes: it may be copied, stored, and given back later, as often as you
@@ -500,8 +529,8 @@ struct feedback_slot {
  * 0 into such bytes of the slot that it adds. Bits of modes that have no meaning are
  * carried along by a change of mode, and dropped by the next feed that is not refused.
  *
- * A handset that was stored by a version before 4.0.0 has 64, 66 or 70 bytes and another
- * layout: it cannot be fed to this one. Make a fresh handset.
+ * A handset that was stored by a version before 5.0.0 has 64, 66, 70 or 72 bytes and
+ * another layout: it cannot be fed to this one. Make a fresh handset.
  */
 struct feedback_handset {
     struct feedback_settings settings; /* its mode is the one that stands */
@@ -512,30 +541,34 @@ struct feedback_handset {
     struct feedback_slot past[FEEDBACK_MEMORY]; /* the last 13 subframes, the newest first */
 };
 
-/* The answer of feedback_make. 74 bytes. */
+/* The answer of feedback_make. 76 bytes. */
 struct feedback_made {
-    uint16_t refusal;                /* 0, or 1 to 6, 17 or 19 */
-    struct feedback_handset handset; /* the fresh handset; 72 zero bytes if refused, a state
+    uint16_t refusal;                /* 0, or 1 to 6, 17, 19 or 24 */
+    struct feedback_handset handset; /* the fresh handset; 74 zero bytes if refused, a state
                                         that every feed refuses with 8, and every change to
                                         mode 0 or 1 */
 };
 
-/* The answer of feedback_change_mode. 74 bytes. */
+/* The answer of feedback_change_mode. 76 bytes. */
 struct feedback_changed {
-    uint16_t refusal;                /* 0, or 4, 5 or 8 */
+    uint16_t refusal;                /* 0, or 4, 5, 8 or 24 */
     struct feedback_handset handset; /* in the new mode; if refused, the handset as it was */
 };
 
-/* The answer of a feed. 82 bytes. */
+/* The answer of a feed. 86 bytes. */
 struct feedback_fed {
     uint16_t refusal;  /* 0, or 8 (feedback_feed_nothing), 8 to 12 or 20 (feedback_feed_grant), 8,
                           9, 10, 18 or 20 (feedback_feed_scheduled), 8, 9, 11 or 12
                           (feedback_feed_release) */
     uint16_t kind;     /* one of enum feedback_kind */
-    uint16_t resource; /* bundled, multiplexed: the PUCCH resource to send on; else 0 */
+    uint16_t resource; /* bundled, multiplexed: the PUCCH resource to send on, with two ports that
+                          of the first port; else 0 */
     uint16_t b0;       /* bundled: 1 ACK of the first block, 0 NACK; multiplexed: b(0); else 0 */
     uint16_t b1;       /* bundled: the same of the second block, 0 in a one-bit reply;
                           multiplexed: b(1); else 0 */
+    uint16_t second;   /* a reply with two ports: the PUCCH resource on which the second port sends
+                          the same bits, resource + 1; 0 with one port, and where there is no
+                          reply */
     struct feedback_handset handset; /* for the next call; if refused, the handset as it was */
 };
 
@@ -575,7 +608,7 @@ struct feedback_write_answer {
  * Position order[0] has the earliest subframe, order[M - 1] the latest: with w the
  * answer, w.k[w.order[j]] falls as j rises.
  *
- * Refuses 1 to 6, 17, 19 and 7.
+ * Refuses 1 to 6, 17, 19, 24 and 7.
  */
 FEEDBACK_MUST_USE
 struct feedback_window_answer feedback_window(struct feedback_settings settings, uint16_t n);
@@ -591,23 +624,25 @@ struct feedback_window_answer feedback_window(struct feedback_settings settings,
  * position in the window of n. Each downlink subframe is in exactly one window, a
  * special one too short for data as well: a release there is answered.
  *
- * Refuses 1 to 6, 17, 19 and 7; 7 is an uplink subframe here, which lies in no window,
- * or one over 9.
+ * Refuses 1 to 6, 17, 19, 24 and 7; 7 is an uplink subframe here, which lies in no
+ * window, or one over 9.
  */
 FEEDBACK_MUST_USE
 struct feedback_answered_answer feedback_answered(struct feedback_settings settings,
                                                   uint16_t subframe);
 
 /*
- * The PUCCH resource that belongs to a PDCCH, a grant or a release.
+ * The PUCCH resource that belongs to a PDCCH, a grant or a release, and with two ports
+ * the second one too.
  *
- *   settings   the settings of the cell
+ *   settings   the settings of the cell, with the ports of the handset that the PDCCH
+ *              is for
  *   n          the uplink subframe of the reply, 0 to 9, one with a window
  *   position   the position m in the window of n of the subframe that carried
  *              the PDCCH, 0 to M - 1
  *   cce        the first CCE of the PDCCH, 0 to N_4 - 1
  *
- * Refuses 1 to 6, 17, 19, 7 and 11.
+ * Refuses 1 to 6, 17, 19, 24, 7 and 11.
  */
 FEEDBACK_MUST_USE
 struct feedback_resource_answer feedback_resource(struct feedback_settings settings, uint16_t n,
@@ -618,10 +653,11 @@ struct feedback_resource_answer feedback_resource(struct feedback_settings setti
  *
  *   settings   the settings of the cell
  *   n          the uplink subframe of the reply, 0 to 9, one with a window
- *   resource   the PUCCH resource, N1 to N1 + M * N_4 - 1
+ *   resource   the PUCCH resource, with two ports that of the first port, N1 to
+ *              N1 + M * N_4 - 1
  *
- * Refuses 1 to 6, 17, 19, 7 and 13; 13 also for the resource of scheduled blocks,
- * which no PDCCH has.
+ * Refuses 1 to 6, 17, 19, 24, 7 and 13; 13 also for the resource of scheduled blocks,
+ * which no PDCCH has, and for N1 + M * N_4, which is a second port's alone.
  */
 FEEDBACK_MUST_USE
 struct feedback_inverse_answer feedback_inverse(struct feedback_settings settings, uint16_t n,
@@ -640,7 +676,9 @@ struct feedback_inverse_answer feedback_inverse(struct feedback_settings setting
  *                        handset in the window of n, heard or not, 0 to M - 1, and
  *                        not that of a special subframe too short for data, where
  *                        none can be sent; FEEDBACK_NONE where none was sent
- *   resource             the PUCCH resource on which the reply came
+ *   resource             the PUCCH resource on which the reply came; of a handset with
+ *                        two ports the first port's, the lower of the two. The upper
+ *                        one would be read as another PDCCH's, or refused 13
  *   b0, b1               its bits, each 0 or 1; in a one-bit reply (bundled,
  *                        settings.blocks 1) b1 is 0
  *
@@ -706,11 +744,11 @@ struct feedback_inverse_answer feedback_inverse(struct feedback_settings setting
  * changes of mode in between as you like, and its reply as it was sent, read with its own
  * settings in the mode of the window.
  *
- * Refuses 1 to 6, 17, 19, 7, 20, 11, 18, 13 and 14. 20 is a position told whose subframe
- * is a special one too short for data, 11 one told that is not below M, and 18 one told
- * with no resource set, all three whatever resource the reply came on. 13 is not given
- * for settings.scheduled where a position is told; without one it is. On that resource
- * 14 goes by the position told.
+ * Refuses 1 to 6, 17, 19, 24, 7, 20, 11, 18, 13 and 14. 20 is a position told whose
+ * subframe is a special one too short for data, 11 one told that is not below M, and 18
+ * one told with no resource set (with two ports none is), all three whatever resource
+ * the reply came on. 13 is not given for settings.scheduled where a position is told;
+ * without one it is. On that resource 14 goes by the position told.
  */
 FEEDBACK_MUST_USE
 struct feedback_reading_answer feedback_reading(struct feedback_settings settings, uint16_t n,
@@ -720,27 +758,42 @@ struct feedback_reading_answer feedback_reading(struct feedback_settings setting
 /*
  * Whether the PDCCHs answered in one uplink subframe keep out of each other's
  * PUCCH resources. A claim is one PDCCH, a grant or a release: position m * 256 +
- * first CCE, as FEEDBACK_CLAIM makes it. A scheduled block makes no claim: its
+ * first CCE, as FEEDBACK_CLAIM makes it. It has the resources that feedback_resource
+ * gives: r with one port, r and r + 1 with two. A scheduled block makes no claim: its
  * resource is below N1, where no PDCCH has one.
  *
- *   settings   the settings of the cell
+ *   settings   the settings of the cell, with the ports that the handsets of all these
+ *              PDCCHs have; where some have one and some two, see below
  *   n          the uplink subframe of the replies, 0 to 9, one with a window
  *   claims     the list of claims, only read; aligned as C demands of uint16_t
  *   count      the number of claims
- *   scratch    bytes to work in, at least M * N_4 of them (FEEDBACK_SCRATCH_MOST
- *              are always enough)
+ *   scratch    bytes to work in, at least M * N_4 of them, with two ports M * N_4 + 1
+ *              (FEEDBACK_SCRATCH_MOST are always enough)
  *   room       the number of bytes lent in scratch
  *
- * Clean if no two claims are equal, which is to say that no two PDCCHs share a
- * resource; else a clash, with the index (from 0) of the first claim that is
- * equal to an earlier one. The empty list is clean.
+ * Clean if no two claims share a resource; else a clash, with the index (from 0) of the
+ * first claim one of whose resources is one of an earlier claim's. With one port two
+ * claims share a resource exactly if they are equal; with two also where the one's r is
+ * next to the other's. The empty list is clean.
  *
- * Afterwards byte t of scratch, t below M * N_4, is 1 if t + N1 is the resource
- * of a claim before that index (of any claim, when clean), else 0. Later bytes
- * keep their values. What scratch held before does not matter.
+ * Afterwards byte t of scratch, t below M * N_4, with two ports below M * N_4 + 1, is 1
+ * if t + N1 is one of the resources of a claim before that index (of any claim, when
+ * clean), else 0. Later bytes keep their values. What scratch held before does not
+ * matter.
  *
- * Refuses 1 to 6, 17, 19, 7, 15 and 16. If refused, all of scratch is as it was. 16 is
- * given for a bad claim anywhere in the list, even after a clash, with the index of
+ * One call has one number of ports, for all claims of its list. In a cell where some
+ * handsets have one port and some two, give ports 2 (and so mode 0 and scheduled
+ * FEEDBACK_NONE, whatever the handsets have). Every claim is then taken to have two
+ * resources: a list that is clean so is clean whichever handsets it is for, but a clash
+ * may be with a second resource on which a handset with one port does not send. With
+ * ports 1 no second resource is looked at, and clean says nothing of them. To know
+ * exactly, check two lists, the claims for handsets with one port with ports 1 and those
+ * for handsets with two with ports 2, each in a scratch of its own: no two of all these
+ * claims share a resource exactly if both lists are clean and no byte below M * N_4 is 1
+ * in both scratches.
+ *
+ * Refuses 1 to 6, 17, 19, 24, 7, 15 and 16. If refused, all of scratch is as it was. 16
+ * is given for a bad claim anywhere in the list, even after a clash, with the index of
  * the first bad one. A claim at the position of a special subframe too short for data is
  * not refused: a release may be there.
  *
@@ -760,25 +813,28 @@ struct feedback_claims_answer feedback_claims(struct feedback_settings settings,
  * The same with an eighth of the scratch: one bit for each resource, where
  * feedback_claims has a byte.
  *
- *   settings   the settings of the cell
+ *   settings   the settings of the cell, with the ports as in feedback_claims
  *   n          the uplink subframe of the replies, 0 to 9, one with a window
  *   claims     the list of claims, only read; aligned as C demands of uint16_t
  *   count      the number of claims
- *   scratch    bytes to work in, at least (M * N_4 + 7) / 8 of them, rounded down
- *              (FEEDBACK_BIT_SCRATCH_MOST are always enough)
+ *   scratch    bytes to work in, at least (M * N_4 + 7) / 8 of them, with two ports
+ *              (M * N_4 + 8) / 8, rounded down (FEEDBACK_BIT_SCRATCH_MOST are always
+ *              enough)
  *   room       the number of bytes lent in scratch
  *
  * For every list and every room the answer is the one that feedback_claims gives with
  * 8 * room bytes: clean, or a clash with the same index, or the same refusal.
  *
  * Afterwards bit t modulo 8 (value 1 << t % 8) of byte t / 8 of scratch, t below
- * M * N_4, is 1 if t + N1 is the resource of a claim before the clash (of any claim, when
- * clean), else 0. The bits of the last byte that are left over, from M * N_4 on, are 0.
- * Bytes from (M * N_4 + 7) / 8, rounded down, on keep their values. What scratch held
- * before does not matter.
+ * M * N_4, with two ports below M * N_4 + 1, is 1 if t + N1 is one of the resources of a
+ * claim before the clash (of any claim, when clean), else 0. The bits of the last byte
+ * that are left over, from M * N_4 on, with two ports from M * N_4 + 1, are 0. Bytes from
+ * (M * N_4 + 7) / 8 on, with two ports from (M * N_4 + 8) / 8, rounded down, keep their
+ * values. What scratch held before does not matter.
  *
- * Refuses 1 to 6, 17, 19, 7, 15 and 16 as feedback_claims does, but 15 means that room is
- * below (M * N_4 + 7) / 8, rounded down. If refused, all of scratch is as it was.
+ * Refuses 1 to 6, 17, 19, 24, 7, 15 and 16 as feedback_claims does, but 15 means that
+ * room is below (M * N_4 + 7) / 8, with two ports (M * N_4 + 8) / 8, rounded down. If
+ * refused, all of scratch is as it was.
  *
  * Of lengths of 0, NULL and memory that overlaps the same holds as for feedback_claims.
  */
@@ -795,8 +851,8 @@ struct feedback_claims_answer feedback_claims_bits(struct feedback_settings sett
  *
  *   settings   the settings of the handset
  *
- * Refuses 1 to 6, 17 and 19; nothing is made then, and the handset beside the refusal
- * is 72 zero bytes.
+ * Refuses 1 to 6, 17, 19 and 24; nothing is made then, and the handset beside the refusal
+ * is 74 zero bytes.
  */
 FEEDBACK_MUST_USE
 struct feedback_made feedback_make(struct feedback_settings settings);
@@ -816,7 +872,8 @@ struct feedback_made feedback_make(struct feedback_settings settings);
  * before it. The station reads each reply in the mode of its window: see
  * feedback_reading.
  *
- * Refuses 4 and 5 for the new mode with the other settings of the handset, then 8. The
+ * Refuses 4, 5 and 24 for the new mode with the other settings of the handset, then 8.
+ * 24 is mode 1 for a handset with two ports; ports that are not 1 or 2 are 8 here. The
  * handset of the answer is then the one given, byte for byte: the old mode stands.
  */
 FEEDBACK_MUST_USE
@@ -835,8 +892,8 @@ struct feedback_changed feedback_change_mode(struct feedback_handset handset, ui
  *
  * In a downlink subframe the kind of the answer is FEEDBACK_KIND_TAKEN. In an
  * uplink subframe it is what to send in that very subframe: FEEDBACK_KIND_BUNDLED
- * or FEEDBACK_KIND_MULTIPLEXED with the resource and the bits,
- * FEEDBACK_KIND_SILENT, or FEEDBACK_KIND_NO_WINDOW.
+ * or FEEDBACK_KIND_MULTIPLEXED with the resource and the bits, and with two ports the
+ * second resource, FEEDBACK_KIND_SILENT, or FEEDBACK_KIND_NO_WINDOW.
  *
  * Refuses 8. The handset of the answer is then the one given, byte for byte.
  */
@@ -922,11 +979,11 @@ struct feedback_fed feedback_feed_release(struct feedback_handset handset, uint1
  *              FEEDBACK_WINDOW_BYTES are always enough)
  *   room       the number of bytes lent in out
  *
- * The same as to make a handset with the settings of the trace, by feedback_make, and to
- * feed it what each record has, one by one, by the four feeds. Each window that is
- * answered is written to out, a silent one too. A feed that answers FEEDBACK_KIND_TAKEN
- * or FEEDBACK_KIND_NO_WINDOW writes nothing. The kinds in out are not those of enum
- * feedback_kind: 1 and 2 are the same, but 0 is silent.
+ * The same as to make a handset with the settings of the trace and one port, by
+ * feedback_make, and to feed it what each record has, one by one, by the four feeds. Each
+ * window that is answered is written to out, a silent one too. A feed that answers
+ * FEEDBACK_KIND_TAKEN or FEEDBACK_KIND_NO_WINDOW writes nothing. The kinds in out are not
+ * those of enum feedback_kind: 1 and 2 are the same, but 0 is silent.
  *
  * If all records are fed, the kind is FEEDBACK_REPLAY_DONE. If a feed is refused, the
  * replay stops there: the kind is FEEDBACK_REPLAY_STOPPED, the refusal that of the
@@ -1020,11 +1077,11 @@ struct feedback_write_answer feedback_trace_write(const uint8_t *trace, size_t l
  * ld --gc-sections by retain, where they have it. With a compiler that has neither,
  * use FEEDBACK_LAYOUT_LINKED once in your code: its value is 1, and it refers to the
  * name in the same way. A program without the library, such as a test of your own,
- * needs a feedback_layout_4 of its own.
+ * needs a feedback_layout_5 of its own.
  */
 FEEDBACK_MUST_USE
-uint16_t feedback_layout_4(void);
-#define FEEDBACK_LAYOUT_LINKED (feedback_layout_4() == 4)
+uint16_t feedback_layout_5(void);
+#define FEEDBACK_LAYOUT_LINKED (feedback_layout_5() == 5)
 
 #if defined(__GNUC__)
 #if defined(__ELF__) && defined(__has_attribute)
@@ -1035,7 +1092,7 @@ uint16_t feedback_layout_4(void);
 #ifndef FEEDBACK_KEPT
 #define FEEDBACK_KEPT __attribute__((used))
 #endif
-static uint16_t (*const feedback_layout_kept)(void) FEEDBACK_KEPT = feedback_layout_4;
+static uint16_t (*const feedback_layout_kept)(void) FEEDBACK_KEPT = feedback_layout_5;
 #undef FEEDBACK_KEPT
 #endif
 
@@ -1052,7 +1109,7 @@ static uint16_t (*const feedback_layout_kept)(void) FEEDBACK_KEPT = feedback_lay
 #define FEEDBACK_PLACE(type, field, place) \
     FEEDBACK_HOLDS(type##_has_##field##_at_##place, offsetof(struct type, field) == place)
 
-FEEDBACK_SIZE(feedback_settings, 16)
+FEEDBACK_SIZE(feedback_settings, 18)
 FEEDBACK_PLACE(feedback_settings, config, 0)
 FEEDBACK_PLACE(feedback_settings, nrb, 2)
 FEEDBACK_PLACE(feedback_settings, n1, 4)
@@ -1061,6 +1118,7 @@ FEEDBACK_PLACE(feedback_settings, blocks, 8)
 FEEDBACK_PLACE(feedback_settings, scheduled, 10)
 FEEDBACK_PLACE(feedback_settings, prefix, 12)
 FEEDBACK_PLACE(feedback_settings, special, 14)
+FEEDBACK_PLACE(feedback_settings, ports, 16)
 FEEDBACK_SIZE(feedback_window_answer, 40)
 FEEDBACK_PLACE(feedback_window_answer, refusal, 0)
 FEEDBACK_PLACE(feedback_window_answer, size, 2)
@@ -1071,9 +1129,10 @@ FEEDBACK_PLACE(feedback_answered_answer, refusal, 0)
 FEEDBACK_PLACE(feedback_answered_answer, n, 2)
 FEEDBACK_PLACE(feedback_answered_answer, k, 4)
 FEEDBACK_PLACE(feedback_answered_answer, position, 6)
-FEEDBACK_SIZE(feedback_resource_answer, 4)
+FEEDBACK_SIZE(feedback_resource_answer, 6)
 FEEDBACK_PLACE(feedback_resource_answer, refusal, 0)
 FEEDBACK_PLACE(feedback_resource_answer, resource, 2)
+FEEDBACK_PLACE(feedback_resource_answer, second, 4)
 FEEDBACK_SIZE(feedback_inverse_answer, 6)
 FEEDBACK_PLACE(feedback_inverse_answer, refusal, 0)
 FEEDBACK_PLACE(feedback_inverse_answer, position, 2)
@@ -1096,24 +1155,25 @@ FEEDBACK_PLACE(feedback_slot, kind, 0)
 FEEDBACK_PLACE(feedback_slot, cce, 1)
 FEEDBACK_PLACE(feedback_slot, dai, 2)
 FEEDBACK_PLACE(feedback_slot, results, 3)
-FEEDBACK_SIZE(feedback_handset, 72)
+FEEDBACK_SIZE(feedback_handset, 74)
 FEEDBACK_PLACE(feedback_handset, settings, 0)
-FEEDBACK_PLACE(feedback_handset, next, 16)
-FEEDBACK_PLACE(feedback_handset, modes, 18)
-FEEDBACK_PLACE(feedback_handset, past, 20)
-FEEDBACK_SIZE(feedback_made, 74)
+FEEDBACK_PLACE(feedback_handset, next, 18)
+FEEDBACK_PLACE(feedback_handset, modes, 20)
+FEEDBACK_PLACE(feedback_handset, past, 22)
+FEEDBACK_SIZE(feedback_made, 76)
 FEEDBACK_PLACE(feedback_made, refusal, 0)
 FEEDBACK_PLACE(feedback_made, handset, 2)
-FEEDBACK_SIZE(feedback_changed, 74)
+FEEDBACK_SIZE(feedback_changed, 76)
 FEEDBACK_PLACE(feedback_changed, refusal, 0)
 FEEDBACK_PLACE(feedback_changed, handset, 2)
-FEEDBACK_SIZE(feedback_fed, 82)
+FEEDBACK_SIZE(feedback_fed, 86)
 FEEDBACK_PLACE(feedback_fed, refusal, 0)
 FEEDBACK_PLACE(feedback_fed, kind, 2)
 FEEDBACK_PLACE(feedback_fed, resource, 4)
 FEEDBACK_PLACE(feedback_fed, b0, 6)
 FEEDBACK_PLACE(feedback_fed, b1, 8)
-FEEDBACK_PLACE(feedback_fed, handset, 10)
+FEEDBACK_PLACE(feedback_fed, second, 10)
+FEEDBACK_PLACE(feedback_fed, handset, 12)
 FEEDBACK_SIZE(feedback_replay_answer, 8)
 FEEDBACK_PLACE(feedback_replay_answer, refusal, 0)
 FEEDBACK_PLACE(feedback_replay_answer, kind, 2)
@@ -1143,9 +1203,9 @@ FEEDBACK_HOLDS(feedback_size_t_has_8_bytes, sizeof(size_t) == 8)
  * number over 65535 becomes 65535, which every call refuses as the setting that it
  * is. The settings that came later and those of a version to come it fills in such a
  * way that the calls answer as they did before: scheduled with FEEDBACK_NONE, prefix
- * with FEEDBACK_PREFIX_NORMAL and special with 7, so that special subframes carry data.
- * Code that uses it need not change. It is a call of a function, which C does not allow
- * where a static object gets its value.
+ * with FEEDBACK_PREFIX_NORMAL, special with 7, so that special subframes carry data, and
+ * ports with 1. Code that uses it need not change. It is a call of a function, which C
+ * does not allow where a static object gets its value.
  */
 #define FEEDBACK_SETTINGS(config, nrb, n1, mode, blocks) \
     feedback_settings_of(config, nrb, n1, mode, blocks)
@@ -1176,6 +1236,7 @@ static inline struct feedback_settings feedback_settings_of(uint64_t config, uin
     settings.scheduled = FEEDBACK_NONE;
     settings.prefix = FEEDBACK_PREFIX_NORMAL;
     settings.special = 7;
+    settings.ports = 1;
     return settings;
 }
 

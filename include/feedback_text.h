@@ -54,7 +54,8 @@ static inline const char *feedback_refusal_text(unsigned refusal)
         return "Refused 14: the bits are such as no reply has on this resource.";
     case FEEDBACK_REFUSED_SCRATCH:
         return "Refused 15: the scratch is shorter than M * N_4 bytes, or in feedback_claims_bits "
-               "shorter than (M * N_4 + 7) / 8 bytes, rounded down.";
+               "shorter than (M * N_4 + 7) / 8 bytes, rounded down; with two antenna ports than "
+               "M * N_4 + 1 bytes, or (M * N_4 + 8) / 8 bytes, rounded down.";
     case FEEDBACK_REFUSED_CLAIM:
         return "Refused 16: a claim's position is not below M or its CCE not below N_4.";
     case FEEDBACK_REFUSED_SCHEDULED_RESOURCE:
@@ -71,6 +72,9 @@ static inline const char *feedback_refusal_text(unsigned refusal)
         return "Refused 22: parts of the trace overlap or leave it, or a record's kind is over 3.";
     case FEEDBACK_REFUSED_OUTPUT:
         return "Refused 23: the output is too short for the windows, or for the written trace.";
+    case FEEDBACK_REFUSED_PORTS:
+        return "Refused 24: the antenna ports are neither 1 nor 2, or they are 2 with multiplexing "
+               "or with a resource set for scheduled blocks.";
     default:
         return "This number is no refusal.";
     }

@@ -12,7 +12,7 @@
 #include <stdlib.h>
 #include <string.h>
 
-#if FEEDBACK_VERSION != 40000
+#if FEEDBACK_VERSION != 50000
 #error "FEEDBACK_VERSION is for the preprocessor too"
 #endif
 
@@ -155,6 +155,7 @@ static void numbers(void)
     EQUAL(FEEDBACK_REFUSED_TRACE_LENGTH, 21);
     EQUAL(FEEDBACK_REFUSED_TRACE_PARTS, 22);
     EQUAL(FEEDBACK_REFUSED_OUTPUT, 23);
+    EQUAL(FEEDBACK_REFUSED_PORTS, 24);
     EQUAL(FEEDBACK_KIND_REFUSED, 0);
     EQUAL(FEEDBACK_KIND_BUNDLED, 1);
     EQUAL(FEEDBACK_KIND_MULTIPLEXED, 2);
@@ -186,8 +187,8 @@ static void numbers(void)
     EQUAL(FEEDBACK_TWO_CARRIED, 4);
     EQUAL(FEEDBACK_WINDOW_MOST, 9);
     EQUAL(FEEDBACK_MEMORY, 13);
-    EQUAL(FEEDBACK_SCRATCH_MOST, 1206); /* M 9, and N_4 134 where N_RB is 110 */
-    EQUAL(FEEDBACK_BIT_SCRATCH_MOST, 151); /* 8 * 150 and 6 */
+    EQUAL(FEEDBACK_SCRATCH_MOST, 1207); /* M 9, N_4 134 where N_RB is 110, and the second port */
+    EQUAL(FEEDBACK_BIT_SCRATCH_MOST, 151); /* 8 * 150 and 7 */
     EQUAL(FEEDBACK_TRACE_HEADER, 8);
     EQUAL(FEEDBACK_TRACE_SETTINGS, 10);
     EQUAL(FEEDBACK_TRACE_RECORD, 4);
@@ -197,11 +198,11 @@ static void numbers(void)
     EQUAL(FEEDBACK_SPELLED_FIRST, 18);
     EQUAL(FEEDBACK_SPELLED_MOST, 65534); /* 18 + 4 * 16379 */
     EQUAL(FEEDBACK_NONE, 65535);
-    EQUAL(FEEDBACK_VERSION, 40000);
+    EQUAL(FEEDBACK_VERSION, 50000);
     sprintf(version, "%d.%d.%d", FEEDBACK_VERSION / 10000, FEEDBACK_VERSION / 100 % 100,
             FEEDBACK_VERSION % 100);
     SAME(FEEDBACK_VERSION_TEXT, version);
-    EQUAL(feedback_layout_4(), 4);
+    EQUAL(feedback_layout_5(), 5);
     EQUAL(FEEDBACK_LAYOUT_LINKED, 1);
 }
 
@@ -210,7 +211,7 @@ static void numbers(void)
 
 static void layout(void)
 {
-    SIZE(feedback_settings, 16);
+    SIZE(feedback_settings, 18);
     PLACE(feedback_settings, config, 0);
     PLACE(feedback_settings, nrb, 2);
     PLACE(feedback_settings, n1, 4);
@@ -219,6 +220,7 @@ static void layout(void)
     PLACE(feedback_settings, scheduled, 10);
     PLACE(feedback_settings, prefix, 12);
     PLACE(feedback_settings, special, 14);
+    PLACE(feedback_settings, ports, 16);
     SIZE(feedback_window_answer, 40);
     PLACE(feedback_window_answer, refusal, 0);
     PLACE(feedback_window_answer, size, 2);
@@ -229,9 +231,10 @@ static void layout(void)
     PLACE(feedback_answered_answer, n, 2);
     PLACE(feedback_answered_answer, k, 4);
     PLACE(feedback_answered_answer, position, 6);
-    SIZE(feedback_resource_answer, 4);
+    SIZE(feedback_resource_answer, 6);
     PLACE(feedback_resource_answer, refusal, 0);
     PLACE(feedback_resource_answer, resource, 2);
+    PLACE(feedback_resource_answer, second, 4);
     SIZE(feedback_inverse_answer, 6);
     PLACE(feedback_inverse_answer, refusal, 0);
     PLACE(feedback_inverse_answer, position, 2);
@@ -254,24 +257,25 @@ static void layout(void)
     PLACE(feedback_slot, cce, 1);
     PLACE(feedback_slot, dai, 2);
     PLACE(feedback_slot, results, 3);
-    SIZE(feedback_handset, 72);
+    SIZE(feedback_handset, 74);
     PLACE(feedback_handset, settings, 0);
-    PLACE(feedback_handset, next, 16);
-    PLACE(feedback_handset, modes, 18);
-    PLACE(feedback_handset, past, 20);
-    SIZE(feedback_made, 74);
+    PLACE(feedback_handset, next, 18);
+    PLACE(feedback_handset, modes, 20);
+    PLACE(feedback_handset, past, 22);
+    SIZE(feedback_made, 76);
     PLACE(feedback_made, refusal, 0);
     PLACE(feedback_made, handset, 2);
-    SIZE(feedback_changed, 74);
+    SIZE(feedback_changed, 76);
     PLACE(feedback_changed, refusal, 0);
     PLACE(feedback_changed, handset, 2);
-    SIZE(feedback_fed, 82);
+    SIZE(feedback_fed, 86);
     PLACE(feedback_fed, refusal, 0);
     PLACE(feedback_fed, kind, 2);
     PLACE(feedback_fed, resource, 4);
     PLACE(feedback_fed, b0, 6);
     PLACE(feedback_fed, b1, 8);
-    PLACE(feedback_fed, handset, 10);
+    PLACE(feedback_fed, second, 10);
+    PLACE(feedback_fed, handset, 12);
     SIZE(feedback_replay_answer, 8);
     PLACE(feedback_replay_answer, refusal, 0);
     PLACE(feedback_replay_answer, kind, 2);
@@ -309,9 +313,15 @@ static struct feedback_settings with_special(struct feedback_settings settings, 
     return settings;
 }
 
+static struct feedback_settings with_ports(struct feedback_settings settings, uint16_t ports)
+{
+    settings.ports = ports;
+    return settings;
+}
+
 static void settings_macro(void)
 {
-    struct feedback_settings given = {2, 50, 10, 0, 1, 65535, 0, 7};
+    struct feedback_settings given = {2, 50, 10, 0, 1, 65535, 0, 7, 1};
     struct feedback_settings made = FEEDBACK_SETTINGS(2, 50, 10, 0, 1);
     EQUAL(given.config, 2);
     EQUAL(given.nrb, 50);
@@ -321,6 +331,7 @@ static void settings_macro(void)
     EQUAL(given.scheduled, FEEDBACK_NONE);
     EQUAL(given.prefix, FEEDBACK_PREFIX_NORMAL);
     EQUAL(given.special, 7);
+    EQUAL(given.ports, 1);
     BYTES(&given, &made, sizeof made);
     made = FEEDBACK_SETTINGS(65536, 65535, 131077, 4294967297u, 65534);
     EQUAL(made.config, 65535);
@@ -331,6 +342,7 @@ static void settings_macro(void)
     EQUAL(made.scheduled, FEEDBACK_NONE);
     EQUAL(made.prefix, 0);
     EQUAL(made.special, 7);
+    EQUAL(made.ports, 1);
 }
 
 /* Every call refuses these settings with this number, and a feed of such a state 8. */
@@ -363,6 +375,7 @@ static void settings_refused(struct feedback_settings bad, unsigned refusal)
     EQUAL(answered.position, 0);
     EQUAL(mapped.refusal, refusal);
     EQUAL(mapped.resource, 0);
+    EQUAL(mapped.second, 0);
     EQUAL(inverted.refusal, refusal);
     EQUAL(inverted.position, 0);
     EQUAL(inverted.cce, 0);
@@ -392,6 +405,7 @@ static void settings_refused(struct feedback_settings bad, unsigned refusal)
     fed = feedback_feed_nothing(handset);
     EQUAL(fed.refusal, FEEDBACK_REFUSED_STATE);
     EQUAL(fed.kind, FEEDBACK_KIND_REFUSED);
+    EQUAL(fed.second, 0);
     BYTES(&fed.handset, &handset, sizeof handset);
     changed = feedback_change_mode(handset, FEEDBACK_MODE_BUNDLING);
     EQUAL(changed.refusal, FEEDBACK_REFUSED_STATE);
@@ -399,14 +413,15 @@ static void settings_refused(struct feedback_settings bad, unsigned refusal)
 }
 
 /*
- * The same with a scheduled resource set that is not below N1, and with a prefix that there is not:
- * 17 and 19 come after 1 to 6.
+ * The same with a scheduled resource set that is not below N1, with a prefix that there is not, and
+ * with three ports: 17, 19 and 24 come after 1 to 6.
  */
 static void all_refused(struct feedback_settings bad, unsigned refusal)
 {
     settings_refused(bad, refusal);
     settings_refused(with_scheduled(bad, 65534), refusal);
     settings_refused(with_special(bad, 2, 9), refusal);
+    settings_refused(with_ports(bad, 3), refusal);
 }
 
 static void settings(void)
@@ -450,11 +465,39 @@ static void special_settings(void)
                      FEEDBACK_REFUSED_SCHEDULED_RESOURCE);
 }
 
+/* One or two; two with mode 0 and no scheduled resource alone. 1 to 6, 17 and 19 come before 24. */
+static void port_settings(void)
+{
+    struct feedback_settings two = with_ports(settings_of(3, FEEDBACK_MODE_BUNDLING, 2), 2);
+    struct feedback_settings mode_1 = with_ports(settings_of(3, FEEDBACK_MODE_MULTIPLEXING, 2), 2);
+    struct feedback_settings of_5 = with_ports(settings_of(5, FEEDBACK_MODE_MULTIPLEXING, 2), 2);
+    struct feedback_settings n1_is_0 = with_ports(FEEDBACK_SETTINGS(3, 50, 0, 0, 2), 2);
+    uint16_t ports;
+    for (ports = 0; ports < 6; ports++)
+        EQUAL(feedback_make(with_ports(two, ports)).refusal,
+              ports == 1 || ports == 2 ? 0 : FEEDBACK_REFUSED_PORTS);
+    settings_refused(with_ports(two, 0), FEEDBACK_REFUSED_PORTS);
+    settings_refused(with_ports(two, 3), FEEDBACK_REFUSED_PORTS);
+    settings_refused(with_ports(two, 256 + 1), FEEDBACK_REFUSED_PORTS);
+    settings_refused(with_ports(two, 256 + 2), FEEDBACK_REFUSED_PORTS);
+    settings_refused(with_ports(two, 65535), FEEDBACK_REFUSED_PORTS);
+    settings_refused(mode_1, FEEDBACK_REFUSED_PORTS);
+    settings_refused(with_scheduled(two, 9), FEEDBACK_REFUSED_PORTS);
+    settings_refused(with_scheduled(two, 0), FEEDBACK_REFUSED_PORTS);
+    settings_refused(with_scheduled(mode_1, 9), FEEDBACK_REFUSED_PORTS);
+    EQUAL(feedback_make(with_scheduled(with_ports(mode_1, 1), 9)).refusal, 0);
+    settings_refused(of_5, FEEDBACK_REFUSED_MULTIPLEXING);
+    settings_refused(with_scheduled(mode_1, 10), FEEDBACK_REFUSED_SCHEDULED_RESOURCE);
+    settings_refused(with_scheduled(n1_is_0, 0), FEEDBACK_REFUSED_SCHEDULED_RESOURCE);
+    settings_refused(with_special(with_scheduled(mode_1, 9), 2, 0), FEEDBACK_REFUSED_SPECIAL);
+    settings_refused(with_special(with_ports(two, 0), 1, 7), FEEDBACK_REFUSED_SPECIAL);
+}
+
 /* The order in which causes are given, as the header tells it; the tests below meet it in pairs. */
 static void order(void)
 {
     HOLDS(strstr(text,
-                 " 21, 22, 1 to 6, 17, 19, 7, 8, 9, 20, 10, 11, 12, 18, 13, 14, 15, 16; 23 in\n"
+                 " 21, 22, 1 to 6, 17, 19, 24, 7, 8, 9, 20, 10, 11, 12, 18, 13, 14, 15, 16; 23 in\n"
                  " * feedback_replay after 19 and before any record, in feedback_trace_write last"
                  " of all.\n") != NULL);
 }
@@ -584,6 +627,7 @@ static void resource_and_inverse(void)
     struct feedback_inverse_answer inverted = CALL(feedback_inverse, (settings, n, resource));
     EQUAL(mapped.refusal, 0); /* region 0: 1 * 0 + 2 * 11 + 5 + 10 */
     EQUAL(mapped.resource, 37);
+    EQUAL(mapped.second, 0);
     EQUAL(inverted.refusal, 0);
     EQUAL(inverted.position, 2);
     EQUAL(inverted.cce, 5);
@@ -608,6 +652,51 @@ static void resource_and_inverse(void)
     EQUAL(inverted.refusal, FEEDBACK_REFUSED_RESOURCE);
     inverted = feedback_inverse(settings, 7, 254); /* 10 + 4 * 61 */
     EQUAL(inverted.refusal, FEEDBACK_REFUSED_RESOURCE);
+}
+
+/*
+ * Configuration 1, n = 2: M is 2. With two ports (0,10) has 20 and 21, (1,0) has 21 and 22, and the
+ * last, (1,60), 131 and 132. The inverse and the reading go by the first of the two.
+ */
+static void two_resources(void)
+{
+    struct feedback_settings one = settings_of(1, 0, 2), settings = with_ports(one, 2);
+    struct feedback_resource_answer mapped = feedback_resource(settings, 2, 0, 10);
+    struct feedback_inverse_answer inverted = feedback_inverse(settings, 2, 21);
+    struct feedback_reading_answer reading =
+        feedback_reading(settings, 2, FEEDBACK_NONE, 20, 1, 0);
+    EQUAL(mapped.refusal, 0);
+    EQUAL(mapped.resource, 20);
+    EQUAL(mapped.second, 21);
+    EQUAL(feedback_resource(settings, 2, 1, 0).resource, 21);
+    EQUAL(feedback_resource(settings, 2, 1, 0).second, 22);
+    EQUAL(feedback_resource(settings, 2, 1, 60).resource, 131);
+    EQUAL(feedback_resource(settings, 2, 1, 60).second, 132);
+    EQUAL(feedback_resource(one, 2, 0, 10).resource, 20);
+    EQUAL(feedback_resource(one, 2, 0, 10).second, 0);
+    mapped = feedback_resource(settings, 2, 1, 61);
+    EQUAL(mapped.refusal, FEEDBACK_REFUSED_CCE);
+    EQUAL(mapped.resource, 0);
+    EQUAL(mapped.second, 0);
+    EQUAL(inverted.refusal, 0);
+    EQUAL(inverted.position, 1);
+    EQUAL(inverted.cce, 0);
+    EQUAL(feedback_inverse(settings, 2, 131).cce, 60);
+    EQUAL(feedback_inverse(settings, 2, 132).refusal, FEEDBACK_REFUSED_RESOURCE);
+    EQUAL(feedback_inverse(settings, 2, 9).refusal, FEEDBACK_REFUSED_RESOURCE);
+    EQUAL(reading.refusal, 0);
+    EQUAL(reading.kind, FEEDBACK_KIND_BUNDLED);
+    EQUAL(reading.position, 0);
+    EQUAL(reading.cce, 10);
+    EQUAL(reading.b0, 1);
+    EQUAL(reading.b1, 0);
+    EQUAL(reading.scheduled, 0);
+    reading = feedback_reading(settings, 2, FEEDBACK_NONE, 132, 1, 0);
+    EQUAL(reading.refusal, FEEDBACK_REFUSED_RESOURCE);
+    reading = feedback_reading(settings, 2, 1, 20, 1, 0); /* no scheduled resource can be set */
+    EQUAL(reading.refusal, FEEDBACK_REFUSED_SCHEDULED);
+    reading = feedback_reading(settings, 2, 2, 20, 1, 0);
+    EQUAL(reading.refusal, FEEDBACK_REFUSED_CCE);
 }
 
 static void reading_bundled(void)
@@ -841,19 +930,98 @@ static void claims_of_1(void)
     marked(scratch, 130, 130);
 }
 
-/* The most scratch that a window needs is enough, and one byte less is not. */
+/* The most scratch that a window needs is enough, and one byte less is not; with one port it is. */
 static void claims_of_5(void)
 {
-    struct feedback_settings settings = FEEDBACK_SETTINGS(5, 110, 0, 0, 2);
+    struct feedback_settings one = FEEDBACK_SETTINGS(5, 110, 0, 0, 2), two = with_ports(one, 2);
     uint8_t scratch[FEEDBACK_SCRATCH_MOST];
     uint16_t claim = FEEDBACK_CLAIM(FEEDBACK_WINDOW_MOST - 1, 133);
     struct feedback_claims_answer answer;
     memset(scratch, 99, sizeof scratch);
-    answer = feedback_claims(settings, 2, &claim, 1, scratch, sizeof scratch - 1);
+    answer = feedback_claims(one, 2, &claim, 1, scratch, sizeof scratch - 2);
     EQUAL(answer.refusal, FEEDBACK_REFUSED_SCRATCH);
-    answer = feedback_claims(settings, 2, &claim, 1, scratch, sizeof scratch);
+    answer = feedback_claims(two, 2, &claim, 1, scratch, sizeof scratch - 1);
+    EQUAL(answer.refusal, FEEDBACK_REFUSED_SCRATCH);
+    EQUAL(scratch[FEEDBACK_SCRATCH_MOST - 2], 99);
+    answer = feedback_claims(one, 2, &claim, 1, scratch, sizeof scratch - 1);
     EQUAL(answer.kind, FEEDBACK_CLAIMS_CLEAN);
+    EQUAL(scratch[FEEDBACK_SCRATCH_MOST - 3], 0);
+    EQUAL(scratch[FEEDBACK_SCRATCH_MOST - 2], 1);
+    EQUAL(scratch[FEEDBACK_SCRATCH_MOST - 1], 99);
+    answer = feedback_claims(two, 2, &claim, 1, scratch, sizeof scratch);
+    EQUAL(answer.kind, FEEDBACK_CLAIMS_CLEAN);
+    EQUAL(scratch[FEEDBACK_SCRATCH_MOST - 3], 0);
+    EQUAL(scratch[FEEDBACK_SCRATCH_MOST - 2], 1);
     EQUAL(scratch[FEEDBACK_SCRATCH_MOST - 1], 1);
+}
+
+/* With two ports: 1 at the two places from each of these on, 0 below M * N_4 + 1, and 99 beyond. */
+static void pairs_marked(const uint8_t *scratch, unsigned one, unsigned other)
+{
+    unsigned t, wrong = 0;
+    for (t = 0; t < 130; t++) {
+        int is_one = t == one || t == one + 1, is_other = t == other || t == other + 1;
+        wrong += scratch[t] != (is_one || is_other ? 1u : t < 123 ? 0u : 99u);
+    }
+    EQUAL(wrong, 0);
+}
+
+/*
+ * The claims of two_resources. Those before the clash have both their resources marked; the other
+ * one of the claim that clashes is not. Scratch is 123 bytes: the last resource, 132, is byte 122.
+ */
+static void claims_of_two_ports(void)
+{
+    struct feedback_settings one = settings_of(1, 0, 2), two = with_ports(one, 2);
+    uint16_t claims[4] = {10, 256, 256 + 60, 0};
+    uint8_t scratch[130], before[130];
+    struct feedback_claims_answer answer;
+    memset(scratch, 99, sizeof scratch);
+    memcpy(before, scratch, sizeof before);
+    answer = feedback_claims(two, 2, claims, 2, scratch, 122);
+    EQUAL(answer.refusal, FEEDBACK_REFUSED_SCRATCH);
+    EQUAL(answer.kind, FEEDBACK_CLAIMS_REFUSED);
+    BYTES(scratch, before, sizeof before);
+    answer = feedback_claims(two, 2, claims, 2, scratch, 130);
+    EQUAL(answer.refusal, 0);
+    EQUAL(answer.kind, FEEDBACK_CLAIMS_CLASH);
+    EQUAL(answer.index, 1);
+    pairs_marked(scratch, 10, 10); /* and not 12 */
+    claims[0] = 256;
+    claims[1] = 10; /* the neighbour below */
+    answer = feedback_claims(two, 2, claims, 2, scratch, 123);
+    EQUAL(answer.kind, FEEDBACK_CLAIMS_CLASH);
+    EQUAL(answer.index, 1);
+    pairs_marked(scratch, 11, 11); /* and not 10 */
+    claims[1] = 256; /* the same one */
+    answer = feedback_claims(two, 2, claims, 2, scratch, 123);
+    EQUAL(answer.index, 1);
+    claims[1] = 9; /* (0,9) has 19 and 20 */
+    answer = feedback_claims(two, 2, claims, 2, scratch, 123);
+    EQUAL(answer.refusal, 0);
+    EQUAL(answer.kind, FEEDBACK_CLAIMS_CLEAN);
+    EQUAL(answer.index, 0);
+    pairs_marked(scratch, 11, 9);
+    answer = feedback_claims(two, 2, claims + 2, 2, scratch, 123);
+    EQUAL(answer.kind, FEEDBACK_CLAIMS_CLEAN);
+    pairs_marked(scratch, 121, 0);
+    claims[1] = 10;
+    scratch[122] = 99;
+    answer = feedback_claims(one, 2, claims, 2, scratch, 122); /* 21 and 20, with one port */
+    EQUAL(answer.kind, FEEDBACK_CLAIMS_CLEAN);
+    marked(scratch, 11, 10);
+    claims[2] = FEEDBACK_CLAIM(1, 61); /* behind the clash */
+    answer = feedback_claims(two, 2, claims, 3, scratch, 123);
+    EQUAL(answer.refusal, FEEDBACK_REFUSED_CLAIM);
+    EQUAL(answer.index, 2);
+    marked(scratch, 11, 10);
+    answer = feedback_claims(one, 2, claims, 1, scratch, 122); /* one port has 21, in a cell */
+    EQUAL(answer.kind, FEEDBACK_CLAIMS_CLEAN);
+    answer = feedback_claims(two, 2, claims + 1, 1, before, 123); /* where two have 20 and 21 */
+    EQUAL(answer.kind, FEEDBACK_CLAIMS_CLEAN);
+    EQUAL(scratch[10] + before[10], 1);
+    EQUAL(scratch[11] + before[11], 2); /* shared */
+    EQUAL(scratch[12] + before[12], 0);
 }
 
 /*
@@ -919,6 +1087,50 @@ static void claim_bits_of_1(void)
     EQUAL(answer.refusal, FEEDBACK_REFUSED_SCRATCH);
 }
 
+/* The same by bits: 123 of them in 16 bytes, and bits 121 and 122 are bits 1 and 2 of byte 15. */
+static void claim_bits_of_two_ports(void)
+{
+    struct feedback_settings two = with_ports(settings_of(1, 0, 2), 2);
+    uint16_t claims[4] = {10, 256, 256 + 60, 0};
+    uint8_t scratch[18], before[18];
+    struct feedback_claims_answer answer;
+    memset(scratch, 99, sizeof scratch);
+    memcpy(before, scratch, sizeof before);
+    answer = feedback_claims_bits(two, 2, claims, 2, scratch, 15);
+    EQUAL(answer.refusal, FEEDBACK_REFUSED_SCRATCH);
+    BYTES(scratch, before, sizeof before);
+    answer = feedback_claims_bits(two, 2, claims, 2, scratch, 16);
+    EQUAL(answer.refusal, 0);
+    EQUAL(answer.kind, FEEDBACK_CLAIMS_CLASH);
+    EQUAL(answer.index, 1);
+    bits_marked(scratch, 0, 4 + 8, 0, 0); /* bits 10 and 11, and not 12 */
+    answer = feedback_claims_bits(two, 2, claims + 1, 3, scratch, 18);
+    EQUAL(answer.kind, FEEDBACK_CLAIMS_CLEAN);
+    bits_marked(scratch, 1 + 2, 8 + 16, 0, 2 + 4);
+}
+
+/* Configuration 2 with N_RB 110: 4 * 134 is 8 * 67, so that two ports take a byte more. */
+static void claim_bits_of_2(void)
+{
+    struct feedback_settings one = FEEDBACK_SETTINGS(2, 110, 0, 0, 2), two = with_ports(one, 2);
+    uint16_t claim = FEEDBACK_CLAIM(3, 133);
+    uint8_t scratch[69];
+    struct feedback_claims_answer answer;
+    memset(scratch, 99, sizeof scratch);
+    answer = feedback_claims_bits(two, 7, &claim, 1, scratch, 67);
+    EQUAL(answer.refusal, FEEDBACK_REFUSED_SCRATCH);
+    EQUAL(scratch[66], 99);
+    answer = feedback_claims_bits(one, 7, &claim, 1, scratch, 67);
+    EQUAL(answer.kind, FEEDBACK_CLAIMS_CLEAN);
+    EQUAL(scratch[66], 128);
+    EQUAL(scratch[67], 99);
+    answer = feedback_claims_bits(two, 7, &claim, 1, scratch, 68);
+    EQUAL(answer.kind, FEEDBACK_CLAIMS_CLEAN);
+    EQUAL(scratch[66], 128);
+    EQUAL(scratch[67], 1);
+    EQUAL(scratch[68], 99);
+}
+
 /* As many bytes as a window needs at most, by bits: one less is not enough, nor is it by bytes. */
 static void claim_bits_of_5(void)
 {
@@ -937,6 +1149,13 @@ static void claim_bits_of_5(void)
     EQUAL(scratch[0], 1);
     EQUAL(scratch[FEEDBACK_BIT_SCRATCH_MOST - 2], 0);
     EQUAL(scratch[FEEDBACK_BIT_SCRATCH_MOST - 1], 32); /* 1205 is 8 * 150 and 5 */
+    settings.ports = 2;
+    answer = feedback_claims_bits(settings, 2, claims, 2, scratch, sizeof scratch - 1);
+    EQUAL(answer.refusal, FEEDBACK_REFUSED_SCRATCH);
+    answer = feedback_claims_bits(settings, 2, claims, 2, scratch, sizeof scratch);
+    EQUAL(answer.kind, FEEDBACK_CLAIMS_CLEAN);
+    EQUAL(scratch[0], 1 + 2);
+    EQUAL(scratch[FEEDBACK_BIT_SCRATCH_MOST - 1], 32 + 64);
 }
 
 /* ---- the handset ---- */
@@ -962,6 +1181,7 @@ static struct feedback_handset nothing(struct feedback_handset handset, unsigned
     EQUAL(fed.resource, 0);
     EQUAL(fed.b0, 0);
     EQUAL(fed.b1, 0);
+    EQUAL(fed.second, 0);
     EQUAL(fed.handset.next, (handset.next + 1u) % 10u);
     EQUAL(fed.handset.past[0].kind, FEEDBACK_SLOT_NOTHING);
     BYTES(fed.handset.past + 1, handset.past, 12 * sizeof *handset.past);
@@ -976,6 +1196,7 @@ static void taken(struct feedback_handset handset, struct feedback_fed fed)
     EQUAL(fed.resource, 0);
     EQUAL(fed.b0, 0);
     EQUAL(fed.b1, 0);
+    EQUAL(fed.second, 0);
     EQUAL(fed.handset.next, (handset.next + 1u) % 10u);
     BYTES(&fed.handset.settings, &handset.settings, sizeof handset.settings);
     BYTES(fed.handset.past + 1, handset.past, 12 * sizeof *handset.past);
@@ -1021,8 +1242,8 @@ static struct feedback_handset release(struct feedback_handset handset, uint16_t
     return fed.handset;
 }
 
-static void replies(struct feedback_handset handset, unsigned kind, unsigned resource, unsigned b0,
-                    unsigned b1)
+static void replies_on_both(struct feedback_handset handset, unsigned kind, unsigned resource,
+                            unsigned second, unsigned b0, unsigned b1)
 {
     struct feedback_fed fed = feedback_feed_nothing(handset);
     EQUAL(fed.refusal, 0);
@@ -1030,7 +1251,15 @@ static void replies(struct feedback_handset handset, unsigned kind, unsigned res
     EQUAL(fed.resource, resource);
     EQUAL(fed.b0, b0);
     EQUAL(fed.b1, b1);
+    EQUAL(fed.second, second);
     EQUAL(fed.handset.next, handset.next + 1u);
+    BYTES(&fed.handset.settings, &handset.settings, sizeof handset.settings);
+}
+
+static void replies(struct feedback_handset handset, unsigned kind, unsigned resource, unsigned b0,
+                    unsigned b1)
+{
+    replies_on_both(handset, kind, resource, 0, b0, b1);
 }
 
 /* Configuration 2 up to subframe 7, which answers for 9, 0, 3 and 1, in time order 9, 0, 1, 3. */
@@ -1064,6 +1293,28 @@ static void multiplexed(void)
     replies(handset, FEEDBACK_KIND_MULTIPLEXED, 47, 1, 0); /* 3 * 11 + 4 + 10 */
     handset.past[5].kind = FEEDBACK_SLOT_NOTHING;
     replies(handset, FEEDBACK_KIND_MULTIPLEXED, 24, 0, 1); /* 1 * 11 + 3 + 10 */
+}
+
+/* The subframes of bundled, with two ports; a release is answered on both as well. */
+static void bundled_on_two_ports(void)
+{
+    struct feedback_handset handset =
+        fresh(with_ports(settings_of(2, FEEDBACK_MODE_BUNDLING, 2), 2));
+    handset = release(handset, 3, 1);
+    handset = nothing(handset, FEEDBACK_KIND_TAKEN);
+    handset = nothing(handset, FEEDBACK_KIND_SILENT);
+    handset = grant(handset, 2, 1, 0, 5, 2);
+    handset = nothing(handset, FEEDBACK_KIND_TAKEN);
+    handset = nothing(handset, FEEDBACK_KIND_TAKEN);
+    handset = nothing(handset, FEEDBACK_KIND_TAKEN);
+    replies_on_both(handset, FEEDBACK_KIND_BUNDLED, 37, 38, 1, 0);
+    handset.past[3].kind = FEEDBACK_SLOT_NOTHING;
+    replies_on_both(handset, FEEDBACK_KIND_BUNDLED, 24, 25, 1, 1); /* 1 * 11 + 3 + 10 */
+    handset.past[6].dai = 2; /* shows a miss */
+    replies_on_both(handset, FEEDBACK_KIND_SILENT, 0, 0, 0, 0);
+    handset.settings.ports = 1;
+    handset.past[6].dai = 1;
+    replies_on_both(handset, FEEDBACK_KIND_BUNDLED, 24, 0, 1, 1);
 }
 
 /* ---- the change of mode ---- */
@@ -1173,6 +1424,43 @@ static void changes_refused(void)
     EQUAL(feedback_feed_nothing(five).handset.modes, 0);
 }
 
+/* A handset with two ports stays in mode 0: 24 comes after 4 and 5, and before 8. */
+static void changes_of_two_ports(void)
+{
+    struct feedback_handset two = fresh(with_ports(settings_of(3, FEEDBACK_MODE_BUNDLING, 1), 2));
+    struct feedback_handset five = fresh(with_ports(settings_of(5, FEEDBACK_MODE_BUNDLING, 1), 2));
+    static const uint16_t bit[] = {1, 2, 4, 8, 16, 32, 64, 128, 256, 512, 1024, 2048, 4096, 8192};
+    struct feedback_handset bad;
+    unsigned i;
+    two = change(two, FEEDBACK_MODE_BUNDLING);
+    change_refused(two, FEEDBACK_MODE_MULTIPLEXING, FEEDBACK_REFUSED_PORTS);
+    change_refused(two, 2, FEEDBACK_REFUSED_MODE);
+    change_refused(five, FEEDBACK_MODE_MULTIPLEXING, FEEDBACK_REFUSED_MULTIPLEXING);
+    bad = two;
+    bad.next = 10;
+    change_refused(bad, FEEDBACK_MODE_BUNDLING, FEEDBACK_REFUSED_STATE);
+    change_refused(bad, FEEDBACK_MODE_MULTIPLEXING, FEEDBACK_REFUSED_PORTS);
+    change_refused(bad, 2, FEEDBACK_REFUSED_MODE);
+    bad = two;
+    bad.settings.ports = 3; /* of no handset: whatever the new mode */
+    change_refused(bad, FEEDBACK_MODE_BUNDLING, FEEDBACK_REFUSED_STATE);
+    change_refused(bad, FEEDBACK_MODE_MULTIPLEXING, FEEDBACK_REFUSED_STATE);
+    bad = two;
+    bad.settings.scheduled = 6;
+    change_refused(bad, FEEDBACK_MODE_BUNDLING, FEEDBACK_REFUSED_STATE);
+    change_refused(bad, FEEDBACK_MODE_MULTIPLEXING, FEEDBACK_REFUSED_PORTS);
+    bad = two;
+    bad.settings.mode = FEEDBACK_MODE_MULTIPLEXING;
+    change_refused(bad, FEEDBACK_MODE_BUNDLING, FEEDBACK_REFUSED_STATE);
+    change_refused(bad, FEEDBACK_MODE_MULTIPLEXING, FEEDBACK_REFUSED_PORTS);
+    for (i = 0; i < 14; i++) { /* a remembered mode 1 with two ports; bit 13 is nothing */
+        unsigned refusal = i < FEEDBACK_MEMORY ? FEEDBACK_REFUSED_STATE : FEEDBACK_NOT_REFUSED;
+        two.modes = bit[i];
+        EQUAL(feedback_feed_nothing(two).refusal, refusal);
+        EQUAL(feedback_change_mode(two, 0).refusal, refusal);
+    }
+}
+
 /* Fed up to subframe 7 as above: with a release in 0, a grant in 1 and a scheduled block in 3. */
 static void bundled_scheduled(void)
 {
@@ -1274,6 +1562,7 @@ static void refused(struct feedback_handset handset, struct feedback_fed fed, un
     EQUAL(fed.resource, 0);
     EQUAL(fed.b0, 0);
     EQUAL(fed.b1, 0);
+    EQUAL(fed.second, 0);
     BYTES(&fed.handset, &handset, sizeof handset);
 }
 
@@ -1328,7 +1617,9 @@ static void releases_refused(void)
 static void blocks_refused(void)
 {
     struct feedback_handset none = fresh(settings_of(2, 0, 1));
+    struct feedback_handset two = fresh(with_ports(none.settings, 2)); /* can have none set */
     struct feedback_handset handset = fresh(with_scheduled(settings_of(2, 0, 1), 6));
+    refused(two, feedback_feed_scheduled(two, 1, 1, 1), FEEDBACK_REFUSED_SCHEDULED);
     refused(none, feedback_feed_scheduled(none, 0, 1, 1), FEEDBACK_REFUSED_CARRIED);
     refused(none, feedback_feed_scheduled(none, 2, 1, 1), FEEDBACK_REFUSED_CARRIED);
     refused(none, feedback_feed_scheduled(none, 1, 1, 1), FEEDBACK_REFUSED_SCHEDULED);
@@ -1917,7 +2208,8 @@ static void all_texts(void)
         "20: a grant or scheduled block in a special subframe",
         "21: the trace is below 8 bytes, or not of the length in its header",
         "22: parts of the trace overlap or leave it, or a record's kind",
-        "23: the output is too short for the windows, or for the written trace"};
+        "23: the output is too short for the windows, or for the written trace",
+        "24: the antenna ports are neither 1 nor 2, or they are 2 with multiplexing"};
     static const char *const kinds[] = {"refused", "bundled reply", "multiplexed reply",
                                         "Silent",  "downlink",      "uplink"};
     static const char *const claims_kinds[] = {"refused", "clean", "clash"};
@@ -1926,7 +2218,7 @@ static void all_texts(void)
     static const char *const record_kinds[] = {"refused", "read", "end"};
     static const char *const write_kinds[] = {"not written: it, its settings or the output",
                                               "was written", "not written: a record"};
-    texts(feedback_refusal_text, refusals, 24);
+    texts(feedback_refusal_text, refusals, 25);
     texts(feedback_kind_text, kinds, 6);
     texts(feedback_claims_kind_text, claims_kinds, 3);
     texts(feedback_slot_kind_text, slot_kinds, 4);
@@ -1947,12 +2239,14 @@ int main(int argc, char **argv)
     settings_macro();
     settings();
     special_settings();
+    port_settings();
     order();
     table();
     window_of_2();
     window_of_5();
     answered();
     resource_and_inverse();
+    two_resources();
     reading_bundled();
     reading_multiplexed();
     reading_scheduled();
@@ -1960,15 +2254,20 @@ int main(int argc, char **argv)
     reading_scheduled_refused();
     claims_of_1();
     claims_of_5();
+    claims_of_two_ports();
     claim_bits_of_1();
+    claim_bits_of_two_ports();
+    claim_bits_of_2();
     claim_bits_of_5();
     bundled();
     multiplexed();
+    bundled_on_two_ports();
     bundled_scheduled();
     multiplexed_scheduled();
     changed_between();
     changed_first();
     changes_refused();
+    changes_of_two_ports();
     no_window();
     slept();
     feeds_refused();

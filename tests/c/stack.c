@@ -11,7 +11,8 @@
 #include <string.h>
 #include <ucontext.h>
 
-enum { SETTINGS = 7 * 2 * 2 * 3, FEEDS = 40, RUNS = SETTINGS * 4, HANDSETS = RUNS * FEEDS };
+enum { ONE_PORT = 7 * 2 * 2 * 3, TWO_PORTS = 7 * 3, SETTINGS = ONE_PORT + TWO_PORTS };
+enum { FEEDS = 40, RUNS = SETTINGS * 4, HANDSETS = RUNS * FEEDS };
 enum { FIRST = FEEDBACK_TRACE_HEADER + FEEDBACK_TRACE_SETTINGS }; /* the place of the records */
 
 static struct feedback_settings settings[SETTINGS];
@@ -124,18 +125,27 @@ static unsigned draw(unsigned limit)
 
 /*
  * All configurations, modes and blocks (mode 1 of configuration 5 is refused), three bandwidths;
- * a scheduled resource is set in most, and in some special subframes are too short for data.
+ * a scheduled resource is set in most, and in some special subframes are too short for data. Then
+ * all configurations and bandwidths with two ports, which have mode 0 and no scheduled resource.
  */
 static void fill_settings(void)
 {
     static const uint16_t bandwidths[] = {6, 50, 110};
-    EACH(i, SETTINGS)
+    EACH(i, ONE_PORT)
     {
         settings[i] = FEEDBACK_SETTINGS(i % 7, bandwidths[i / 28], 10, i / 7 % 2, 1 + i / 14 % 2);
         if (i % 5 > 0)
             settings[i].scheduled = 5;
         if (i % 3 == 0)
             settings[i].special = 5;
+    }
+    EACH(i, TWO_PORTS)
+    {
+        struct feedback_settings *two = &settings[ONE_PORT + i];
+        *two = FEEDBACK_SETTINGS(i % 7, bandwidths[i / 7], 10, 0, 1 + i % 2);
+        two->ports = 2;
+        if (i % 3 == 0)
+            two->special = 5;
     }
 }
 
@@ -273,19 +283,19 @@ int main(int argc, char **argv)
     fill_handsets();
     fill_traces();
     fill_list();
-    int all = HELD(window, 0);
-    all &= HELD(answered, 0);
-    all &= HELD(resource, 0);
-    all &= HELD(inverse, 0);
-    all &= HELD(reading, 8);
-    all &= HELD(claims, 8);
-    all &= HELD(claims_bits, 8);
-    all &= HELD(make, 0);
-    all &= HELD(change_mode, 72);
-    all &= HELD(feed_nothing, 72);
-    all &= HELD(feed_grant, 72);
-    all &= HELD(feed_scheduled, 72);
-    all &= HELD(feed_release, 72);
+    int all = HELD(window, 24); /* of settings, 18 bytes in whole words; the rest is in registers */
+    all &= HELD(answered, 24);
+    all &= HELD(resource, 24);
+    all &= HELD(inverse, 24);
+    all &= HELD(reading, 24);
+    all &= HELD(claims, 24);
+    all &= HELD(claims_bits, 24);
+    all &= HELD(make, 24);
+    all &= HELD(change_mode, 80); /* of a handset, 74 bytes */
+    all &= HELD(feed_nothing, 80);
+    all &= HELD(feed_grant, 80);
+    all &= HELD(feed_scheduled, 80);
+    all &= HELD(feed_release, 80);
     all &= HELD(replay, 0);
     all &= HELD(record, 0);
     all &= HELD(trace_write, 0);

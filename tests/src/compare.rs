@@ -35,7 +35,7 @@ pub const BANDWIDTHS: u64 = 105;
 pub const CCES: u64 = 7397;
 
 /// The highest refusal number.
-const LAST_REFUSAL: usize = 23;
+const LAST_REFUSAL: usize = 24;
 
 /// The highest kind of an answer.
 const LAST_KIND: usize = 5;

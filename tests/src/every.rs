@@ -39,6 +39,15 @@ pub fn cell(nrb: u16, n1: u16, scheduled: u16) -> impl Iterator<Item = Settings>
     })
 }
 
+/// The 14 ways to set configuration and blocks with two ports, which leave no other mode and
+/// no scheduled resource.
+pub fn two_port_cell(nrb: u16, n1: u16) -> impl Iterator<Item = Settings> {
+    let of_config = move |config| {
+        [1, 2].map(|blocks| Settings::plain(config, nrb, n1, 0, blocks).with_ports(2))
+    };
+    (0..7).flat_map(of_config)
+}
+
 /// The 13 ways to set configuration and mode. Bandwidth, blocks, prefix and special
 /// configuration differ, and in most a scheduled resource is set.
 pub fn mixed_cells() -> Vec<Settings> {
@@ -77,6 +86,7 @@ pub fn damaged(handset: Handset) -> Vec<Handset> {
     });
     each(&[0, 1, 2, 65535], &|handset, value| handset.settings.prefix = value);
     each(&[0, 4, 5, 8, 9, 65535], &|handset, value| handset.settings.special = value);
+    each(&[0, 1, 2, 3, 257, 258, 65535], &|handset, value| handset.settings.ports = value);
     each(&[0, 1, 2, 5, 9, 10, 65535], &|handset, value| handset.next = value);
     each(&[0, 1, 4096, 8191, 8192, 57344, 65535], &|handset, value| handset.modes = value);
     let cces = edge(nrb, 4);
@@ -90,7 +100,7 @@ pub fn damaged(handset: Handset) -> Vec<Handset> {
 }
 
 /// How many those are.
-pub const DAMAGED: u64 = 6 + 6 + 5 + 4 + 5 + 6 + 4 + 6 + 7 + 7 + 13 * (6 + 4 + 5 + 7);
+pub const DAMAGED: u64 = 6 + 6 + 5 + 4 + 5 + 6 + 4 + 6 + 7 + 7 + 7 + 13 * (6 + 4 + 5 + 7);
 
 /// Every window, with all settings of these values.
 pub fn window<'a>(

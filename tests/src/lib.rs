@@ -34,7 +34,7 @@ pub mod c {
     };
 
     extern "C" {
-        pub fn feedback_layout_4() -> u16;
+        pub fn feedback_layout_5() -> u16;
 
         pub fn feedback_window(settings: Settings, n: u16) -> WindowAnswer;
 
@@ -119,9 +119,9 @@ pub mod c {
 }
 
 /// The number of the structs' layout.
-pub fn layout_4() -> u16 {
+pub fn layout_5() -> u16 {
     // SAFETY: the call gives a number, and is lent no memory.
-    unsafe { c::feedback_layout_4() }
+    unsafe { c::feedback_layout_5() }
 }
 
 /// The engine's window of uplink subframe `n`.
@@ -136,7 +136,8 @@ pub fn answered(settings: Settings, subframe: u16) -> AnsweredAnswer {
     unsafe { c::feedback_answered(settings, subframe) }
 }
 
-/// The engine's resource of a position and first CCE in the window of `n`.
+/// The engine's resource of a position and first CCE in the window of `n`, and with two
+/// ports that of the second.
 pub fn resource(settings: Settings, n: u16, position: u16, cce: u16) -> ResourceAnswer {
     // SAFETY: the call takes numbers and gives numbers, and is lent no memory.
     unsafe { c::feedback_resource(settings, n, position, cce) }

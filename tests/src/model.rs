@@ -3,8 +3,9 @@
 //! Nothing here computes a resource by the formula. The resources of a window
 //! are laid out one after the other as a list of (position, CCE), and both calls
 //! are a search in that list: the resource of a pair is the place where it lies,
-//! and a pair or a place that is not in the list is refused. The multiplexed
-//! replies are laid out likewise: every state of a window, with its symbol.
+//! and a pair or a place that is not in the list is refused. A second port has the
+//! place behind that. The multiplexed replies are laid out likewise: every state of a
+//! window, with its symbol.
 
 mod handset;
 mod programs;
@@ -18,6 +19,7 @@ pub use replies::{Row, Symbol};
 use crate::{AnsweredAnswer, InverseAnswer, ResourceAnswer, Settings, WindowAnswer, NONE};
 use replies::States;
 use std::cmp::Reverse;
+use std::ops::Range;
 
 /// The frame, subframes 0 to 9, and the windows of each configuration, as
 /// printed: the uplink subframe n, then K in order.
@@ -43,10 +45,11 @@ const SPECIALS: [(u16, [u16; 2]); 2] = [(8, [0, 5]), (6, [0, 4])];
 
 /// The order in which the causes of a refusal are tried. 01's numbers rise, and a
 /// number that came later stands directly behind the one that it is said to be
-/// after: 17 after 6, 18 after 12, 19 after 17, 20 after 9. Those of a trace are tried
-/// where it is opened: 21 and 22 before all of these, 23 behind those of the settings; where
-/// it is written 23 is tried last.
-const ORDER: [u16; 20] = [1, 2, 3, 4, 5, 6, 17, 19, 7, 8, 9, 20, 10, 11, 12, 18, 13, 14, 15, 16];
+/// after: 17 after 6, 18 after 12, 19 after 17, 20 after 9, 24 after 19. Those of a trace
+/// are tried where it is opened: 21 and 22 before all of these, 23 behind those of the
+/// settings; where it is written 23 is tried last.
+const ORDER: [u16; 21] =
+    [1, 2, 3, 4, 5, 6, 17, 19, 24, 7, 8, 9, 20, 10, 11, 12, 18, 13, 14, 15, 16];
 
 /// The window of one uplink subframe of one configuration.
 #[derive(Clone, Debug, PartialEq, Eq)]
@@ -129,7 +132,11 @@ impl Model {
             Err(refusal) => ResourceAnswer::refused(refusal),
             Ok(layout) => match layout.place_of(position, cce) {
                 None => ResourceAnswer::refused(11),
-                Some(place) => ResourceAnswer::of(settings.n1 + place),
+                Some(place) => {
+                    let mut resources = resources_at(settings, place);
+                    let first = resources.next().expect("a handset has a port");
+                    ResourceAnswer::of_two(first, resources.next().unwrap_or(0))
+                }
             },
         }
     }
@@ -217,11 +224,18 @@ pub fn bundles(settings: Settings, size: u16) -> bool {
     settings.mode == 0 || size == 1
 }
 
+/// The resources of what lies at a place above N1: one for each port, and each one above
+/// that of the port before.
+fn resources_at(settings: Settings, place: u16) -> Range<u16> {
+    let first = settings.n1 + place;
+    first..first + settings.ports
+}
+
 /// The first among the causes that the settings meet.
 fn settings_refusal(settings: Settings) -> Option<u16> {
-    let Settings { config, nrb, n1, mode, blocks, scheduled, prefix, special } = settings;
+    let Settings { config, nrb, n1, mode, blocks, scheduled, prefix, special, ports } = settings;
     let last_special = SPECIALS.get(usize::from(prefix)).map(|(last, _)| *last);
-    let [no_mode, no_multiplexing] = mode_causes(config, mode);
+    let [no_mode, no_multiplexing, one_port_only] = mode_causes(config, ports, mode);
     first_met([
         (1, config > 6),
         (2, !NRB.contains(&nrb)),
@@ -231,13 +245,16 @@ fn settings_refusal(settings: Settings) -> Option<u16> {
         (6, ![1, 2].contains(&blocks)),
         (17, scheduled != NONE && scheduled >= n1),
         (19, last_special.is_none_or(|last| special > last)),
+        (24, ![1, 2].contains(&ports)),
+        (24, ports == 2 && scheduled != NONE),
+        one_port_only,
     ])
 }
 
 /// The causes that speak of the mode, be it that of the settings, one that they are to
 /// get, or one that is remembered.
-fn mode_causes(config: u16, mode: u16) -> [(u16, bool); 2] {
-    [(4, ![0, 1].contains(&mode)), (5, (mode, config) == (1, 5))]
+fn mode_causes(config: u16, ports: u16, mode: u16) -> [(u16, bool); 3] {
+    [(4, ![0, 1].contains(&mode)), (5, (mode, config) == (1, 5)), (24, (mode, ports) == (1, 2))]
 }
 
 /// The first in order among the causes that are met.

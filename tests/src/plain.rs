@@ -95,7 +95,7 @@ pub extern "C" fn plain_resource(
     cce: u16,
 ) -> ResourceAnswer {
     match resource(&settings, n, position, cce) {
-        Ok(resource) => ResourceAnswer::of(resource),
+        Ok(resource) => ResourceAnswer::of_two(resource, second(&settings, resource)),
         Err(refusal) => ResourceAnswer::refused(refusal),
     }
 }
@@ -117,6 +117,15 @@ fn resource(settings: &Settings, n: u16, position: u16, cce: u16) -> Result<u16,
         return Err(11);
     }
     Ok((size - position - 1) * lower + position * upper + cce + settings.n1)
+}
+
+/// The resource of the second port, by settings that have been checked; 0 with one port.
+fn second(settings: &Settings, resource: u16) -> u16 {
+    if settings.ports == 2 {
+        resource + 1
+    } else {
+        0
+    }
 }
 
 fn inverse(settings: &Settings, n: u16, resource: u16) -> Result<(u16, u16), u16> {
@@ -150,9 +159,15 @@ fn check(settings: &Settings) -> Result<(), u16> {
         Err(17)
     } else if settings.prefix > 1 || settings.special > LAST_SPECIAL[usize::from(settings.prefix)] {
         Err(19)
+    } else if settings.ports != 1 && !may_have_two_ports(settings) {
+        Err(24)
     } else {
         Ok(())
     }
+}
+
+fn may_have_two_ports(settings: &Settings) -> bool {
+    settings.ports == 2 && settings.mode == 0 && settings.scheduled == NONE
 }
 
 /// Whether the reply for a window of `size` subframes is bundled in a mode.

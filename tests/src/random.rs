@@ -102,34 +102,50 @@ impl Random {
         Settings { n1, ..self.plain_settings() }.with_scheduled(scheduled)
     }
 
-    /// Settings that are allowed, with any prefix and special configuration.
+    /// Settings that are allowed, with any prefix and special configuration, and once in
+    /// four with two ports.
     pub fn settings(&mut self) -> Settings {
+        match self.once_in(4) {
+            true => self.two_port_settings(),
+            false => self.one_port_settings(),
+        }
+    }
+
+    /// The same with one port.
+    pub fn one_port_settings(&mut self) -> Settings {
         let (prefix, special) = self.one_of(&SPECIALS);
         self.plain_settings().with_special(prefix, special)
     }
 
-    /// The same with a scheduled resource.
+    /// The same with two ports, and so in mode 0.
+    pub fn two_port_settings(&mut self) -> Settings {
+        Settings { mode: 0, ..self.one_port_settings() }.with_ports(2)
+    }
+
+    /// The same with a scheduled resource, and so with one port.
     pub fn scheduled_settings(&mut self) -> Settings {
         let (prefix, special) = self.one_of(&SPECIALS);
         self.plain_scheduled_settings().with_special(prefix, special)
     }
 
-    /// Settings that are allowed, mostly with a scheduled resource.
+    /// Settings that are allowed and have one port, as in a trace, mostly with a scheduled
+    /// resource.
     pub fn mixed_settings(&mut self) -> Settings {
         match self.once_in(3) {
-            true => self.settings(),
+            true => self.one_port_settings(),
             false => self.scheduled_settings(),
         }
     }
 
     /// Settings of which each number is once in `times` any number. Every other time
-    /// they have a scheduled resource.
+    /// they have a scheduled resource, and of the others one in four has two ports.
     pub fn wild_settings(&mut self, times: usize) -> Settings {
         let settings = match self.once_in(2) {
             true => self.settings(),
             false => self.scheduled_settings(),
         };
-        let Settings { config, nrb, n1, mode, blocks, scheduled, prefix, special } = settings;
+        let Settings { config, nrb, n1, mode, blocks, scheduled, prefix, special, ports } =
+            settings;
         let config = self.unless_once_in(times, config);
         let nrb = self.unless_once_in(times, nrb);
         let n1 = self.unless_once_in(times, n1);
@@ -142,8 +158,9 @@ impl Random {
         };
         let prefix = if self.once_in(times) { self.near(2) } else { prefix };
         let special = if self.once_in(times) { self.near(9) } else { special };
+        let ports = if self.once_in(times) { self.near(3) } else { ports };
         let settings = Settings::plain(config, nrb, n1, mode, blocks);
-        settings.with_scheduled(scheduled).with_special(prefix, special)
+        settings.with_scheduled(scheduled).with_special(prefix, special).with_ports(ports)
     }
 
     /// A number up to a limit, or any.
@@ -336,7 +353,7 @@ impl Random {
     pub fn damage(&mut self, mut handset: Handset) -> Handset {
         for _ in 0..1 + self.below(3) {
             let settings = &mut handset.settings;
-            match self.below(28) {
+            match self.below(30) {
                 0 => settings.config = self.any(),
                 1 => settings.nrb = self.any(),
                 2 => settings.n1 = self.any(),
@@ -354,6 +371,8 @@ impl Random {
                 14 => settings.mode = self.below16(2),
                 15 => handset.modes = self.any(),
                 16 => handset.modes ^= 1 << self.below(16),
+                17 => settings.ports = self.near(3),
+                18 => settings.ports = 1 + self.below16(2),
                 _ => self.damage_slot(&mut handset.past),
             }
         }

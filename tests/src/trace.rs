@@ -85,10 +85,11 @@ pub enum Due {
 /// Traces of four records with all causes at once, and then with one after another put
 /// right, in the order 22, 1 to 6, 17, 19, and by records 9, 20, 10, 11, 12, 18: each with
 /// what is due. With the last one nothing is wrong. An output that is too short, 23, has
-/// another place in each call.
+/// another place in each call. A trace has no ports, and so none of it is refused 24.
 pub fn one_cause_less() -> [(Due, Trace); 22] {
     let [refused @ .., (_, short), (_, long)] = Settings::one_cause_less();
     let [(_, all), ..] = refused;
+    let refused = refused.into_iter().filter(|(number, _)| *number != 24);
     // Of configuration 5 subframe 1 is special, 2 is uplink with the only window, and
     // the others are downlink. N_RB 6 has CCEs 0 to 6.
     let wrong = Slot::grant(7, 5, Slot::TWO);
@@ -115,9 +116,9 @@ pub fn one_cause_less() -> [(Due, Trace); 22] {
     traces.collect::<Vec<_>>().try_into().expect("as many as there are steps")
 }
 
-/// The ten bytes of the settings in a trace.
+/// The ten bytes of the settings in a trace. The number of ports is not among them.
 pub fn settings_bytes(settings: Settings) -> [u8; SETTINGS] {
-    let Settings { config, nrb, n1, mode, blocks, scheduled, prefix, special } = settings;
+    let Settings { config, nrb, n1, mode, blocks, scheduled, prefix, special, .. } = settings;
     let byte = |number: u16| u8::try_from(number).expect("a setting of one byte");
     let [config, nrb, mode, blocks] = [config, nrb, mode, blocks].map(byte);
     let ([n1, n1_high], [scheduled, scheduled_high]) = (n1.to_le_bytes(), scheduled.to_le_bytes());

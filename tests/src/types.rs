@@ -18,13 +18,14 @@ pub struct Settings {
     pub scheduled: u16,
     pub prefix: u16,
     pub special: u16,
+    pub ports: u16,
 }
 
 impl Settings {
     /// The settings that 01 names; what later papers add is as before: no scheduled
-    /// resource, and special subframes that are long enough for data.
+    /// resource, special subframes that are long enough for data, and one antenna port.
     pub const fn plain(config: u16, nrb: u16, n1: u16, mode: u16, blocks: u16) -> Self {
-        Self { config, nrb, n1, mode, blocks, scheduled: NONE, prefix: 0, special: 7 }
+        Self { config, nrb, n1, mode, blocks, scheduled: NONE, prefix: 0, special: 7, ports: 1 }
     }
 
     /// The same with a scheduled resource.
@@ -37,22 +38,30 @@ impl Settings {
         Self { prefix, special, ..self }
     }
 
+    /// The same with a number of antenna ports.
+    pub const fn with_ports(self, ports: u16) -> Self {
+        Self { ports, ..self }
+    }
+
     /// Settings with all causes of a refusal at once, and the same with one after another
     /// put right, in the order of the refusals: each with the refusal that it meets first.
-    /// The last two are accepted, with 0: special subframes too short for data, and long
-    /// enough for it.
-    pub const fn one_cause_less() -> [(u16, Self); 12] {
+    /// The last two are accepted, with 0, and have one port: special subframes too short for
+    /// data, and long enough for it.
+    pub const fn one_cause_less() -> [(u16, Self); 14] {
         let all = Self::plain(7, 5, 2048, 2, 0).with_scheduled(65_534).with_special(2, 9);
+        let all = all.with_ports(3);
         let nrb = Self { config: 5, ..all };
         let n1 = Self { nrb: 6, ..nrb };
         let mode = Self { n1: 2047, ..n1 };
         let multiplexing = Self { mode: 1, ..mode };
         let blocks = Self { mode: 0, ..multiplexing };
         let scheduled = Self { blocks: 1, ..blocks };
-        let prefix = Self { scheduled: NONE, ..scheduled };
+        let prefix = Self { scheduled: 2046, ..scheduled };
         let special = Self { prefix: 1, ..prefix };
         let later_release = Self { special: 7, ..special };
-        let short = Self { special: 4, ..later_release };
+        let three_ports = Self { special: 4, ..later_release };
+        let two_and_scheduled = Self { ports: 2, ..three_ports };
+        let short = Self { scheduled: NONE, ports: 1, ..two_and_scheduled };
         let long = Self { special: 5, ..short };
         [
             (1, all),
@@ -65,6 +74,8 @@ impl Settings {
             (19, prefix),
             (19, special),
             (19, later_release),
+            (24, three_ports),
+            (24, two_and_scheduled),
             (0, short),
             (0, long),
         ]
@@ -94,12 +105,14 @@ pub struct AnsweredAnswer {
     pub position: u16,
 }
 
-/// The answer of the resource call: a refusal, or 0 and the resource.
+/// The answer of the resource call: a refusal, or 0 and the resource of the first port,
+/// and with two ports that of the second, which is 0 with one.
 #[repr(C)]
 #[derive(Clone, Copy, Debug, PartialEq, Eq)]
 pub struct ResourceAnswer {
     pub refusal: u16,
     pub resource: u16,
+    pub second: u16,
 }
 
 /// The answer of the inverse: a refusal, or 0 and the position and first CCE.
@@ -131,7 +144,7 @@ pub struct ReadingAnswer {
 
 /// The answer about the claims of a cell: a refusal (kind 0), with the index of
 /// the first bad claim where that is the cause, clean (1), or the index of the
-/// first claim equal to an earlier one (2).
+/// first claim that has a resource of an earlier one (2).
 #[repr(C)]
 #[derive(Clone, Copy, Debug, PartialEq, Eq)]
 pub struct ClaimsAnswer {
@@ -183,7 +196,8 @@ pub struct Changed {
 
 /// The answer of a feed: refused (kind 0), a bundled reply (1) or a multiplexed
 /// one (2) with its resource and bits, silent (3), taken (4) or no window (5);
-/// and the handset afterwards.
+/// the resource of the second port of a reply with two ports, else 0; and the handset
+/// afterwards.
 #[repr(C)]
 #[derive(Clone, Copy, Debug, PartialEq, Eq)]
 pub struct Fed {
@@ -192,6 +206,7 @@ pub struct Fed {
     pub resource: u16,
     pub b0: u16,
     pub b1: u16,
+    pub second: u16,
     pub handset: Handset,
 }
 
@@ -305,13 +320,17 @@ impl AnsweredAnswer {
 
 impl ResourceAnswer {
     pub fn refused(refusal: u16) -> Self {
-        let resource = 0;
-        Self { refusal, resource }
+        Self { refusal, resource: 0, second: 0 }
     }
 
+    /// With one port.
     pub fn of(resource: u16) -> Self {
-        let refusal = 0;
-        Self { refusal, resource }
+        Self { resource, ..Self::refused(0) }
+    }
+
+    /// With two ports, by the resources of both.
+    pub fn of_two(resource: u16, second: u16) -> Self {
+        Self { second, ..Self::of(resource) }
     }
 }
 
@@ -434,7 +453,7 @@ impl Slot {
 impl Handset {
     /// What stands beside a refusal to make one: every byte is 0.
     pub const NONE: Self = Self {
-        settings: Settings::plain(0, 0, 0, 0, 0).with_scheduled(0).with_special(0, 0),
+        settings: Settings::plain(0, 0, 0, 0, 0).with_scheduled(0).with_special(0, 0).with_ports(0),
         next: 0,
         modes: 0,
         past: [Slot::NOTHING; 13],
@@ -451,14 +470,14 @@ impl Handset {
     pub const ALL_MULTIPLEXING: u16 = 8191;
 
     /// All that the handset is in memory.
-    pub fn bytes(self) -> [u8; 72] {
-        // SAFETY: a handset is 72 bytes without padding, and any bytes are numbers.
+    pub fn bytes(self) -> [u8; 74] {
+        // SAFETY: a handset is 74 bytes without padding, and any bytes are numbers.
         unsafe { std::mem::transmute(self) }
     }
 
     /// The handset of these bytes.
-    pub fn from_bytes(bytes: [u8; 72]) -> Self {
-        // SAFETY: a handset is 72 bytes of numbers, which may have any value.
+    pub fn from_bytes(bytes: [u8; 74]) -> Self {
+        // SAFETY: a handset is 74 bytes of numbers, which may have any value.
         unsafe { std::mem::transmute(bytes) }
     }
 
@@ -489,8 +508,14 @@ impl Fed {
         Self { refusal, ..Self::answer(0, handset) }
     }
 
+    /// A reply with one port.
     pub fn reply(kind: u16, resource: u16, bits: (u16, u16), handset: Handset) -> Self {
-        Self { refusal: 0, kind, resource, b0: bits.0, b1: bits.1, handset }
+        Self { refusal: 0, kind, resource, b0: bits.0, b1: bits.1, second: 0, handset }
+    }
+
+    /// The same with a resource of the second port.
+    pub fn with_second(self, second: u16) -> Self {
+        Self { second, ..self }
     }
 
     /// An answer that is no reply.

@@ -4,9 +4,8 @@
 //! A line that begins with `#` is a comment, and the last of them names the
 //! columns; every other line is a case. A comma parts the columns, a space the
 //! entries of a list, and `-` is an empty list or byte string; bytes have two
-//! hexadecimal digits each. A file that has settings has all
-//! that there will ever be, of which those that a later request brings have the
-//! value that changes nothing.
+//! hexadecimal digits each. A file that has settings has all of them, of which those
+//! that a later request brought have the value that changes nothing.
 
 use crate::{Block, Grant, Handset, Heard, Release, Settings, Slot, Step};
 use std::fmt;
@@ -14,10 +13,6 @@ use std::fmt;
 /// The columns of the settings, in this order and side by side.
 const SETTINGS: [&str; 9] =
     ["configuration", "N_RB", "N1", "mode", "blocks", "scheduled", "prefix", "special", "ports"];
-
-/// The settings that the engine does not have yet, and the values at which they
-/// change nothing.
-const LATER: [(&str, u16); 1] = [("ports", 1)];
 
 /// One case: a line, under the names of its columns.
 #[derive(Clone, Debug)]
@@ -54,6 +49,11 @@ impl<'a> Case<'a> {
         text
     }
 
+    /// Whether there is a column of a name.
+    pub fn has(&self, name: &str) -> bool {
+        self.others().any(|(each, _)| each == name)
+    }
+
     pub fn number(&self, name: &str) -> u16 {
         self.parse(self.text(name))
     }
@@ -84,14 +84,9 @@ impl<'a> Case<'a> {
             let column = columns.iter().find(|(each, _)| *each == name);
             self.parse(column.expect("all settings stand in the file").1)
         };
-        for (name, neutral) in LATER {
-            assert_eq!(number(name), neutral, "{self}: {name} is not there yet");
-        }
-        let [config, nrb, n1, mode, blocks] =
-            ["configuration", "N_RB", "N1", "mode", "blocks"].map(number);
-        let [scheduled, prefix, special] = ["scheduled", "prefix", "special"].map(number);
-        let settings = Settings::plain(config, nrb, n1, mode, blocks);
-        settings.with_scheduled(scheduled).with_special(prefix, special)
+        let [config, nrb, n1, mode, blocks, scheduled, prefix, special, ports] =
+            SETTINGS.map(number);
+        Settings { config, nrb, n1, mode, blocks, scheduled, prefix, special, ports }
     }
 
     /// The lent handset: its settings, the subframe expected, and seven numbers for
@@ -101,7 +96,7 @@ impl<'a> Case<'a> {
     pub fn handset(&self) -> Option<Handset> {
         let mut handset = Handset::fresh(self.settings());
         handset.next = self.number("expects");
-        if self.others().any(|(name, _)| name == "modes") {
+        if self.has("modes") {
             handset.modes = modes(&self.numbers("modes"))?;
         }
         for entry in self.numbers("remembered").chunks(7) {

@@ -273,7 +273,7 @@ fn the_mode_at_a_refused_feed_does_not_count() {
     }
 }
 
-/// Configuration 5 has no multiplexing: 5, and for what is no mode 4. Both leave all 72
+/// Configuration 5 has no multiplexing: 5, and for what is no mode 4. Both leave all 74
 /// bytes, and to the mode that stands nothing changes.
 #[test]
 fn refused_changes() {

@@ -1,6 +1,7 @@
 //! Mode changes on lent states, and the modes that a state remembers: every number as the
 //! new mode, every number as the remembered modes, every byte of a handset, damaged states,
 //! and the order 4, 5, 8. The engine is held to the model, and to what is written out here.
+//! Handsets with two ports are in tests/ports_states.rs.
 
 use feedback_tests::compare::Comparison;
 use feedback_tests::every;
@@ -42,7 +43,7 @@ fn answer(fed: &Fed) -> (u16, u16, (u16, u16)) {
     (fed.kind, fed.resource, (fed.b0, fed.b1))
 }
 
-/// Holds a change to what is due by its refusal: a refused one leaves all 72 bytes, and
+/// Holds a change to what is due by its refusal: a refused one leaves all 74 bytes, and
 /// another all but those of the mode.
 fn hold_bytes(handset: Handset, mode: u16, changed: Changed) {
     let mut due = handset.bytes();
@@ -131,12 +132,12 @@ fn every_byte_of_a_handset() {
                     let changed = comparison.change_mode(handset, mode);
                     hold_bytes(handset, mode, changed);
                     let same_verdict = changed.refusal == fed.refusal;
-                    assert!(same_verdict || [4, 5].contains(&changed.refusal), "{handset:?}");
+                    assert!(same_verdict || [4, 5, 24].contains(&changed.refusal), "{handset:?}");
                 }
             }
         }
     }
-    comparison.finish_with(4 * 72 * 256 * 4, &[0, 4, 5, 8], &[0, 1, 2]);
+    comparison.finish_with(4 * 74 * 256 * 4, &[0, 4, 5, 8, 24], &[0, 1, 2]);
 }
 
 /// Each field of a full handset with each of its special values, in every subframe of every
@@ -156,14 +157,18 @@ fn damaged_states() {
                     changed.refusal
                 });
                 let [to_0, to_1, others @ ..] = refusals;
-                let five = handset.settings.config == 5;
+                let multiplexing = match (handset.settings.config, handset.settings.ports) {
+                    (5, _) => 5,
+                    (_, 2) => 24,
+                    _ => to_0,
+                };
                 assert_eq!(others, [4, 4], "{handset:?}");
-                assert_eq!(to_1, if five { 5 } else { to_0 }, "{handset:?}");
+                assert_eq!(to_1, multiplexing, "{handset:?}");
                 assert_eq!(to_0, feed_nothing(handset).refusal, "{handset:?}");
             }
         }
     }
-    comparison.finish_with(26 * 10 * every::DAMAGED * 4, &[0, 4, 5, 8], &[]);
+    comparison.finish_with(26 * 10 * every::DAMAGED * 4, &[0, 4, 5, 8, 24], &[]);
 }
 
 /// What makes a state bad. The handset expects 2, so it remembers 1 and 0 first, and 2, which

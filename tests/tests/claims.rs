@@ -1,5 +1,6 @@
 //! feedback_claims and feedback_claims_bits beside the model, on memory that lies flush
-//! with pages that are not mapped; and the two beside each other.
+//! with pages that are not mapped; and the two beside each other. Most lists here are made
+//! for one port; tests/ports_claims.rs has those for two.
 
 use feedback_tests::compare::{Comparison, Lent, Shown, BANDWIDTHS, POSITIONS, WINDOWS};
 use feedback_tests::every;
@@ -126,9 +127,9 @@ fn settings_for(window: &Window, nrb: u16, random: &mut Random) -> Settings {
     Settings::plain(window.config, nrb, n1, mode, blocks)
 }
 
-/// M × N_4, the number of resources.
-fn resources_of(window: &Window, nrb: u16) -> usize {
-    usize::from(window.size() * edge(nrb, 4))
+/// M × N_4, the number of resources, and one more with two ports.
+fn resources_of(window: &Window, settings: Settings) -> usize {
+    usize::from(window.size() * edge(settings.nrb, 4) + settings.ports - 1)
 }
 
 /// Every window with lists of every content and length, and scratch of every length.
@@ -143,7 +144,7 @@ fn lists_of_every_content_and_length() {
         for nrb in [6, 50, 110] {
             let settings = settings_for(window, nrb, &mut random);
             let (size, cces) = (window.size(), edge(nrb, 4));
-            let all = resources_of(window, nrb);
+            let all = resources_of(window, settings);
             for length in [0, 1, 2, 3, all - 1, all, all + 1, 1206, 1207, LONG] {
                 for content in CONTENTS {
                     let list = list(content, length, size, cces, &mut random);
@@ -197,7 +198,7 @@ fn random_lists() {
         let settings = random.settings();
         let window = random.window(&model, settings.config);
         let (size, cces) = (window.size(), edge(settings.nrb, 4));
-        let all = resources_of(window, settings.nrb);
+        let all = resources_of(window, settings);
         let longest = random.one_of(&[40, 40, 40, 3 * all]);
         let length = random.below(longest);
         let list = list(random.one_of(&CONTENTS), length, size, cces, &mut random);
@@ -291,7 +292,8 @@ fn more_lent_than_needed() {
 
 /// Lists that overlap the scratch are the caller's breach, and the answer is not
 /// fixed. But nothing is touched beyond what was lent, and nothing is written
-/// beyond the first M × N_4 bytes of the scratch, or beyond as many bits.
+/// beyond the first M × N_4 bytes of the scratch, or beyond as many bits; with two ports
+/// there is one more.
 #[test]
 fn overlapping_list_and_scratch() {
     let model = Model::new();
@@ -303,7 +305,7 @@ fn overlapping_list_and_scratch() {
         let settings = random.settings();
         let window = random.window(&model, settings.config);
         let (size, cces) = (window.size(), edge(settings.nrb, 4));
-        let all = resources_of(window, settings.nrb);
+        let all = resources_of(window, settings);
         let need = form.need(all);
         let content = random.one_of(&CONTENTS);
         let longest = random.one_of(&[40, 40, 2 * all]);
@@ -353,8 +355,8 @@ fn bits_of(bytes: &[u8]) -> Vec<u8> {
     bytes.iter().flat_map(|byte| (0..8).map(move |bit| byte >> bit & 1)).collect()
 }
 
-/// The two C calls beside each other, for every window and bandwidth and some settings
-/// that are refused. A byte form that is lent eight times the scratch has enough exactly
+/// The two C calls beside each other, for every window and bandwidth, with one port and with
+/// two, and some settings that are refused. A byte form that is lent eight times the scratch has enough exactly
 /// where the bit form has: then the answers are the same, whatever they are, and where
 /// claims are judged byte t is bit t. In the scratch of the bit form alone the byte form
 /// has not enough.
@@ -362,11 +364,13 @@ fn bits_of(bytes: &[u8]) -> Vec<u8> {
 fn both_forms_answer_alike() {
     let model = Model::new();
     let mut random = Random::new(4);
-    let (mut by_refusal, mut by_kind, mut short) = ([0; 20], [0; 3], 0);
+    let (mut by_refusal, mut by_kind, mut short) = ([0; 25], [0; 3], 0);
+    let mut of_two_ports = [0; 3];
     for (settings, window) in every::window(&model, NRB, &[0, 10, 2047], &[(0, 1), (0, 2)]) {
         let (size, cces) = (window.size(), edge(settings.nrb, 4));
-        let all = resources_of(window, settings.nrb);
         for content in CONTENTS {
+            let settings = settings.with_ports(1 + random.below16(2));
+            let all = resources_of(window, settings);
             let settings = if random.once_in(8) { random.wild_settings(8) } else { settings };
             let n = if random.once_in(16) { random.below16(11) } else { window.n };
             let longest = random.one_of(&[3, 20, 20, 2 * all]);
@@ -380,7 +384,7 @@ fn both_forms_answer_alike() {
             assert_eq!(given, due, "feedback_claims_bits, then feedback_claims: {}", what());
             if due.refusal == 0 {
                 let window = model.window(settings.config, n).expect("a window");
-                let all = resources_of(window, settings.nrb);
+                let all = resources_of(window, settings);
                 let end = Form::Bits.need(all);
                 let marks = bits_of(&bits[..end]);
                 assert_eq!(marks[..all], bytes[..all], "bits, then bytes: {}", what());
@@ -401,11 +405,14 @@ fn both_forms_answer_alike() {
             }
             by_refusal[usize::from(due.refusal)] += 1;
             by_kind[usize::from(due.kind)] += 1;
+            of_two_ports[usize::from(due.kind)] += u64::from(settings.ports == 2);
         }
     }
     println!("{by_refusal:?} by refusal, {by_kind:?} by kind, {short} too short for bytes");
+    println!("{of_two_ports:?} of two ports, by kind");
     assert_eq!(by_kind.iter().sum::<u64>(), WINDOWS * BANDWIDTHS * 3 * 2 * 7);
-    let refusals = [1, 2, 3, 4, 5, 6, 7, 15, 16, 17, 19];
+    let refusals = [1, 2, 3, 4, 5, 6, 7, 15, 16, 17, 19, 24];
     assert!(refusals.iter().all(|number| by_refusal[*number] > 50));
     assert!(by_kind[1] > 10_000 && by_kind[2] > 10_000 && short > 20_000);
+    assert!(of_two_ports[1..].iter().all(|number| *number > 3_000));
 }

@@ -127,7 +127,7 @@ fn windows() {
         1
     });
     assert_eq!(calls, WINDOW_CALLS * times());
-    comparison.finish_with(calls / SAMPLE, &[0, 1, 2, 3, 4, 5, 6, 7, 17, 19], &[]);
+    comparison.finish_with(calls / SAMPLE, &[0, 1, 2, 3, 4, 5, 6, 7, 17, 19, 24], &[]);
 }
 
 #[test]
@@ -149,13 +149,14 @@ fn answers_for_subframes() {
         1
     });
     assert_eq!(calls, ANSWERED_CALLS * times());
-    comparison.finish_with(calls / SAMPLE, &[0, 1, 2, 3, 4, 5, 6, 7, 17, 19], &[]);
+    comparison.finish_with(calls / SAMPLE, &[0, 1, 2, 3, 4, 5, 6, 7, 17, 19, 24], &[]);
 }
 
 #[test]
 fn resources() {
     let model = Model::new();
     let mut comparison = Comparison::with(&model);
+    let mut of_ports = [0; 2];
     let calls = fuzz(1, RESOURCE_CALLS, |random, ask_model| {
         let settings = random.wild_settings(24);
         let n = random.wild_n(&model, settings.config);
@@ -168,13 +169,18 @@ fn resources() {
             "feedback_resource({settings:?}, n {n}, position {position}, cce {cce}): the engine \
              gives {given:?}, the plain implementation {plain:?}"
         );
+        if given.refusal == 0 {
+            of_ports[usize::from(settings.ports - 1)] += 1;
+        }
         if ask_model {
             comparison.resource(settings, n, position, cce);
         }
         1
     });
     assert_eq!(calls, RESOURCE_CALLS * times());
-    comparison.finish_with(calls / SAMPLE, &[0, 1, 2, 3, 4, 5, 6, 7, 11, 17, 19], &[]);
+    comparison.finish_with(calls / SAMPLE, &[0, 1, 2, 3, 4, 5, 6, 7, 11, 17, 19, 24], &[]);
+    println!("{of_ports:?} answered, by ports");
+    assert!(of_ports.iter().all(|number| *number > 50_000));
 }
 
 #[test]
@@ -199,7 +205,7 @@ fn inverses() {
         1
     });
     assert_eq!(calls, INVERSE_CALLS * times());
-    comparison.finish_with(calls / SAMPLE, &[0, 1, 2, 3, 4, 5, 6, 7, 13, 17, 19], &[]);
+    comparison.finish_with(calls / SAMPLE, &[0, 1, 2, 3, 4, 5, 6, 7, 13, 17, 19, 24], &[]);
 }
 
 /// Half of the readings are told a position, mostly one of the window, and a quarter
@@ -236,7 +242,7 @@ fn readings() {
         1
     });
     assert_eq!(calls, READING_CALLS * times());
-    let refusals = [0, 1, 2, 3, 4, 5, 6, 7, 11, 13, 14, 17, 18, 19, 20];
+    let refusals = [0, 1, 2, 3, 4, 5, 6, 7, 11, 13, 14, 17, 18, 19, 20, 24];
     comparison.finish_with(calls / SAMPLE, &refusals, &[0, 1, 2]);
     println!("read as the scheduled block, by kind: {as_block:?}");
     assert!(as_block[0] == 0 && as_block[1] > 1000 && as_block[2] > 1000);
@@ -260,7 +266,7 @@ fn makings() {
         1
     });
     assert_eq!(calls, MAKE_CALLS * times());
-    comparison.finish_with(calls / SAMPLE, &[0, 1, 2, 3, 4, 5, 6, 17, 19], &[]);
+    comparison.finish_with(calls / SAMPLE, &[0, 1, 2, 3, 4, 5, 6, 17, 19, 24], &[]);
 }
 
 /// The handset of the last call, or sometimes another: fresh, damaged or of any numbers.
@@ -323,7 +329,7 @@ fn feeds() {
     let model = Model::new();
     let mut comparison = Comparison::with(&model);
     let mut handset = Handset::NONE;
-    let (mut on_scheduled, mut short_releases) = (0, 0);
+    let (mut on_scheduled, mut short_releases, mut on_two) = (0, 0, 0);
     let calls = fuzz(5, FEED_CALLS, |random, ask_model| {
         let lent = lent(handset, random);
         let Handset { settings, next, .. } = lent;
@@ -331,6 +337,7 @@ fn feeds() {
         let given = compared_feed(lent, heard);
         let is_reply = [Fed::BUNDLED, Fed::MULTIPLEXED].contains(&given.kind);
         on_scheduled += u64::from(is_reply && given.resource == settings.scheduled);
+        on_two += u64::from(is_reply && settings.ports == 2);
         if given.refusal == 0 && matches!(heard, Heard::Release(_)) {
             short_releases += u64::from(is_short(settings, next));
         }
@@ -345,7 +352,8 @@ fn feeds() {
     comparison.finish_with(calls / SAMPLE, &refusals, &[0, 1, 2, 3, 4, 5]);
     println!("{on_scheduled} replies on the scheduled resource");
     println!("{short_releases} releases in special subframes too short for data");
-    assert!(on_scheduled > 10_000 && short_releases > 10_000);
+    println!("{on_two} replies with two ports");
+    assert!(on_scheduled > 10_000 && short_releases > 10_000 && on_two > 10_000);
 }
 
 /// A handset that goes from feed to feed with mode changes in between, to any number too.
@@ -386,19 +394,22 @@ fn feeds_and_mode_changes() {
         1
     });
     assert_eq!(calls, STEP_CALLS * times());
-    let refusals = [0, 4, 5, 8, 9, 10, 11, 12, 18, 20];
+    let refusals = [0, 4, 5, 8, 9, 10, 11, 12, 18, 20, 24];
     comparison.finish_with(calls / SAMPLE, &refusals, &[0, 1, 2, 3, 4, 5]);
     println!("{changed} changes, {in_another_mode:?} replies, by mode, while the other stands");
     assert!(changed > 100_000 && in_another_mode.iter().all(|number| *number > 5_000));
 }
 
-/// Mode changes on states of any kind.
+/// Mode changes on states of any kind, one in four with two ports.
 #[test]
 fn mode_changes() {
     let model = Model::new();
     let mut comparison = Comparison::with(&model);
     let calls = fuzz(14, CHANGE_CALLS, |random, ask_model| {
-        let fresh = Handset::fresh(random.mixed_settings());
+        let fresh = Handset::fresh(match random.once_in(4) {
+            true => random.two_port_settings(),
+            false => random.mixed_settings(),
+        });
         let handset = match random.below(8) {
             0 => random.noise(),
             1..4 => random.damage(fresh),
@@ -412,7 +423,7 @@ fn mode_changes() {
         1
     });
     assert_eq!(calls, CHANGE_CALLS * times());
-    comparison.finish_with(calls / SAMPLE, &[0, 4, 5, 8], &[]);
+    comparison.finish_with(calls / SAMPLE, &[0, 4, 5, 8, 24], &[]);
 }
 
 /// Claims: mostly allowed ones, and any others.
@@ -444,12 +455,13 @@ fn claims_in(form: Form, seed: u64, number: u64) {
     let mut lent = Lent::new(1500);
     let mut random = Random::new(0);
     let dirt: Vec<u8> = (0..8192).map(|_| random.any_byte()).collect();
+    let mut of_two_ports = [0; 3];
     let calls = fuzz(seed, number, |random, ask_model| {
         let settings = random.wild_settings(48);
         let n = random.wild_n(&model, settings.config);
         let (size, cces) = (size(&model, settings, n), cces(settings));
         let list = list(size, cces, random);
-        let need = form.need(usize::from(size * cces));
+        let need = form.need(usize::from(size * cces) + usize::from(settings.ports == 2));
         let room = match random.below(8) {
             0 => random.below(need + 64),
             1 => need - 1,
@@ -476,19 +488,23 @@ fn claims_in(form: Form, seed: u64, number: u64) {
                 Shown(&plain_left)
             );
         }
+        of_two_ports[usize::from(plain.kind)] += u64::from(settings.ports == 2);
         if ask_model {
             comparison.claims(form, &mut lent, settings, n, &list, &scratch);
         }
         2
     });
     assert_eq!(calls, number * times());
-    let refusals = [0, 1, 2, 3, 4, 5, 6, 7, 15, 16, 17, 19];
+    println!("{of_two_ports:?} lists of two ports, by kind");
+    assert!(of_two_ports.iter().all(|number| *number > 5_000));
+    let refusals = [0, 1, 2, 3, 4, 5, 6, 7, 15, 16, 17, 19, 24];
     comparison.finish_with(calls / 2 / SAMPLE * 2, &refusals, &[0, 1, 2]);
 }
 
-/// Settings that fit in a trace: each number once in `times` any that its bytes hold.
+/// Settings that fit in a trace: each number once in `times` any that its bytes hold. There
+/// is always one port.
 fn settings_in_a_trace(random: &mut Random, times: usize) -> Settings {
-    let Settings { config, nrb, n1, mode, blocks, scheduled, prefix, special } =
+    let Settings { config, nrb, n1, mode, blocks, scheduled, prefix, special, .. } =
         random.wild_settings(times);
     let byte = |number: u16| number & 255;
     let settings = Settings::plain(byte(config), byte(nrb), n1, byte(mode), byte(blocks));

@@ -3,7 +3,7 @@
 use feedback_tests::form::Form;
 use feedback_tests::trace::Trace;
 use feedback_tests::{
-    answered, change_mode, claims, claims_bits, feed, inverse, layout_4, make, reading, record,
+    answered, change_mode, claims, claims_bits, feed, inverse, layout_5, make, reading, record,
     replay, resource, trace_write, window, AnsweredAnswer, Block, Changed, ClaimsAnswer, Fed,
     Grant, Handset, Heard, InverseAnswer, Made, ReadingAnswer, RecordAnswer, Release, ReplayAnswer,
     ResourceAnswer, Settings, Slot, WindowAnswer, WriteAnswer, NOT_TOLD,
@@ -11,13 +11,13 @@ use feedback_tests::{
 use std::mem::{align_of, offset_of, size_of};
 
 #[test]
-fn layout_is_the_fourth() {
-    assert_eq!(layout_4(), 4);
+fn layout_is_the_fifth() {
+    assert_eq!(layout_5(), 5);
 }
 
 #[test]
-fn settings_are_eight_16_bit_numbers() {
-    assert_eq!((size_of::<Settings>(), align_of::<Settings>()), (16, 2));
+fn settings_are_nine_16_bit_numbers() {
+    assert_eq!((size_of::<Settings>(), align_of::<Settings>()), (18, 2));
     assert_eq!(offset_of!(Settings, config), 0);
     assert_eq!(offset_of!(Settings, nrb), 2);
     assert_eq!(offset_of!(Settings, n1), 4);
@@ -26,6 +26,7 @@ fn settings_are_eight_16_bit_numbers() {
     assert_eq!(offset_of!(Settings, scheduled), 10);
     assert_eq!(offset_of!(Settings, prefix), 12);
     assert_eq!(offset_of!(Settings, special), 14);
+    assert_eq!(offset_of!(Settings, ports), 16);
 }
 
 #[test]
@@ -47,10 +48,11 @@ fn an_answer_for_a_subframe_is_four_16_bit_numbers() {
 }
 
 #[test]
-fn a_resource_answer_is_two_16_bit_numbers() {
-    assert_eq!((size_of::<ResourceAnswer>(), align_of::<ResourceAnswer>()), (4, 2));
+fn a_resource_answer_is_three_16_bit_numbers() {
+    assert_eq!((size_of::<ResourceAnswer>(), align_of::<ResourceAnswer>()), (6, 2));
     assert_eq!(offset_of!(ResourceAnswer, refusal), 0);
     assert_eq!(offset_of!(ResourceAnswer, resource), 2);
+    assert_eq!(offset_of!(ResourceAnswer, second), 4);
 }
 
 #[test]
@@ -92,31 +94,32 @@ fn a_slot_is_four_bytes() {
 }
 
 #[test]
-fn a_handset_is_72_bytes() {
-    assert_eq!((size_of::<Handset>(), align_of::<Handset>()), (72, 2));
+fn a_handset_is_74_bytes() {
+    assert_eq!((size_of::<Handset>(), align_of::<Handset>()), (74, 2));
     assert_eq!(offset_of!(Handset, settings), 0);
-    assert_eq!(offset_of!(Handset, next), 16);
-    assert_eq!(offset_of!(Handset, modes), 18);
-    assert_eq!(offset_of!(Handset, past), 20);
+    assert_eq!(offset_of!(Handset, next), 18);
+    assert_eq!(offset_of!(Handset, modes), 20);
+    assert_eq!(offset_of!(Handset, past), 22);
 }
 
 #[test]
 fn answers_with_a_handset_have_it_last() {
-    assert_eq!((size_of::<Made>(), align_of::<Made>()), (74, 2));
+    assert_eq!((size_of::<Made>(), align_of::<Made>()), (76, 2));
     assert_eq!(offset_of!(Made, refusal), 0);
     assert_eq!(offset_of!(Made, handset), 2);
 
-    assert_eq!((size_of::<Changed>(), align_of::<Changed>()), (74, 2));
+    assert_eq!((size_of::<Changed>(), align_of::<Changed>()), (76, 2));
     assert_eq!(offset_of!(Changed, refusal), 0);
     assert_eq!(offset_of!(Changed, handset), 2);
 
-    assert_eq!((size_of::<Fed>(), align_of::<Fed>()), (82, 2));
+    assert_eq!((size_of::<Fed>(), align_of::<Fed>()), (86, 2));
     assert_eq!(offset_of!(Fed, refusal), 0);
     assert_eq!(offset_of!(Fed, kind), 2);
     assert_eq!(offset_of!(Fed, resource), 4);
     assert_eq!(offset_of!(Fed, b0), 6);
     assert_eq!(offset_of!(Fed, b1), 8);
-    assert_eq!(offset_of!(Fed, handset), 10);
+    assert_eq!(offset_of!(Fed, second), 10);
+    assert_eq!(offset_of!(Fed, handset), 12);
 }
 
 #[test]
@@ -238,6 +241,26 @@ fn every_kind_comes_back() {
     assert_eq!(changed, after);
 }
 
+/// Both resources come back, and every field of a reply, each with a value of its own. In
+/// configuration 1 the window of 2 has K 7, 6: a grant 6 ago, at position 1, with first CCE
+/// 60, has the resource 61 + 60 above N1.
+#[test]
+fn every_field_of_two_ports_comes_back() {
+    let settings = Settings::plain(1, 50, 1000, 0, 2).with_ports(2);
+    let answer = ResourceAnswer { refusal: 0, resource: 1121, second: 1122 };
+    assert_eq!(resource(settings, 2, 1, 60), answer);
+    let mut handset = Handset { next: 2, ..Handset::fresh(settings) };
+    handset.past[5] = Slot::grant(60, 1, Slot::TWO | Slot::FIRST);
+    let mut after = Handset { next: 3, ..handset };
+    after.past.rotate_right(1);
+    let due =
+        Fed { refusal: 0, kind: 1, resource: 1121, b0: 1, b1: 0, second: 1122, handset: after };
+    assert_eq!(feed(handset, None), due);
+    let one_port = |handset: Handset| Handset { settings: settings.with_ports(1), ..handset };
+    let due = Fed { second: 0, handset: one_port(after), ..due };
+    assert_eq!(feed(one_port(handset), None), due);
+}
+
 /// Of a mode change the refusal and the handset come back, and all 16 bits of the new mode
 /// arrive.
 #[test]
@@ -251,32 +274,46 @@ fn every_field_of_a_mode_change_comes_back() {
     assert_eq!(change_mode(changed, 1), Changed { refusal: 0, handset });
 }
 
-/// A fresh handset in its 72 bytes: the settings, and in mode 1 thirteen bits of the modes.
+/// A fresh handset in its 74 bytes: the settings, and in mode 1 thirteen bits of the modes.
 #[test]
 fn every_byte_of_a_fresh_handset() {
-    for (mode, modes) in [(0, 0), (1, 0x1fff)] {
-        let made = make(Settings::plain(4, 100, 2000, mode, 2).with_scheduled(1999));
-        let numbers = [4, 100, 2000, mode, 2, 1999, 0, 7, 0, modes].map(u16::to_ne_bytes);
-        let mut bytes = [0; 72];
-        bytes[..20].copy_from_slice(numbers.as_flattened());
-        assert_eq!((made.refusal, made.handset.bytes()), (0, bytes), "mode {mode}");
+    for (mode, scheduled, ports, modes) in [(0, 1999, 1, 0), (1, 1999, 1, 0x1fff), (0, 65535, 2, 0)]
+    {
+        let settings = Settings::plain(4, 100, 2000, mode, 2).with_scheduled(scheduled);
+        let made = make(settings.with_ports(ports));
+        let numbers = [4, 100, 2000, mode, 2, scheduled, 0, 7, ports, 0, modes];
+        let mut bytes = [0; 74];
+        bytes[..22].copy_from_slice(numbers.map(u16::to_ne_bytes).as_flattened());
+        assert_eq!((made.refusal, made.handset.bytes()), (0, bytes), "mode {mode}, {ports} ports");
     }
-    let refused = make(Settings::plain(5, 100, 2000, 1, 2));
-    assert_eq!((refused.refusal, refused.handset.bytes()), (5, [0; 72]));
+    let multiplexing = Settings::plain(5, 100, 2000, 1, 2);
+    for (number, settings) in [(5, multiplexing), (24, Settings { config: 4, ..multiplexing })] {
+        let refused = make(settings.with_ports(2));
+        assert_eq!((refused.refusal, refused.handset.bytes()), (number, [0; 74]));
+    }
 }
 
-/// Settings fill the two registers in which they are passed. Of eight numbers no two
-/// are the same here, and each is where it was.
+/// Settings pass in memory. There are not enough small values for nine numbers that all
+/// differ; but of two settings no two numbers are the same in both, and each is where it was.
 #[test]
 fn every_number_of_the_settings_comes_back() {
-    let settings = Settings::plain(4, 100, 2000, 1, 2).with_scheduled(1999).with_special(0, 6);
-    let Settings { config, nrb, n1, mode, blocks, scheduled, prefix, special } = settings;
-    let mut numbers = [config, nrb, n1, mode, blocks, scheduled, prefix, special];
-    numbers.sort();
-    assert!(numbers.windows(2).all(|pair| pair[0] < pair[1]), "{numbers:?}");
-    let made = make(settings);
-    assert_eq!((made.refusal, made.handset), (0, Handset::fresh(settings)));
-    assert_eq!(feed(made.handset, None).handset.settings, settings);
+    let both = [
+        Settings::plain(4, 100, 2000, 1, 2).with_scheduled(1999).with_special(0, 6),
+        Settings::plain(3, 50, 300, 0, 1).with_special(1, 5).with_ports(2),
+    ];
+    let numbers = both.map(|settings| {
+        let Settings { config, nrb, n1, mode, blocks, scheduled, prefix, special, ports } =
+            settings;
+        [config, nrb, n1, mode, blocks, scheduled, prefix, special, ports]
+    });
+    let mut of_both: Vec<_> = numbers[0].into_iter().zip(numbers[1]).collect();
+    of_both.sort();
+    assert!(of_both.windows(2).all(|pair| pair[0] < pair[1]), "{of_both:?}");
+    for settings in both {
+        let made = make(settings);
+        assert_eq!((made.refusal, made.handset), (0, Handset::fresh(settings)));
+        assert_eq!(feed(made.handset, None).handset.settings, settings);
+    }
 }
 
 /// Each number of the settings reaches every call that takes them: out of its range
@@ -293,6 +330,7 @@ fn every_number_of_the_settings_arrives() {
         (17, Settings { scheduled: 2000, ..good }),
         (19, Settings { prefix: 2, ..good }),
         (19, Settings { special: 9, ..good }),
+        (24, Settings { ports: 3, ..good }),
     ];
     for (number, settings) in refused.into_iter().chain([(0, good)]) {
         let refusals = [
@@ -310,7 +348,8 @@ fn every_number_of_the_settings_arrives() {
 }
 
 /// Each of the other arguments on claims arrives in its place, and the index comes back
-/// whole: in configuration 5 with N_RB 6 there are 63 resources, and (8, 6) has the last.
+/// whole: in configuration 5 with N_RB 6 there are 63 resources, and (8, 6) has the last. A
+/// second port has one more.
 #[test]
 fn every_argument_on_claims_arrives() {
     let settings = Settings::plain(5, 6, 10, 0, 1);
@@ -339,5 +378,24 @@ fn every_argument_on_claims_arrives() {
             "{form}"
         );
         assert_eq!(form.claims(settings, 3, &list, &mut scratch).refusal, 7, "{form}");
+        let two_ports = settings.with_ports(2);
+        let (room, due) = match form {
+            Form::Bytes => (64, (1, 1, 7)),
+            Form::Bits => (8, (0b0000_0011, 0b1100_0000, 7)),
+        };
+        let mut scratch = vec![7; room + 1];
+        let refused = form.claims(two_ports, 2, &list, &mut scratch[..room]);
+        assert_eq!(refused, ClaimsAnswer { refusal: 16, kind: 0, index: 69_999 }, "{form}");
+        assert_eq!(
+            form.claims(two_ports, 2, &list[..2], &mut scratch[..room]),
+            ClaimsAnswer::CLEAN,
+            "{form}"
+        );
+        assert_eq!((scratch[0], scratch[room - 1], scratch[room]), due, "{form}");
+        assert_eq!(
+            form.claims(two_ports, 2, &list, &mut scratch[..room - 1]).refusal,
+            15,
+            "{form}"
+        );
     }
 }

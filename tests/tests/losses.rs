@@ -256,10 +256,11 @@ impl<'a> Run<'a> {
                 assert!(
                     problem.is_none(),
                     "{:?}, s {s}, n {n}, positions (k, sent) {positions:?}: the answer is kind {}, \
-                     resource {}, bits {} {}, its reading {:?}: {}",
+                     resource {}, second {}, bits {} {}, its reading {:?}: {}",
                     self.settings,
                     fed.kind,
                     fed.resource,
+                    fed.second,
                     fed.b0,
                     fed.b1,
                     reading(self.settings, n, NOT_TOLD, fed.resource, fed.b0, fed.b1),
@@ -306,6 +307,10 @@ impl<'a> Run<'a> {
         let due = resource(self.settings, window.n, position, grant.cce);
         if due.refusal != 0 || fed.resource != due.resource {
             return Some("the resource is that of the last heard grant");
+        }
+        let second = if self.settings.ports == 2 { fed.resource + 1 } else { 0 };
+        if (fed.second, due.second) != (second, second) {
+            return Some("a second port has the resource one above, and one port has no second");
         }
         let read = reading(self.settings, window.n, NOT_TOLD, fed.resource, fed.b0, fed.b1);
         if read != ReadingAnswer::bundled(position, grant.cce, fed.b0, fed.b1) {
@@ -355,6 +360,9 @@ impl<'a> Run<'a> {
         if due.refusal != 0 || fed.resource != due.resource || (fed.b0, fed.b1) != bits {
             return Some("the symbol of the state is sent");
         }
+        if fed.second != 0 {
+            return Some("one port has no second resource");
+        }
         let read = reading(self.settings, window.n, NOT_TOLD, fed.resource, fed.b0, fed.b1);
         let delivered = self.model.delivered(window.size(), symbol).expect("a state that sends it");
         if read != ReadingAnswer::multiplexed(symbol.index, grant.cce, delivered) {
@@ -371,15 +379,25 @@ impl<'a> Run<'a> {
     }
 }
 
-/// Runs of one configuration in both modes, if it has both, and all cells. Shows
-/// how many windows were checked.
+/// The mode and the number of ports of a cell: two ports are for bundling.
+const MODE_AND_PORTS: [(u16, u16); 3] = [(0, 1), (0, 2), (1, 1)];
+
+/// Runs of one configuration in both modes, if it has both, and with two ports, in all
+/// cells; of configuration 5, whose patterns are many, one cell has two ports. Shows how many
+/// windows were checked.
 fn hold(configs: &[u16], blocks: u16, patterns: Patterns) -> u64 {
     let model = Model::new();
     let (mut checked, mut refused, mut used) = (0, 0, 0);
     for config in configs {
-        for mode in 0..=u16::from(*config != 5) {
-            for (nrb, n1) in CELLS {
-                let settings = Settings::plain(*config, nrb, n1, mode, blocks);
+        for (mode, ports) in MODE_AND_PORTS {
+            let cells = match (config, mode, ports) {
+                (5, 1, _) => &[],
+                (5, _, 2) => &CELLS[1..2],
+                _ => &CELLS[..],
+            };
+            for (nrb, n1) in cells {
+                let settings = Settings::plain(*config, *nrb, *n1, mode, blocks);
+                let settings = settings.with_ports(ports);
                 let mut run = Run::new(&model, settings, patterns, used);
                 used += run.fill();
                 run.check();
@@ -401,7 +419,7 @@ fn every_pattern_of_one_block() {
     let frames = |longest: u32| 2 + 4u64.pow(longest);
     let windows = 4 * frames(1) + 4 * frames(2) + 2 * frames(4) + 3 * frames(3) + 2 * frames(4);
     let checked = hold(&[0, 1, 2, 3, 4, 6], 1, Patterns::Whole);
-    assert_eq!(checked, (windows + 5 * frames(1)) * 2 * 3);
+    assert_eq!(checked, (windows + 5 * frames(1)) * 3 * 3);
 }
 
 /// All configurations but 5, two blocks: 8^M patterns.
@@ -410,14 +428,14 @@ fn every_pattern_of_two_blocks() {
     let frames = |longest: u32| 2 + 8u64.pow(longest);
     let windows = 4 * frames(1) + 4 * frames(2) + 2 * frames(4) + 3 * frames(3) + 2 * frames(4);
     let checked = hold(&[0, 1, 2, 3, 4, 6], 2, Patterns::Whole);
-    assert_eq!(checked, (windows + 5 * frames(1)) * 2 * 3);
+    assert_eq!(checked, (windows + 5 * frames(1)) * 3 * 3);
 }
 
 /// Configuration 5, one block: 4^9 patterns of its window of nine.
 #[test]
 fn every_pattern_of_one_block_in_configuration_5() {
     let checked = hold(&[5], 1, Patterns::Whole);
-    assert_eq!(checked, (2 + 262_144) * 3);
+    assert_eq!(checked, (2 + 262_144) * (3 + 1));
 }
 
 /// Configuration 5, two blocks: 3^9 patterns of nothing, lost and heard, ten
@@ -425,5 +443,5 @@ fn every_pattern_of_one_block_in_configuration_5() {
 #[test]
 fn every_pattern_of_two_blocks_in_configuration_5() {
     let checked = hold(&[5], 2, Patterns::Thirds { times: 10 });
-    assert_eq!(checked, (2 + 10 * 19_683) * 3);
+    assert_eq!(checked, (2 + 10 * 19_683) * (3 + 1));
 }

@@ -1,4 +1,4 @@
-//! Every refusal number, 1 to 23, from every call that can give it. What is due
+//! Every refusal number, 1 to 24, from every call that can give it. What is due
 //! is written out by hand; the model has no part here.
 
 use feedback_tests::form::FORMS;
@@ -26,8 +26,11 @@ const RELEASE: Release = Release { cce: 0, dai: 1 };
 /// Prefix and special configuration of special subframes too short for data.
 const SHORT: [(u16, u16); 4] = [(0, 0), (0, 5), (1, 0), (1, 4)];
 
-/// Settings that meet the causes 1 to 6, 17 and 19, and no other.
-const REFUSED: [(u16, Settings); 21] = [
+/// The same cell with two ports.
+const TWO_PORTS: Settings = CELL.with_ports(2);
+
+/// Settings that meet the causes 1 to 6, 17, 19 and 24, and no other.
+const REFUSED: [(u16, Settings); 28] = [
     (1, Settings { config: 7, ..CELL }),
     (2, Settings { nrb: 5, ..CELL }),
     (2, Settings { nrb: 111, ..CELL }),
@@ -49,10 +52,17 @@ const REFUSED: [(u16, Settings); 21] = [
     (19, CELL.with_special(2, 0)),
     (19, CELL.with_special(256, 7)),
     (19, CELL.with_special(65535, 7)),
+    (24, CELL.with_ports(0)),
+    (24, CELL.with_ports(3)),
+    (24, CELL.with_ports(257)),
+    (24, CELL.with_ports(258)),
+    (24, CELL.with_ports(65535)),
+    (24, Settings { mode: 1, ..TWO_PORTS }),
+    (24, TWO_PORTS.with_scheduled(9)),
 ];
 
 /// Counts the refusals that came as they were due.
-struct Count([u64; 24]);
+struct Count([u64; 25]);
 
 impl Count {
     fn due<T: Debug + PartialEq>(&mut self, number: u16, given: T, due: T) {
@@ -170,7 +180,7 @@ impl Count {
 
 #[test]
 fn every_number_occurs() {
-    let mut count = Count([0; 24]);
+    let mut count = Count([0; 25]);
     let fresh = make(CELL).handset;
     assert_eq!(fresh, Handset::fresh(CELL));
 
@@ -242,6 +252,8 @@ fn every_number_occurs() {
 
     blocks_and_releases_fed(&mut count, fresh);
     mode_changes(&mut count, fresh);
+    two_ports(&mut count, fresh);
+    two_ports_of_a_state(&mut count, fresh);
     told_positions(&mut count);
     for (prefix, special) in SHORT {
         let settings = SCHEDULED.with_special(prefix, special);
@@ -285,41 +297,43 @@ fn every_number_occurs() {
     let at_records = |causes: u64| 3 * causes;
     // Seven feeds and a mode change.
     let bad_states = |states: u64| 8 * states;
-    let states = bad_states(21 + 9 * 7 + 4 + 3) + 1;
+    let states = bad_states(28 + 9 * 7 + 4 + 3) + 1;
     let remembering = bad_states(9 * 6 + 4 * 2 + 2) + 2;
     let shorts = 4;
+    let of_ports = bad_states(13) + 3 + 4 * 2;
     let counts = [
         0,
         of_settings(1) + on_traces(1),
         of_settings(2) + on_traces(2),
         of_settings(1) + on_traces(1),
-        of_settings(1) + on_traces(1) + 6 * 4,
-        of_settings(1) + on_traces(1) + 3,
+        of_settings(1) + on_traces(1) + 6 * 4 + 4,
+        of_settings(1) + on_traces(1) + 3 + 1,
         of_settings(3) + on_traces(2),
-        5 * 6 + 7 + 1 + shorts,
-        states + remembering + shorts * bad_states(3 * 2) + bad_states(13) + 2 * 13 + 3,
+        5 * 6 + 7 + 1 + shorts + 6,
+        states + remembering + shorts * bad_states(3 * 2) + bad_states(13) + 2 * 13 + 3 + of_ports,
         2 + 4 + shorts * 3 + at_records(3),
         2 + 3 + at_records(2),
-        3 + 2 + 5 + shorts * (2 + 2) + at_records(2),
+        3 + 2 + 5 + shorts * (2 + 2) + at_records(2) + 2,
         2 + 2 + shorts * 2 + at_records(2),
-        8 + 2,
-        7 + 3,
-        3 * 2,
-        3 * 2,
+        8 + 2 + 4,
+        7 + 3 + 2,
+        (3 + 2) * 2,
+        (3 + 3) * 2,
         of_settings(4) + on_traces(4),
-        3 + 4 + shorts * 2 + at_records(2),
+        3 + 4 + shorts * 2 + at_records(2) + 1,
         of_settings(8) + on_traces(4),
         shorts * (2 * 6 + 2 * 4) + at_records(shorts * 2),
         3 * 4,
         3 * 2 + 2,
         on_traces(2),
+        of_settings(7) + 4 + 13,
     ];
     assert_eq!(count.0, counts);
     assert!(count.0[1..].iter().all(|number| *number > 0));
 }
 
 /// What a replay refuses before any record, and the writing of a trace too. Of the
-/// settings above those count whose numbers fit in the bytes of a trace.
+/// settings above those count whose numbers fit in the bytes of a trace, which has no ports.
 fn replays(count: &mut Count) {
     let good = Trace::new(CELL, &[Slot::NOTHING; 4]).bytes();
     assert_eq!(replay(&good, &mut [5; 16]), ReplayAnswer::done(2));
@@ -344,7 +358,8 @@ fn replays(count: &mut Count) {
     count.trace_write(WriteAnswer::refused(22), &kind, 0);
     for (number, settings) in REFUSED {
         let Settings { mode, blocks, prefix, special, .. } = settings;
-        if [mode, blocks, prefix, special].into_iter().all(|number| number < 256) {
+        let fits = [mode, blocks, prefix, special].into_iter().all(|number| number < 256);
+        if fits && number != 24 {
             let trace = Trace::new(settings, &[Slot::NOTHING; 4]).bytes();
             count.replay(number, &trace, 0);
             count.trace_write(WriteAnswer::refused(number), &trace, 0);
@@ -483,6 +498,73 @@ fn mode_changes(count: &mut Count, fresh: Handset) {
     }
     for bit in 13..16 {
         let unused = Handset { modes: 1 << bit, ..five };
+        assert_eq!(change_mode(unused, 0), Changed::to(unused));
+        assert_eq!((feed_nothing(unused).refusal, feed_nothing(unused).handset.modes), (0, 0));
+    }
+}
+
+/// A cell that may have two ports: what is not of the window is refused as with one port,
+/// and the scratch has room for one resource more, the second of the last claim.
+fn two_ports(count: &mut Count, fresh: Handset) {
+    assert_eq!(make(TWO_PORTS), Made { refusal: 0, handset: with_ports(fresh, 2) });
+    assert_eq!(window(TWO_PORTS, 2), window(CELL, 2));
+    assert_eq!(answered(TWO_PORTS, 5), answered(CELL, 5));
+    assert_eq!(resource(TWO_PORTS, 2, 1, 60), ResourceAnswer::of_two(131, 132));
+    assert_eq!(inverse(TWO_PORTS, 2, 131), InverseAnswer::of(1, 60));
+    count.window(7, TWO_PORTS, 10);
+    count.resource(7, TWO_PORTS, 10, 2, 61);
+    count.inverse(7, TWO_PORTS, 10, 132);
+    count.reading(7, TWO_PORTS, 10, (132, 2, 2));
+    count.claims(7, TWO_PORTS, 10, &[65535], [0, 0]);
+    count.resource(11, TWO_PORTS, 2, 0, 61);
+    count.resource(11, TWO_PORTS, 2, 2, 60);
+    for resource in [9, 132] {
+        count.inverse(13, TWO_PORTS, 2, resource);
+        count.reading(13, TWO_PORTS, 2, (resource, 1, 0));
+    }
+    count.reading(14, TWO_PORTS, 2, (131, 2, 0));
+    count.reading(14, TWO_PORTS, 2, (131, 0, 1));
+
+    count.claims(15, TWO_PORTS, 2, &[], [122, 15]);
+    count.claims(15, TWO_PORTS, 2, &[0, 0, 65535], [122, 15]);
+    count.claims(16, TWO_PORTS, 2, &[61], [123, 16]);
+    count.claims(16, TWO_PORTS, 2, &[0, 512], [123, 16]);
+    count.claims(16, TWO_PORTS, 2, &[7, 8, 65535], [200, 25]);
+    count.feed_scheduled(18, with_ports(fresh, 2), BLOCK);
+}
+
+fn with_ports(handset: Handset, ports: u16) -> Handset {
+    Handset { settings: handset.settings.with_ports(ports), ..handset }
+}
+
+/// 24 is given for a change to multiplexing with two ports, after 4 and 5 and before 8. A
+/// state with two ports is bad in mode 1, with a scheduled resource, and where it remembers
+/// mode 1, at every age; the three bits above the 13 say nothing.
+fn two_ports_of_a_state(count: &mut Count, fresh: Handset) {
+    let good = with_ports(fresh, 2);
+    let five = Handset { settings: Settings { config: 5, ..TWO_PORTS }, ..good };
+    let scheduled = Handset { settings: TWO_PORTS.with_scheduled(9), ..good };
+    let bad = [Handset { next: 10, ..good }, good.in_mode(1), scheduled];
+    for handset in [good].into_iter().chain(bad) {
+        count.change_mode(4, handset, 2);
+        count.change_mode(24, handset, 1);
+    }
+    count.change_mode(5, five, 1);
+    for handset in bad {
+        count.change_mode(8, handset, 0);
+    }
+    for ports in [0, 3, 258, 65535] {
+        count.change_mode(8, with_ports(fresh, ports), 0);
+        count.change_mode(8, with_ports(fresh, ports), 1);
+    }
+    assert_eq!(change_mode(good, 0), Changed::to(good));
+    for bit in 0..13 {
+        let remembering = Handset { modes: 1 << bit, ..good };
+        count.bad_state(remembering);
+        count.change_mode(24, remembering, 1);
+    }
+    for bit in 13..16 {
+        let unused = Handset { modes: 1 << bit, ..good };
         assert_eq!(change_mode(unused, 0), Changed::to(unused));
         assert_eq!((feed_nothing(unused).refusal, feed_nothing(unused).handset.modes), (0, 0));
     }

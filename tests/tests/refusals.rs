@@ -722,7 +722,100 @@ fn told_short_special_with_all_arguments_together() {
     assert_eq!(comparison.refused(18), (2 * (9 * (2 + 1) - 4) + 9 * 5 - 4) * replies);
 }
 
-/// The order with 17 and 19 directly behind 6, 20 directly behind 9 and 18 directly
+/// The values tried of the ports.
+const PORTS: &[u16] = &[0, 1, 2, 3, 257, 258, 65535];
+
+/// The ports behind the special configuration, among the settings and the subframe.
+const PORTS_CALL: [&[u16]; 10] =
+    [CONFIG, NRB, N1, MODE, BLOCKS, SCHEDULED, PREFIX, SPECIAL, PORTS, N];
+
+/// Arguments that are not refused: with two ports, and with one in a cell that may not have
+/// two.
+const PORTS_STARTS: [[u16; 10]; 4] = [
+    [1, 50, 10, 0, 1, 65535, 0, 7, 2, 2],
+    [5, 110, 2047, 0, 2, 65535, 1, 4, 2, 2],
+    [0, 6, 1, 1, 1, 65535, 0, 5, 1, 9],
+    [3, 25, 100, 0, 2, 99, 1, 6, 1, 3],
+];
+
+/// Where the ports stand among the arguments.
+const PORTS_AT: usize = 8;
+
+fn compare_ports(comparison: &mut Comparison, arguments: [u16; 10]) {
+    let [config, nrb, n1, mode, blocks, scheduled, prefix, special, ports, n] = arguments;
+    let settings = Settings::plain(config, nrb, n1, mode, blocks).with_scheduled(scheduled);
+    compare_all(comparison, settings.with_special(prefix, special).with_ports(ports), n);
+}
+
+#[test]
+fn ports_with_arguments_changed() {
+    let model = Model::new();
+    let mut comparison = Comparison::with(&model);
+    for start in PORTS_STARTS {
+        alone_at(PORTS_AT, start, |arguments| compare_ports(&mut comparison, arguments));
+        in_pairs(start, PORTS_CALL, |arguments| compare_ports(&mut comparison, arguments));
+    }
+    let compared = 4 * (65536 + number_of_pairs(&PORTS_CALL)) * CALLS;
+    comparison.finish_with(compared, &[0, 1, 2, 3, 4, 5, 6, 7, 17, 19, 24], &[]);
+}
+
+#[test]
+fn ports_with_all_arguments_together() {
+    let model = Model::new();
+    let mut comparison = Comparison::with(&model);
+    let settings: [&[u16]; 5] = [&[1, 5, 7], &[50, 111], &[0, 10, 2048], &[0, 1, 2], &[1, 3]];
+    let [config, nrb, n1, mode, blocks] = settings;
+    let (scheduled, n): (&[u16], &[u16]) = (&[0, 9, 10, 65535], &[2, 3, 10]);
+    let (prefix, special): (&[u16], &[u16]) = (&[0, 1, 2], &[4, 7, 9]);
+    let call = [config, nrb, n1, mode, blocks, scheduled, prefix, special, PORTS, n];
+    all_together(call, |arguments| compare_ports(&mut comparison, arguments));
+    let refusals = [0, 1, 2, 3, 4, 5, 6, 7, 17, 19, 24];
+    comparison.finish_with(3 * 2 * 3 * 3 * 2 * 4 * 9 * 7 * 3 * CALLS, &refusals, &[]);
+    // Three pairs of configuration and mode pass. Of the scheduled resources three are not
+    // below N1 where that is 0, and one where it is 10; then one passes, that is none, and
+    // two others beside it. Of the nine pairs of prefix and special configuration three are
+    // there.
+    assert_eq!(comparison.refused(17), 3 * (3 + 1) * 9 * 7 * 3 * CALLS);
+    assert_eq!(comparison.refused(19), 3 * (1 + 3) * (9 - 3) * 7 * 3 * CALLS);
+    // Five of the numbers are no number of ports. Two ports are refused in mode 1, which is
+    // one of the three pairs, and with the two scheduled resources.
+    let two_refused = (1 + 3) + 2 * 2;
+    assert_eq!(comparison.refused(24), (3 * (1 + 3) * 5 + two_refused) * 3 * 3 * CALLS);
+}
+
+#[test]
+fn claims_with_ports() {
+    let model = Model::new();
+    let mut comparison = Comparison::with(&model);
+    let mut lent = Lent::new(3);
+    for (form, start) in claims_starts() {
+        let [config, nrb, n1, _, blocks, n, claim, room] = start;
+        for ports in PORTS.iter().copied() {
+            for (mode, scheduled, special, n) in
+                [(0, NONE, 7, n), (0, NONE, 7, 10), (1, NONE, 7, n), (0, NONE, 9, n), (0, 0, 7, n)]
+            {
+                let settings = Settings::plain(config, nrb, n1, mode, blocks).with_ports(ports);
+                let settings = settings.with_scheduled(scheduled).with_special(0, special);
+                let scratch = vec![7; room.into()];
+                comparison.claims(form, &mut lent, settings, n, &[5, claim, 5], &scratch);
+                let more = vec![7; usize::from(room) + 1];
+                comparison.claims(form, &mut lent, settings, n, &[5, claim, 5], &more);
+                comparison.claims(form, &mut lent, settings, n, &[65535], &[]);
+            }
+        }
+    }
+    // Each list is lent in two ways, and in two forms. Of the four cells the second has no
+    // multiplexing, and in the third N1 is 0, so that no resource is below it.
+    let (lists, bad) = (3 * 2 * 2, 5);
+    comparison.finish_with(4 * 7 * 5 * lists, &[0, 5, 7, 15, 17, 19, 24], &[0, 2]);
+    assert_eq!(comparison.refused(5), 7 * lists);
+    assert_eq!(comparison.refused(17), 7 * lists);
+    assert_eq!(comparison.refused(19), 4 * 7 * lists);
+    assert_eq!(comparison.refused(24), (4 * 2 * bad + 3 * (bad + 1) * 2) * lists);
+    assert_eq!(comparison.refused(7), 4 * (7 - bad) * lists);
+}
+
+/// The order with 17, 19 and 24 directly behind 6, 20 directly behind 9 and 18 directly
 /// behind 12, written out by hand: of a reading all causes are met, and one after another
 /// is put right. A position that is not below M has no subframe, so 20 and 11 are never
 /// met together.
@@ -755,9 +848,9 @@ fn later_numbers_in_their_place() {
         assert_eq!(read, ReadingAnswer::refused(20), "on {resource}");
     }
 
-    // 17 and 19 come before 7 in every call with a subframe, and end the list of make.
+    // 17, 19 and 24 come before 7 in every call with a subframe, and end the list of make.
     let [_, _, _, _, _, _, before_seven @ ..] = refused;
-    assert_eq!(before_seven.map(|(number, _)| number), [17, 19, 19, 19]);
+    assert_eq!(before_seven.map(|(number, _)| number), [17, 19, 19, 19, 24, 24]);
     for (number, settings) in before_seven {
         assert_eq!(window(settings, 10), WindowAnswer::refused(number));
         assert_eq!(answered(settings, 10), AnsweredAnswer::refused(number));

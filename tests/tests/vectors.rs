@@ -11,8 +11,8 @@ use feedback_tests::plain::{
 use feedback_tests::vectors::{cases, heard, step, Case};
 use feedback_tests::{
     change_mode, feed, inverse, make, reading, record, replay, resource, trace_write, window,
-    Changed, ClaimsAnswer, Fed, Handset, Heard, ReadingAnswer, RecordAnswer, ReplayAnswer,
-    Settings, Slot, Step, WriteAnswer, NOT_TOLD,
+    Changed, ClaimsAnswer, Fed, Handset, Heard, InverseAnswer, ReadingAnswer, RecordAnswer,
+    ReplayAnswer, ResourceAnswer, Settings, Slot, Step, WriteAnswer, NOT_TOLD,
 };
 use std::fmt::Debug;
 
@@ -52,7 +52,7 @@ impl Who<'_> {
     }
 
     /// A step of a run: the answer in numbers, and the handset afterwards.
-    fn step(&self, handset: Handset, step: Step) -> ([u16; 5], Handset) {
+    fn step(&self, handset: Handset, step: Step) -> ([u16; 6], Handset) {
         match step {
             Step::Feed(heard) => {
                 let fed = self.feed(handset, heard);
@@ -61,7 +61,7 @@ impl Who<'_> {
             Step::Change(mode) => {
                 let Changed { refusal, handset } = self.change_mode(handset, mode);
                 let kind = if refusal == 0 { MODE_CHANGED } else { 0 };
-                ([refusal, kind, 0, 0, 0], handset)
+                ([refusal, kind, 0, 0, 0, 0], handset)
             }
         }
     }
@@ -84,26 +84,20 @@ impl Who<'_> {
         (made.refusal, made.handset)
     }
 
-    fn resource_refusal(&self, settings: Settings, n: u16, position: u16, cce: u16) -> u16 {
-        let answer = match self {
+    fn resource(&self, settings: Settings, n: u16, position: u16, cce: u16) -> ResourceAnswer {
+        match self {
             Self::Engine => resource(settings, n, position, cce),
             Self::Model(model) => model.resource(settings, n, position, cce),
             Self::Plain => plain_resource(settings, n, position, cce),
-        };
-        answer.refusal
+        }
     }
 
-    fn inverse_refusal(&self, settings: Settings, n: u16, resource: u16) -> u16 {
-        let answer = match self {
+    fn inverse(&self, settings: Settings, n: u16, resource: u16) -> InverseAnswer {
+        match self {
             Self::Engine => inverse(settings, n, resource),
             Self::Model(model) => model.inverse(settings, n, resource),
             Self::Plain => plain_inverse(settings, n, resource),
-        };
-        answer.refusal
-    }
-
-    fn claims_refusal(&self, settings: Settings, n: u16, list: &[u16], room: u16) -> u16 {
-        self.claims(Form::Bytes, settings, n, list, &vec![7; room.into()]).0.refusal
+        }
     }
 
     /// The answer about claims, and the scratch afterwards.
@@ -200,10 +194,16 @@ impl Tally {
 /// The kind of the answer to a mode change, beside those of a feed.
 const MODE_CHANGED: u16 = 6;
 
-/// The answer of a feed from the files' five numbers: refusal, answer (0 silent, 1
-/// bundled, 2 multiplexed, 3 taken, 4 no window, 5 mode changed), resource and bits.
-fn fed_of(numbers: &[u16]) -> [u16; 5] {
-    let [refusal, answer, resource, b0, b1] = *numbers else { panic!("five numbers: {numbers:?}") };
+/// The answer of a feed from the files' numbers: refusal, answer (0 silent, 1 bundled, 2
+/// multiplexed, 3 taken, 4 no window, 5 mode changed), resource and bits. Before the bits
+/// stands the resource of the second port in the files that have one; in the others there is
+/// one port.
+fn fed_of(numbers: &[u16]) -> [u16; 6] {
+    let [refusal, answer, resource, second, b0, b1] = match *numbers {
+        [refusal, answer, resource, b0, b1] => [refusal, answer, resource, 0, b0, b1],
+        [refusal, answer, resource, second, b0, b1] => [refusal, answer, resource, second, b0, b1],
+        _ => panic!("five numbers or six: {numbers:?}"),
+    };
     let kind = match (refusal, answer) {
         (0, 0) => Fed::SILENT,
         (0, 1) => Fed::BUNDLED,
@@ -213,26 +213,43 @@ fn fed_of(numbers: &[u16]) -> [u16; 5] {
         (0, 5) => MODE_CHANGED,
         _ => 0,
     };
-    [refusal, kind, resource, b0, b1]
+    [refusal, kind, resource, second, b0, b1]
 }
 
-fn numbers_of(fed: Fed) -> [u16; 5] {
-    [fed.refusal, fed.kind, fed.resource, fed.b0, fed.b1]
+fn numbers_of(fed: Fed) -> [u16; 6] {
+    [fed.refusal, fed.kind, fed.resource, fed.second, fed.b0, fed.b1]
 }
 
-/// The refusals of every call that takes settings.
-fn settings_line(case: &Case, who: &Who) -> ([u16; 5], [u16; 5]) {
+/// The answer that a line with one feed or mode change has.
+fn fed_due(case: &Case) -> [u16; 6] {
+    let names: &[&str] = match case.has("second") {
+        true => &["refusal", "answer", "resource", "second", "b0", "b1"],
+        false => &["refusal", "answer", "resource", "b0", "b1"],
+    };
+    fed_of(&names.iter().map(|name| case.number(name)).collect::<Vec<_>>())
+}
+
+/// The refusals of every call that takes settings. The files have claims checked by bytes; by
+/// bits, in as much scratch, they are refused alike, but where it is too short for bytes.
+fn settings_line(case: &Case, who: &Who) -> ([u16; 6], [u16; 6]) {
     let (settings, n) = (case.settings(), case.number("n"));
     let reply = ["resource", "b0", "b1"].map(|name| case.number(name));
+    let [bytes, bits] = [Form::Bytes, Form::Bits].map(|form| {
+        let (list, room) = (case.numbers("claims"), case.number("scratch"));
+        who.claims(form, settings, n, &list, &vec![7; room.into()]).0.refusal
+    });
     let given = [
         who.make(settings).0,
-        who.resource_refusal(settings, n, case.number("m"), case.number("CCE")),
-        who.inverse_refusal(settings, n, case.number("resource")),
+        who.resource(settings, n, case.number("m"), case.number("CCE")).refusal,
+        who.inverse(settings, n, case.number("resource")).refusal,
         who.reading(settings, n, NOT_TOLD, reply).refusal,
-        who.claims_refusal(settings, n, &case.numbers("claims"), case.number("scratch")),
+        bytes,
+        bits,
     ];
     let calls = ["make", "resource_call", "inverse", "reading", "claims_call"];
-    (given, calls.map(|name| case.number(name)))
+    let [make, resource, inverse, reading, claims] = calls.map(|name| case.number(name));
+    let by_bits = if claims == 15 { bits } else { claims };
+    (given, [make, resource, inverse, reading, claims, by_bits])
 }
 
 /// One reading.
@@ -253,17 +270,16 @@ fn reading_line(case: &Case, who: &Who) -> (ReadingAnswer, ReadingAnswer) {
 }
 
 /// One feed to a lent handset. A refusal leaves it.
-fn state_line(case: &Case, who: &Who) -> Option<([u16; 5], [u16; 5])> {
+fn state_line(case: &Case, who: &Who) -> Option<([u16; 6], [u16; 6])> {
     let handset = case.handset()?;
     let fed = who.feed(handset, heard(&case.numbers("fed")));
-    let due = ["refusal", "answer", "resource", "b0", "b1"].map(|name| case.number(name));
     assert!(fed.refusal == 0 || fed.handset == handset, "{case}: {} writes", who.name());
-    Some((numbers_of(fed), fed_of(&due)))
+    Some((numbers_of(fed), fed_due(case)))
 }
 
 /// One feed or mode change on a lent handset, with the mode that stands in it afterwards.
 /// A refusal leaves it, and so does a change all but that mode.
-fn mode_state_line(case: &Case, who: &Who) -> Option<([u16; 6], [u16; 6])> {
+fn mode_state_line(case: &Case, who: &Who) -> Option<([u16; 7], [u16; 7])> {
     let handset = case.handset()?;
     let step = step(&case.numbers("step"));
     let (given, after) = who.step(handset, step);
@@ -273,14 +289,13 @@ fn mode_state_line(case: &Case, who: &Who) -> Option<([u16; 6], [u16; 6])> {
     } else if let Step::Change(mode) = step {
         assert_eq!(after, handset.in_mode(mode), "{case}: {} writes", who.name());
     }
-    let due = ["refusal", "answer", "resource", "b0", "b1"].map(|name| case.number(name));
-    Some((with(given, after.settings.mode), with(fed_of(&due), case.number("mode_after"))))
+    Some((with(given, after.settings.mode), with(fed_due(case), case.number("mode_after"))))
 }
 
 /// The numbers of an answer and a mode.
-fn with(answer: [u16; 5], mode: u16) -> [u16; 6] {
-    let [refusal, kind, resource, b0, b1] = answer;
-    [refusal, kind, resource, b0, b1, mode]
+fn with(answer: [u16; 6], mode: u16) -> [u16; 7] {
+    let [refusal, kind, resource, second, b0, b1] = answer;
+    [refusal, kind, resource, second, b0, b1, mode]
 }
 
 /// Stands in the files for no window.
@@ -297,18 +312,20 @@ fn window_mode(handset: Handset) -> u16 {
 }
 
 /// One step of a list: its number from 0, what it is, and the answer.
-type ModeStep = (usize, Step, [u16; 6]);
+type ModeStep = (usize, Step, [u16; 7]);
 
 /// A list of feeds and mode changes from a fresh handset, with the mode of each window
-/// that is answered. The first step that is answered otherwise than it should be is
-/// shown, or else the last.
-fn mode_run_line(case: &Case, who: &Who) -> (Option<ModeStep>, Option<ModeStep>) {
+/// that is answered; an answer has so many numbers, and that mode is the last. The first
+/// step that is answered otherwise than it should be is shown, or else the last.
+fn mode_run_line(case: &Case, who: &Who, numbers: usize) -> (Option<ModeStep>, Option<ModeStep>) {
     let (refusal, mut handset) = who.make(case.settings());
     assert_eq!(refusal, 0, "{case}: {} makes no handset", who.name());
     let (steps, answers) = (case.numbers("steps"), case.numbers("answers"));
-    assert_eq!(steps.len() / 7, answers.len() / 6, "{case}: an answer for each step");
+    let number = steps.len() / 7;
+    let whole = (steps.len(), answers.len()) == (7 * number, numbers * number);
+    assert!(whole, "{case}: an answer for each step");
     let mut last = (None, None);
-    for (at, (numbers, due)) in steps.chunks(7).zip(answers.chunks(6)).enumerate() {
+    for (at, (numbers, due)) in steps.chunks(7).zip(answers.chunks(numbers)).enumerate() {
         let step = step(numbers);
         let (given, after) = who.step(handset, step);
         assert!(given[0] == 0 || after == handset, "{case}: {} writes", who.name());
@@ -316,7 +333,8 @@ fn mode_run_line(case: &Case, who: &Who) -> (Option<ModeStep>, Option<ModeStep>)
             Step::Feed(_) if given[0] == 0 => window_mode(handset),
             _ => NO_WINDOW,
         };
-        let (given, due) = (with(given, mode), with(fed_of(&due[..5]), due[5]));
+        let (due_mode, due) = due.split_last().expect("an answer with a mode");
+        let (given, due) = (with(given, mode), with(fed_of(due), *due_mode));
         last = (Some((at, step, given)), Some((at, step, due)));
         if given != due {
             break;
@@ -327,7 +345,7 @@ fn mode_run_line(case: &Case, who: &Who) -> (Option<ModeStep>, Option<ModeStep>)
 }
 
 /// One feed of a list: its number from 0, what it brings, and the answer.
-type FedStep = (usize, Heard, [u16; 5]);
+type FedStep = (usize, Heard, [u16; 6]);
 
 /// A list of feeds from a fresh handset. Each gets the handset that the one before
 /// returned or left. The first feed that is answered otherwise than it should be is
@@ -399,21 +417,26 @@ fn writing_line(case: &Case, who: &Who) -> ((WriteAnswer, Vec<u8>), (WriteAnswer
     (given, (answer, case.bytes("output")))
 }
 
-/// The answer about claims that a line has: 0 clean, 1 a clash.
-fn claimed_of(case: &Case) -> ClaimsAnswer {
-    let index = usize::from(case.number("index"));
-    match (case.number("refusal"), case.number("answer")) {
+/// The answer about claims that a line has in the columns of these names: refusal, answer
+/// (0 clean, 1 a clash), index.
+fn claimed_of(case: &Case, names: [&str; 3]) -> ClaimsAnswer {
+    let [refusal, answer, index] = names.map(|name| case.number(name));
+    let index = usize::from(index);
+    match (refusal, answer) {
         (0, 0) => ClaimsAnswer { index: index as u64, ..ClaimsAnswer::CLEAN },
         (0, _) => ClaimsAnswer::clash(index),
         (refusal, _) => ClaimsAnswer::refused(refusal, index),
     }
 }
 
+/// The columns of the one answer of a line.
+const ANSWER: [&str; 3] = ["refusal", "answer", "index"];
+
 /// Claims checked by bits, in lent scratch.
 fn bits_line(case: &Case, who: &Who) -> ((ClaimsAnswer, Vec<u8>), (ClaimsAnswer, Vec<u8>)) {
     let (settings, n, list) = (case.settings(), case.number("n"), case.numbers("claims"));
     let given = who.claims(Form::Bits, settings, n, &list, &case.bytes("lent"));
-    (given, (claimed_of(case), case.bytes("scratch")))
+    (given, (claimed_of(case, ANSWER), case.bytes("scratch")))
 }
 
 /// The same checked by bytes answer the same. Eight for each byte of the line are enough
@@ -421,7 +444,45 @@ fn bits_line(case: &Case, who: &Who) -> ((ClaimsAnswer, Vec<u8>), (ClaimsAnswer,
 fn bits_line_by_bytes(case: &Case, who: &Who) -> (ClaimsAnswer, ClaimsAnswer) {
     let (settings, n, list) = (case.settings(), case.number("n"), case.numbers("claims"));
     let lent = vec![7; 8 * case.bytes("lent").len()];
-    (who.claims(Form::Bytes, settings, n, &list, &lent).0, claimed_of(case))
+    (who.claims(Form::Bytes, settings, n, &list, &lent).0, claimed_of(case, ANSWER))
+}
+
+/// By form the columns of the answer, of the scratch lent, and of the scratch afterwards.
+const BOTH_ANSWERS: [(Form, [&str; 3], &str, &str); 2] = [
+    (Form::Bytes, ["byte_refusal", "byte_answer", "byte_index"], "bytes_lent", "bytes"),
+    (Form::Bits, ["bit_refusal", "bit_answer", "bit_index"], "bits_lent", "bits"),
+];
+
+/// The answer about claims in each form, and the scratch afterwards.
+type InBothForms = [(ClaimsAnswer, Vec<u8>); 2];
+
+/// Claims checked in both forms, in lent scratch.
+fn both_forms_line(case: &Case, who: &Who) -> (InBothForms, InBothForms) {
+    let (settings, n, list) = (case.settings(), case.number("n"), case.numbers("claims"));
+    let given = BOTH_ANSWERS
+        .map(|(form, _, lent, _)| who.claims(form, settings, n, &list, &case.bytes(lent)));
+    let due = BOTH_ANSWERS.map(|(_, names, _, left)| (claimed_of(case, names), case.bytes(left)));
+    (given, due)
+}
+
+/// The resource call with both resources, and the inverse.
+fn resource_line(
+    case: &Case,
+    who: &Who,
+) -> ((ResourceAnswer, InverseAnswer), (ResourceAnswer, InverseAnswer)) {
+    let (settings, n) = (case.settings(), case.number("n"));
+    let due = ResourceAnswer {
+        refusal: case.number("refusal"),
+        resource: case.number("first"),
+        second: case.number("second"),
+    };
+    let inverse_due = InverseAnswer {
+        refusal: case.number("inverse_refusal"),
+        position: case.number("position"),
+        cce: case.number("inverse_CCE"),
+    };
+    let given = who.resource(settings, n, case.number("m"), case.number("CCE"));
+    ((given, who.inverse(settings, n, case.number("resource"))), (due, inverse_due))
 }
 
 /// Two accepted traces, and whether they are written as the same bytes.
@@ -593,6 +654,49 @@ fn u08_states() {
 #[test]
 fn u08_runs() {
     let text = include_str!("../data/u08-runs.csv");
-    let tally = Tally::of("u08-runs.csv", text, |case, who| Some(mode_run_line(case, who)));
+    let tally = Tally::of("u08-runs.csv", text, |case, who| Some(mode_run_line(case, who, 6)));
     tally.finish(176, 0);
+}
+
+#[test]
+fn u09_settings() {
+    let text = include_str!("../data/u09-settings.csv");
+    let tally = Tally::of("u09-settings.csv", text, |case, who| Some(settings_line(case, who)));
+    tally.finish(1421, 0);
+}
+
+#[test]
+fn u09_resource() {
+    let text = include_str!("../data/u09-resource.csv");
+    let tally = Tally::of("u09-resource.csv", text, |case, who| Some(resource_line(case, who)));
+    tally.finish(700, 0);
+}
+
+#[test]
+fn u09_claims() {
+    let text = include_str!("../data/u09-claims.csv");
+    let tally = Tally::of("u09-claims.csv", text, |case, who| Some(both_forms_line(case, who)));
+    tally.finish(1397, 0);
+}
+
+#[test]
+fn u09_reading() {
+    let text = include_str!("../data/u09-reading.csv");
+    let tally = Tally::of("u09-reading.csv", text, |case, who| Some(reading_line(case, who)));
+    tally.finish(972, 0);
+}
+
+/// Left out are the lines that remember a mode over 1, and those that remember a grant of no
+/// blocks.
+#[test]
+fn u09_states() {
+    let text = include_str!("../data/u09-states.csv");
+    Tally::of("u09-states.csv", text, mode_state_line).finish(995 - 120 - 72, 120 + 72);
+}
+
+#[test]
+fn u09_runs() {
+    let text = include_str!("../data/u09-runs.csv");
+    let tally = Tally::of("u09-runs.csv", text, |case, who| Some(mode_run_line(case, who, 7)));
+    tally.finish(63, 0);
 }

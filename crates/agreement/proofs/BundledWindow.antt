@@ -12,7 +12,7 @@ use lib.ListN.{getD}
 use borrow.Author.Tests.{eq-eqb, ne-eqb, le-ltb}
 use Rattle.frame.specs.declared.Settings.{Settings}
 use Rattle.frame.specs.Order.{member, positionOf, orderOf, timesOf}
-use Rattle.frame.specs.Settings.{bundles, windowRefusal}
+use Rattle.frame.specs.Settings.{hasScheduled, hasSecondPort, bundles, windowRefusal}
 use Rattle.frame.specs.Table.{windowOf}
 use Rattle.frame.proofs.Accepted.{Accepted}
 use Rattle.frame.proofs.Bools.{bit-small}
@@ -21,7 +21,9 @@ use Rattle.frame.proofs.Windows.{window-size, zero-windows}
 use Rattle.resource.specs.declared.Mapped.the-variants as mapped
 use Rattle.resource.specs.Calls.{sizeOf, resourceOf}
 use Rattle.resource.specs.Formula.{edge}
+use Rattle.resource.specs.Ports.{secondPort}
 use Rattle.resource.proofs.OneToOne.{calls-one-to-one}
+use Rattle.resource.proofs.SecondPort.{port-above, port-none, call-most}
 use Rattle.confirmation.specs.declared.Send.{Send}
 use Rattle.reply.specs.declared.Answer.the-variants as answer
 use Rattle.heard.specs.declared.Heard.{Heard}
@@ -41,7 +43,7 @@ use Rattle.station.specs.declared.Reading.the-variants as reading
 use Rattle.station.specs.Readings.{badBits, bundledReading, readAt}
 use Rattle.agreement.specs.Run.{RuleFrom, Brings}
 use Rattle.agreement.specs.Window.{Entry, at, isPdcch, anyOf, BlockAt, lostBefore, unheard, heardAt, asLast, lastHeard, decodedFirst, decodedSecond, EveryHeard, BundledReply, Bundled}
-use Rattle.agreement.proofs.Entries.{all-of, OfWindow, of-window, in-time, entry, seen-entries, ruled, brought, entries-length, last-of, some-last, none-last, block-at}
+use Rattle.agreement.proofs.Entries.{all-of, OfWindow, of-window, in-time, entry, seen-entries, ruled, brought, entries-length, last-of, some-last, none-last, block-at, some-of}
 use Rattle.agreement.proofs.Exactly.{sent-exactly}
 use Rattle.agreement.proofs.Folded.{foldIn, counted, block-seen, numbered, last-kept, all-decoded, few, some-counted, none-counted, none-lost, heardCount}
 
@@ -104,12 +106,13 @@ ReadsPdcch set n read =
     (m c r b0 b1 : ℕ) → resourceOf set n m c ≡ mapped.At (record { 0 = r })
     → read r b0 b1 ≡ readAt set (sizeOf set n) (place.Pdcch m (record { 0 = c })) b0 b1
 
--- On the configured resource it reads a scheduled block that was heard.
+-- On the configured resource it reads a scheduled block that was heard, which has its resource set.
 abbrev pub ReadsBlock : Settings → ℕ → (ℕ → Heard) → (ℕ → ℕ → ℕ → Reading) → Type 0
 ReadsBlock set n H read =
     (k : ℕ) → member k (windowOf (set .config) n) ≡ true → isBlock (H k) ≡ true
     → (m : ℕ) × (m < sizeOf set n) × (getD (windowOf (set .config) n) m 0 ≡ k)
     × ((b0 b1 : ℕ) → read (set .scheduled) b0 b1 ≡ readAt set (sizeOf set n) (place.Block m) b0 b1)
+    × (hasScheduled set ≡ true)
 
 module _ (set : Settings) (n : ℕ) (good : windowRefusal set n ≡ 0) (ok : Accepted set) (mode : bundles set (sizeOf set n) ≡ true)
     (S : ℕ → Send) (H : ℕ → Heard) (F : ℕ → View) (read : ℕ → ℕ → ℕ → Reading)
@@ -189,22 +192,22 @@ module _ (set : Settings) (n : ℕ) (good : windowRefusal set n ≡ 0) (ok : Acc
       go false t most = none-lost es t
 
   -- the answer to heard PDCCHs with a reply due
-  due : anyOf isPdcch es ≡ true → Fours (lostBefore es) → bundledAnswer set n seen ≡ replyOn 1 (resourceOf set n (seen .position) (seen .cce .0)) (bit (seen .first)) (secondBit set seen)
+  due : anyOf isPdcch es ≡ true → Fours (lostBefore es) → bundledAnswer set n seen ≡ replyOn set 1 (resourceOf set n (seen .position) (seen .cce .0)) (bit (seen .first)) (secondBit set seen)
   unfolding bundledAnswer missShown expected
   due some lost =
       let least : 1 ≤ heardCount es = some-counted es some in
       let match : seen .v ≡ (seen .u - 1) % 4 + 1 = v-is some ∙ rw u-is (fits (heardCount es) (lostBefore es) least lost) in
       rw (ne-eqb (seen .u) 0 (λ z. omega (arith, u-is)), eq-eqb (seen .v) ((seen .u - 1) % 4 + 1) match) (never (not (eqb (set .config) 0)))
     where
-      never : (b : Bool) → cond (b && false) answer.Silent (replyOn 1 (resourceOf set n (seen .position) (seen .cce .0)) (bit (seen .first)) (secondBit set seen))
-          ≡ replyOn 1 (resourceOf set n (seen .position) (seen .cce .0)) (bit (seen .first)) (secondBit set seen)
+      never : (b : Bool) → cond (b && false) answer.Silent (replyOn set 1 (resourceOf set n (seen .position) (seen .cce .0)) (bit (seen .first)) (secondBit set seen))
+          ≡ replyOn set 1 (resourceOf set n (seen .position) (seen .cce .0)) (bit (seen .first)) (secondBit set seen)
       never true = refl
       never false = refl
 
   -- the answer to a lone scheduled block
   lone : anyOf isPdcch es ≡ false → anyOf isBlock es ≡ true
       → bundledAnswer set n seen
-      ≡ answer.Sent (record { kind = 1; resource = record { 0 = set .scheduled }; b0 = bit (seen .first); b1 = secondBit set seen })
+      ≡ answer.Sent (record { kind = 1; resource = record { 0 = set .scheduled }; b0 = bit (seen .first); b1 = secondBit set seen; second = record { 0 = secondPort set (set .scheduled) } })
   unfolding bundledAnswer loneAnswer replyOn
   lone none some = rw (eq-eqb (seen .u) 0 (u-is ∙ none-counted es none), block-is ∙ some)
 
@@ -274,10 +277,19 @@ module _ (set : Settings) (n : ℕ) (good : windowRefusal set n ≡ 0) (ok : Acc
   unfolding es
   heard-block k h = let p = block-at S H (timesOf (windowOf (set .config) n)) k h in (in-time (set .config) n k (p .0), p .1)
 
+  -- a block that was heard has its resource set, and so the handset has one port
+  block-set : anyOf isBlock es ≡ true → hasScheduled set ≡ true
+  unfolding es
+  block-set e = let b = some-of S H isBlock (timesOf (windowOf (set .config) n)) e in reads-block (b .0) (in-time (set .config) n (b .0) (b .1)) (b .2) .4
+
+  two-ports : set .ports ≡ 2 → hasSecondPort set ≡ true
+  unfolding hasSecondPort
+  two-ports e = eq-eqb (set .ports) 2 e
+
   -- it goes on the resource of the last heard PDCCH
   goes-on : (m c r : ℕ) → seen .position ≡ m → seen .cce .0 ≡ c → resourceOf set n m c ≡ mapped.At (record { 0 = r })
-      → replyOn 1 (resourceOf set n (seen .position) (seen .cce .0)) (bit (seen .first)) (secondBit set seen)
-      ≡ answer.Sent (record { kind = 1; resource = record { 0 = r }; b0 = bit (seen .first); b1 = secondBit set seen })
+      → replyOn set 1 (resourceOf set n (seen .position) (seen .cce .0)) (bit (seen .first)) (secondBit set seen)
+      ≡ answer.Sent (record { kind = 1; resource = record { 0 = r }; b0 = bit (seen .first); b1 = secondBit set seen; second = record { 0 = secondPort set r } })
   unfolding replyOn
   goes-on m c r em ec there = rw (em, ec, there)
 
@@ -289,7 +301,7 @@ module _ (set : Settings) (n : ℕ) (good : windowRefusal set n ≡ 0) (ok : Acc
   -- the reply that is due, on a resource: what it says beside what it is read as
   module _ (r : ℕ) where
     sent : Reply
-    sent = record { kind = 1; resource = record { 0 = r }; b0 = bit (seen .first); b1 = secondBit set seen }
+    sent = record { kind = 1; resource = record { 0 = r }; b0 = bit (seen .first); b1 = secondBit set seen; second = record { 0 = secondPort set r } }
 
     abbrev Right : Type 0
     Right = BundledReply set (resourceOf set n) read (windowOf (set .config) n) es sent
@@ -302,9 +314,10 @@ module _ (set : Settings) (n : ℕ) (good : windowRefusal set n ≡ 0) (ok : Acc
         → (m : ℕ) × (m < sizeOf set n) × (getD (windowOf (set .config) n) m 0 ≡ k)
         × (r ≡ set .scheduled)
         × (read r (bit (seen .first)) (secondBit set seen) ≡ reading.Bundled (place.Block m) (bit (seen .first)) (secondBit set seen)))
+        → (set .ports ≡ 2 → secondPort set r ≡ r + 1)
         → Right
     unfolding sent
-    says isRead alone =
+    says isRead alone above =
         record {
           kind = refl;
           isRead = isRead;
@@ -315,6 +328,7 @@ module _ (set : Settings) (n : ℕ) (good : windowRefusal set n ≡ 0) (ok : Acc
             λ h. second-bit two ∙ bit-true (seen .second) .1 (second-all .1 h),
           );
           bits = (bit-small (seen .first), second-small set seen, one-bit);
+          ports = (above, port-none set r);
         }
 
   -- the reply to heard PDCCHs
@@ -338,7 +352,8 @@ module _ (set : Settings) (n : ℕ) (good : windowRefusal set n ≡ 0) (ok : Acc
               reads-pdcch m (l .1) (p .0) (bit (seen .first)) (secondBit set seen) (p .3 .there) ∙ reads (place.Pdcch m (record { 0 = l .1 }))
                   ∙ ap (λ (x : ℕ). reading.Bundled (place.Pdcch m (record { 0 = x })) (bit (seen .first)) (secondBit set seen)) (q .1),
             ))
-            (λ k none h. absurd (false≢true (sym none ∙ some))),
+            (λ k none h. absurd (false≢true (sym none ∙ some)))
+            (λ two. port-above set (p .0) two (omega (arith, call-most set n m (l .1) (p .0) (p .3 .there)))),
       )
 
   -- and to a lone scheduled block
@@ -353,7 +368,8 @@ module _ (set : Settings) (n : ℕ) (good : windowRefusal set n ≡ 0) (ok : Acc
         (λ k none′ h.
         let w = heard-block k h in
         let b = reads-block k (w .0) (w .1) in
-        (b .0, b .1, b .2, refl, b .3 (bit (seen .first)) (secondBit set seen) ∙ reads (place.Block (b .0)))),
+        (b .0, b .1, b .2, refl, b .3 (bit (seen .first)) (secondBit set seen) ∙ reads (place.Block (b .0))))
+        (λ two. absurd (false≢true (sym (ok .twoPorts (two-ports two) .1) ∙ block-set some))),
   )
 
   pub bundled-window : Bundled set (resourceOf set n) read (windowOf (set .config) n) (map (entry S H) (timesOf (windowOf (set .config) n))) (bundledAnswer set n (seenOf F (windowOf (set .config) n)))

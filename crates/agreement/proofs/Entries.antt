@@ -190,6 +190,16 @@ module _ (S : ℕ → Send) (H : ℕ → Heard) where
         go false h true q rest e m = rw (← eqb-true j k q) h
         go false h false q rest e m = rest e k m
 
+    -- One that did is one of the window.
+    pub some-of : (ts : List ℕ) → anyOf test (map entry ts) ≡ true → (k : ℕ) × (member k ts ≡ true) × (test (H k) ≡ true)
+    some-of [] e = absurd (false≢true e)
+    some-of (j ∷ ts) e = go (test (H j)) refl (some-of ts) e
+      where
+        go : (t : Bool) → test (H j) ≡ t → (anyOf test (map entry ts) ≡ true → (k : ℕ) × (member k ts ≡ true) × (test (H k) ≡ true))
+            → (t || anyOf test (map entry ts)) ≡ true → (k : ℕ) × (member k (j ∷ ts) ≡ true) × (test (H k) ≡ true)
+        go true h rest e = (j, head-member j ts, h)
+        go false h rest e = let r = rest e in (r .0, tail-member (r .0) j ts (r .1), r .2)
+
     pub all-none : (ts : List ℕ) → AllOf (λ (k : ℕ). test (H k) ≡ false) ts → anyOf test (map entry ts) ≡ false
     all-none [] h = refl
     all-none (k ∷ ts) h = rw (h .0) (all-none ts (h .1))

@@ -14,7 +14,7 @@ use Rattle.frame.specs.declared.Settings.{Settings}
 use Rattle.frame.specs.Distance.{before, subframeOf}
 use Rattle.frame.specs.Earliest.{earliestK}
 use Rattle.frame.specs.Layout.{downlink}
-use Rattle.frame.specs.Settings.{modeRefusal, hasScheduled, bundles, settingsRefusal, inMode}
+use Rattle.frame.specs.Settings.{newModeRefusal, hasScheduled, bundles, settingsRefusal, inMode}
 use Rattle.frame.specs.Special.{tooShort}
 use Rattle.frame.specs.Table.{windowOf}
 use Rattle.frame.proofs.Accepted.{Accepted, accepted, accepted-in}
@@ -84,8 +84,8 @@ pub record FeedHolds (set : Settings) (sent : ℕ → Send) (heard : List Heard)
 
 -- What it says of a change of the handset h to mode m.
 pub record ChangeHolds (set : Settings) (h : Handset) (m : ℕ) : Type 0 where
-  pub changedExactly : changeOf h m .refusal ≡ modeRefusal (inMode set m)
-  pub changeLeaves : (modeRefusal (inMode set m) ≡ 0 → ⊥) → changeOf h m .handset ≡ h
+  pub changedExactly : changeOf h m .refusal ≡ newModeRefusal (inMode set m)
+  pub changeLeaves : (newModeRefusal (inMode set m) ≡ 0 → ⊥) → changeOf h m .handset ≡ h
 
 -- The run's list has the history, newest first, at its subframes; before the start it has `none`.
 abbrev pub Past : {A : Type 0} → A → List A → List A → Type 0
@@ -221,6 +221,7 @@ module _ (set : Settings) (good : settingsRefusal set ≡ 0) (sent : ℕ → Sen
         p .0,
         same,
         λ b0 b1. rw (t .1) (read-block set n (t .0) (window-accepted set n good some) (told-at (t .0) (t .1)) b0 b1),
+        ago-sound k was .0,
       )
 
   bundled-mode : (set .mode ≡ 0) ⊎ (length (windowOf (set .config) n) ≡ 1) → bundles set (length (windowOf (set .config) n)) ≡ true
@@ -343,5 +344,5 @@ module _ (set : Settings) (good : settingsRefusal set ≡ 0) (sent : ℕ → Sen
         changedExactly = ap (λ (c : Changed). c .refusal) is;
         changeLeaves = λ refused.
             ap (λ (c : Changed). c .handset) is
-            ∙ ap (λ (b : Bool). after set (cond b new m) ms l) (ne-eqb (modeRefusal (inMode set new)) 0 refused);
+            ∙ ap (λ (b : Bool). after set (cond b new m) ms l) (ne-eqb (newModeRefusal (inMode set new)) 0 refused);
       }

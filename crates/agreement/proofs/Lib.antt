@@ -11,6 +11,7 @@ pub mod Memory
 pub mod Modes
 pub mod MultiplexedWindow
 pub mod SameModes
+pub mod SamePorts
 pub mod SameWindows
 pub mod Second
 pub mod SentPositions

@@ -12,7 +12,7 @@ use lib.Dec.{eqb, leb, eqb·suc-zero}
 use lib.ListN.{length, getD}
 use borrow.Author.Tests.{le-leb, eqb-true, eqb-false}
 use Rattle.frame.specs.declared.Settings.{Settings}
-use Rattle.frame.specs.Settings.{orElse, modeRefusal, settingsRefusal, inMode}
+use Rattle.frame.specs.Settings.{orElse, newModeRefusal, settingsRefusal, inMode}
 use Rattle.frame.proofs.Accepted.{Accepted, accepted, accepted-in}
 use Rattle.heard.specs.declared.Heard.{Heard}
 use Rattle.heard.specs.declared.Heard.the-variants.{Nothing, Granted, Scheduled, Released}
@@ -268,11 +268,11 @@ module _ (set : Settings) (good : settingsRefusal set ≡ 0) (m : ℕ) (ms : Lis
         go zero e = absurd (h e)
         go (suc k) e = refl
 
-  -- A change is refused by 4 and 5 alone; else the new mode stands, and nothing else moves.
+  -- A change is refused by 4, 5 and 24 alone; else the new mode stands, and nothing else moves.
   pub changed-after : (new : ℕ) → changeOf (after set m ms l) new
-      ≡ record { refusal = modeRefusal (inMode set new); handset = after set (standing set m new) ms l }
+      ≡ record { refusal = newModeRefusal (inMode set new); handset = after set (standing set m new) ms l }
   unfolding changeOf changeRefusal
-  changed-after new = rw sound-after (go (modeRefusal (inMode set new)))
+  changed-after new = rw sound-after (go (newModeRefusal (inMode set new)))
     where
       go : (k : ℕ) → changedAs (orElse k 0) (after set m ms l) new ≡ record { refusal = k; handset = after set (cond (eqb k 0) new m) ms l }
       go zero = refl

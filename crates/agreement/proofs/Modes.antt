@@ -1,4 +1,4 @@
--- The modes of a run: those that the handset remembers are those that stood, and each is one that 4 and 5 allow.
+-- The modes of a run: those that the handset remembers are those that stood, and each is one that 4, 5 and 24 allow.
 -- Assumes nothing.
 use Prim.Native.Nat.{ℕ, zero, suc, _-_, _%_, _≤_}
 use mathlib.Core.Bool.{Bool, true, false, cond}
@@ -12,7 +12,7 @@ use borrow.Author.Tests.{eqb-true}
 use Rattle.frame.specs.declared.Settings.{Settings}
 use Rattle.frame.specs.Earliest.{earliestK}
 use Rattle.frame.specs.Order.{timesOf}
-use Rattle.frame.specs.Settings.{modeRefusal, hasScheduled, settingsRefusal, inMode}
+use Rattle.frame.specs.Settings.{newModeRefusal, hasScheduled, settingsRefusal, inMode}
 use Rattle.frame.specs.Special.{tooShort}
 use Rattle.frame.specs.Table.{table, windowOf}
 use Rattle.frame.proofs.Accepted.{mode-allowed, accepted-in, allowed-most}
@@ -52,10 +52,10 @@ pub earliest-largest : (c n : ℕ) → earliestK c n ≡ largest (windowOf c n)
 unfolding earliestK timesOf
 earliest-largest c n = eqb→eq _ _ (window-passes _ largest-tested c n tt)
 
--- 4 and 5 allow every mode of a list.
+-- 4, 5 and 24 allow every mode of a list.
 abbrev pub Allowed : Settings → List ℕ → Type 0
 Allowed set [] = Unit {0}
-Allowed set (m ∷ ms) = (modeRefusal (inMode set m) ≡ 0) × Allowed set ms
+Allowed set (m ∷ ms) = (newModeRefusal (inMode set m) ≡ 0) × Allowed set ms
 
 -- The modes that a handset made in mode `made` remembers after feeds in the modes of the list, newest first.
 abbrev pub modesAfter : ℕ → List ℕ → ℕ
@@ -63,10 +63,10 @@ modesAfter made [] = modesBefore made
 modesAfter made (m ∷ ms) = modesPushed (modesAfter made ms) m
 
 module _ (set : Settings) (good : settingsRefusal set ≡ 0) where
-  pub made-allowed : modeRefusal (inMode set (set .mode)) ≡ 0
+  pub made-allowed : newModeRefusal (inMode set (set .mode)) ≡ 0
   made-allowed = mode-allowed set good
 
-  pub allowed-at : (ms : List ℕ) → Allowed set ms → (i : ℕ) → modeRefusal (inMode set (getD ms i (set .mode))) ≡ 0
+  pub allowed-at : (ms : List ℕ) → Allowed set ms → (i : ℕ) → newModeRefusal (inMode set (getD ms i (set .mode))) ≡ 0
   allowed-at [] a i = made-allowed
   allowed-at (m ∷ ms) a zero = a .0
   allowed-at (m ∷ ms) a (suc i) = allowed-at ms (a .1) i
@@ -91,24 +91,24 @@ module _ (set : Settings) (good : settingsRefusal set ≡ 0) where
       (λ k least most. rw (modes-at ms a k least most) (allowed-at ms a (k - 1)))
 
   -- The mode that stands is allowed wherever a run comes to, and so is the mode of each window.
-  pub standing-allowed : (mode m : ℕ) → modeRefusal (inMode set mode) ≡ 0 → modeRefusal (inMode set (standing set mode m)) ≡ 0
-  standing-allowed mode m allowed = go (eqb (modeRefusal (inMode set m)) 0) refl
+  pub standing-allowed : (mode m : ℕ) → newModeRefusal (inMode set mode) ≡ 0 → newModeRefusal (inMode set (standing set mode m)) ≡ 0
+  standing-allowed mode m allowed = go (eqb (newModeRefusal (inMode set m)) 0) refl
     where
-      go : (b : Bool) → eqb (modeRefusal (inMode set m)) 0 ≡ b → modeRefusal (inMode set (cond b m mode)) ≡ 0
-      go true e = eqb-true (modeRefusal (inMode set m)) 0 e
+      go : (b : Bool) → eqb (newModeRefusal (inMode set m)) 0 ≡ b → newModeRefusal (inMode set (cond b m mode)) ≡ 0
+      go true e = eqb-true (newModeRefusal (inMode set m)) 0 e
       go false e = allowed
 
-  from-allowed : (items : List Item) (past : List Heard) (mode : ℕ) → modeRefusal (inMode set mode) ≡ 0 → Allowed set (modesFrom set past mode items)
+  from-allowed : (items : List Item) (past : List Heard) (mode : ℕ) → newModeRefusal (inMode set mode) ≡ 0 → Allowed set (modesFrom set past mode items)
   from-allowed [] past mode allowed = tt
   from-allowed (feed x ∷ items) past mode allowed =
       either (Allowed set) (eqb (causeAfter set past x) 0) (mode ∷ modesFrom set (x ∷ past) mode items) (modesFrom set past mode items)
       (allowed, from-allowed items (x ∷ past) mode allowed) (from-allowed items past mode allowed)
   from-allowed (change m ∷ items) past mode allowed = from-allowed items past (standing set mode m) (standing-allowed mode m allowed)
 
-  pub window-allowed : (items : List Item) (s : ℕ) → modeRefusal (inMode set (windowMode set items s)) ≡ 0
+  pub window-allowed : (items : List Item) (s : ℕ) → newModeRefusal (inMode set (windowMode set items s)) ≡ 0
   window-allowed items s =
       let k : ℕ = largest (windowAt set s) in
-      either (λ (m : ℕ). modeRefusal (inMode set m) ≡ 0) (leb k s) (getD (modesInRun set items) (s - k) (set .mode)) (set .mode)
+      either (λ (m : ℕ). newModeRefusal (inMode set m) ≡ 0) (leb k s) (getD (modesInRun set items) (s - k) (set .mode)) (set .mode)
       (allowed-at (modesInRun set items) (from-allowed items [] (set .mode) made-allowed) (s - k)) made-allowed
 
   pub window-good : (items : List Item) (s : ℕ) → settingsRefusal (settingsIn set items s) ≡ 0

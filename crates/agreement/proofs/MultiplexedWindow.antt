@@ -6,18 +6,24 @@ use mathlib.Core.List.{List, [], _∷_, map}
 use mathlib.Core.Logic.{_⊎_, inl, inr, _↔_}
 use mathlib.Core.Path.{_≡_, refl, sym, ap, _∙_}
 use native.Mathlib.Omega.{arith}
+use lib.Dec.{eqb}
 use lib.ListN.{length, getD, length-map}
+use borrow.Author.Tests.{eqb-false}
 use Rattle.frame.specs.declared.Settings.{Settings}
 use Rattle.frame.specs.Order.{timesOf}
-use Rattle.frame.specs.Settings.{bundles, windowRefusal}
+use Rattle.frame.specs.Settings.{hasSecondPort, bundles, windowRefusal}
 use Rattle.frame.specs.Table.{windowOf}
+use Rattle.frame.proofs.Accepted.{answered as accepted-window}
+use Rattle.frame.proofs.Bools.{neither-test, never-true}
 use Rattle.frame.proofs.Lists as lists
 use Rattle.frame.proofs.Windows.{window-k}
 use Rattle.resource.specs.declared.Mapped.{Mapped}
 use Rattle.resource.specs.declared.Mapped.the-variants as mapped
 use Rattle.resource.specs.Calls.{sizeOf, resourceOf}
 use Rattle.resource.specs.Formula.{edge}
+use Rattle.resource.specs.Ports.{secondPort}
 use Rattle.resource.proofs.OneToOne.{calls-one-to-one}
+use Rattle.resource.proofs.SecondPort.{one-port}
 use Rattle.symbols.specs.declared.State.{State}
 use Rattle.symbols.specs.declared.State.the-variants.{Ack, Nack, Dtx}
 use Rattle.symbols.specs.declared.Symbol.{Symbol}
@@ -185,7 +191,7 @@ module _ (set : Settings) (n : ℕ) (good : windowRefusal set n ≡ 0) (mode : b
   goes-on : (i b0 b1 r : ℕ) (x : Heard) → F (getD (windowOf (set .config) n) i 0) ≡ viewOf x
       → carrierOf set n i (viewOf x) ≡ mapped.At (record { 0 = r })
       → symbolAnswer set n F (windowOf (set .config) n) (symbol.Sent i b0 b1)
-      ≡ answer.Sent (record { kind = 2; resource = record { 0 = r }; b0 = b0; b1 = b1 })
+      ≡ answer.Sent (record { kind = 2; resource = record { 0 = r }; b0 = b0; b1 = b1; second = record { 0 = secondPort set r } })
   unfolding symbolAnswer replyOn
   goes-on i b0 b1 r x seen there = rw (seen, there)
 
@@ -203,6 +209,14 @@ module _ (set : Settings) (n : ℕ) (good : windowRefusal set n ≡ 0) (mode : b
   unfolding deliveredSet
   within i b0 b1 = set-below (sizeOf set n) (deliveredAt (sizeOf set n) i b0 b1)
 
+  -- mode 1 leaves one port
+  no-second : hasSecondPort set ≡ false
+  unfolding bundles
+  no-second =
+      let ok = accepted-window set n good .0 in
+      let other = eqb-false (set .mode) 0 (neither-test (eqb (set .mode) 0) (eqb (sizeOf set n) 1) mode .0) in
+      never-true (hasSecondPort set) (λ two. ok .twoPorts two .0 (omega (arith, other, ok .mode)))
+
   -- the reply of a symbol
   sent : (i b0 b1 : ℕ) → symbolOf states ≡ symbol.Sent i b0 b1
       → (r : Reply) × (symbolAnswer set n F (windowOf (set .config) n) (symbol.Sent i b0 b1) ≡ answer.Sent r)
@@ -214,7 +228,7 @@ module _ (set : Settings) (n : ℕ) (good : windowRefusal set n ≡ 0) (mode : b
       let b = window-k (set .config) n i inside in
       let heard : isHeard (H k) ≡ true = was-heard (isHeard (H k)) refl (λ u. h .1 (state-at i inside ∙ unheard-dtx (H k) u)) in
       let c : Carried i (H k) = carried i inside (H k) refl heard in (
-        record { kind = 2; resource = record { 0 = c .resource }; b0 = b0; b1 = b1 },
+        record { kind = 2; resource = record { 0 = c .resource }; b0 = b0; b1 = b1; second = record { 0 = secondPort set (c .resource) } },
         goes-on i b0 b1 (c .resource) (H k) (view k (omega arith) (omega arith)) (c .seenOn),
         record {
           kind = refl;
@@ -227,6 +241,7 @@ module _ (set : Settings) (n : ℕ) (good : windowRefusal set n ≡ 0) (mode : b
           isRead = c .isRead b0 b1 ∙ read-symbol set (sizeOf set n) (c .named) states i b0 b1 (c .position) mode states-size e;
           exactly = exact i b0 b1;
           noOther = within i b0 b1;
+          onePort = one-port set (c .resource) no-second;
         },
       )
     where

@@ -5,19 +5,22 @@ use Prim.Native.Nat.{ℕ, zero, suc, _%_}
 use mathlib.Core.Bool.{Bool, true, false, and-false}
 use mathlib.Core.List.{List, [], _∷_}
 use mathlib.Core.Logic.{_↔_}
-use mathlib.Core.Path.{_≡_, refl, sym, _∙_}
+use mathlib.Core.Path.{_≡_, refl, sym, _∙_, fun-ext}
 use lib.ListN.{getD}
 use Rattle.frame.specs.declared.Settings.{Settings}
 use Rattle.frame.specs.Distance.{subframeOf, answeredRefusal, answeredOf}
 use Rattle.frame.specs.Layout.{isSpecial}
 use Rattle.frame.specs.Earliest.{earliestK}
-use Rattle.frame.specs.Settings.{modeRefusal, bundles, hasScheduled, settingsRefusal, inMode, windowRefusal}
+use Rattle.frame.specs.Settings.{newModeRefusal, modeRefusal, hasSecondPort, portsModeRefusal, bundles, hasScheduled, settingsRefusal, inMode, windowRefusal}
 use Rattle.frame.specs.Special.{noPdsch, tooShort}
 use Rattle.frame.specs.Table.{windowOf}
 use Rattle.frame.proofs.Accepted.{refused-in}
 use Rattle.resource.specs.declared.Inverted.{Inverted}
 use Rattle.resource.specs.declared.Inverted.the-variants as inverted
+use Rattle.resource.specs.declared.Mapped.{Mapped}
+use Rattle.resource.specs.declared.Mapped.the-variants as mapped
 use Rattle.resource.specs.Calls.{sizeOf, resourceOf, inverseOf}
+use Rattle.resource.specs.Ports.{secondPort, onPorts, portsOf}
 use Rattle.symbols.specs.declared.Symbol.{Symbol}
 use Rattle.symbols.specs.declared.Symbol.the-variants as symbol
 use Rattle.symbols.specs.Selection.{symbolOf}
@@ -30,7 +33,7 @@ use Rattle.heard.specs.declared.View.the-variants.{Unheard, Pdcch, Block}
 use Rattle.heard.specs.Heard.{isData, uplinkRefusal, shortRefusal, dataRefusal, carriedRefusal, pdcchRefusal, unsetRefusal, heardRefusal, secondRefusal, causeOf}
 use Rattle.heard.specs.Memory.{heardIn, viewAgo, blockAgo}
 use Rattle.heard.proofs.Valid.{valid-long}
-use Rattle.reply.specs.Replies.{missShown, secondBit, loneAnswer, bundledAnswer, carrierOf, windowState, symbolAnswer, multiplexedAnswer, windowAnswer}
+use Rattle.reply.specs.Replies.{replyOn, missShown, secondBit, loneAnswer, bundledAnswer, carrierOf, windowState, symbolAnswer, multiplexedAnswer, windowAnswer}
 use Rattle.handset.specs.declared.Handset.{Handset}
 use Rattle.handset.specs.Feed.{answerOf, windowSettings, nextAnswer, feedRefusal, fedAs, feedOf}
 use Rattle.handset.specs.Modes.{modeAgo, modesSound}
@@ -50,6 +53,7 @@ pub record SameButSpecial (s t : Settings) : Type 0 where
   pub mode : s .mode ≡ t .mode
   pub blocks : s .blocks ≡ t .blocks
   pub scheduled : s .scheduled ≡ t .scheduled
+  pub ports : s .ports ≡ t .ports
 
 -- They have the same windows, with the same refusals, and the same uplink subframe answers for a downlink one; the same resources,
 -- inverses, readings with nothing told or with a position that is no special subframe, and answers of a window, whatever was heard in
@@ -59,6 +63,7 @@ pub record SameWindows (s t : Settings) : Type 0 where
   pub refused : (n : ℕ) → windowRefusal s n ≡ windowRefusal t n
   pub answered : (d : ℕ) → answeredOf s d ≡ answeredOf t d
   pub resource : (n m c : ℕ) → resourceOf s n m c ≡ resourceOf t n m c
+  pub ports : (n m c : ℕ) → portsOf s n m c ≡ portsOf t n m c
   pub inverse : (n r : ℕ) → inverseOf s n r ≡ inverseOf t n r
   pub read : (n r b0 b1 : ℕ) → readOf s n NotTold r b0 b1 ≡ readOf t n NotTold r b0 b1
   pub readTold : (n m : ℕ) → isSpecial (s .config) (subframeOf (s .config) n m) ≡ false
@@ -76,10 +81,10 @@ pub record SameAnswers (s t : Settings) : Type 0 where
 -- These settings with another prefix and special configuration.
 abbrev with : Settings → ℕ → ℕ → Settings
 with s prefix special =
-    record { config = s .config; nrb = s .nrb; n1 = s .n1; mode = s .mode; blocks = s .blocks; scheduled = s .scheduled; prefix = prefix; special = special }
+    record { config = s .config; nrb = s .nrb; n1 = s .n1; mode = s .mode; blocks = s .blocks; scheduled = s .scheduled; prefix = prefix; special = special; ports = s .ports }
 
 is-with : (s t : Settings) → SameButSpecial s t → t ≡ with s (t .prefix) (t .special)
-is-with s t e = rw (e .config, e .nrb, e .n1, e .mode, e .blocks, e .scheduled)
+is-with s t e = rw (e .config, e .nrb, e .n1, e .mode, e .blocks, e .scheduled, e .ports)
 
 -- What a subframe brings is refused alike in both where it is not data, and where the subframe is too short in neither or in both.
 heard-alike : (s : Settings) (prefix special n : ℕ) (x : Heard) → (isData x ≡ true → tooShort s n ≡ tooShort (with s prefix special) n)
@@ -151,16 +156,37 @@ module _ (s : Settings) (prefix special : ℕ) (same : settingsRefusal s ≡ set
   carrier-alike n m (Pdcch g) = resource-alike n m (g .cce .0)
   carrier-alike n m (Block b) = refl
 
+  -- A reply has the second port's resource alike: it looks at the ports alone.
+  second-alike : (r : ℕ) → secondPort s r ≡ secondPort t r
+  unfolding secondPort hasSecondPort
+  second-alike r = refl
+
+  on-ports-alike : (x : Mapped) → onPorts s x ≡ onPorts t x
+  on-ports-alike (mapped.At r) = rw (second-alike (r .0))
+  on-ports-alike (mapped.Refused k) = refl
+
+  ports-alike : (n m c : ℕ) → portsOf s n m c ≡ portsOf t n m c
+  unfolding portsOf
+  ports-alike n m c = rw (resource-alike n m c) (on-ports-alike (resourceOf t n m c))
+
+  reply-alike : (kind : ℕ) (x : Mapped) (b0 b1 : ℕ) → replyOn s kind x b0 b1 ≡ replyOn t kind x b0 b1
+  unfolding replyOn
+  reply-alike kind (mapped.At r) b0 b1 = rw (second-alike (r .0))
+  reply-alike kind (mapped.Refused k) b0 b1 = refl
+
+  replies-alike : replyOn s ≡ replyOn t
+  replies-alike = fun-ext (λ kind. fun-ext (λ x. fun-ext (λ b0. fun-ext (λ b1. reply-alike kind x b0 b1))))
+
   symbol-alike : (n : ℕ) (view : ℕ → View) (ks : List ℕ) (x : Symbol) → symbolAnswer s n view ks x ≡ symbolAnswer t n view ks x
   unfolding symbolAnswer
-  symbol-alike n view ks (symbol.Sent i b0 b1) = rw (carrier-alike n i (view (getD ks i 0)))
+  symbol-alike n view ks (symbol.Sent i b0 b1) = rw (carrier-alike n i (view (getD ks i 0)), replies-alike)
   symbol-alike n view ks symbol.Silent = refl
 
   answer-alike : (n : ℕ) (view : ℕ → View) → windowAnswer s n view ≡ windowAnswer t n view
   unfolding windowAnswer bundles bundledAnswer loneAnswer missShown secondBit multiplexedAnswer
   answer-alike n view =
       let ks : List ℕ = windowOf (s .config) n in
-      rw (resource-alike n _ _, symbol-alike n view ks (symbolOf (windowState view ks)))
+      rw (resource-alike n _ _, replies-alike, symbol-alike n view ks (symbolOf (windowState view ks)))
 
   alike : SameWindows s t
   alike =
@@ -169,6 +195,7 @@ module _ (s : Settings) (prefix special : ℕ) (same : settingsRefusal s ≡ set
         refused = refused-alike;
         answered = answered-alike;
         resource = resource-alike;
+        ports = ports-alike;
         inverse = inverse-alike;
         read = λ n. read-alike n NotTold (untold-alike n);
         readTold = λ n m e. read-alike n (At m) (not-special n m e);
@@ -194,9 +221,9 @@ module _ (s : Settings) (prefix special : ℕ) (good : settingsRefusal s ≡ 0) 
   sound-alike [] n = refl
   sound-alike (x ∷ past) n = rw (cause-alike (previous n) (blockAgo past) (heardIn x), sound-alike past (previous n))
 
-  -- In another mode both are refused alike too: by 4 and 5 alone.
-  mode-alike : (m : ℕ) → modeRefusal (inMode s m) ≡ modeRefusal (inMode u m)
-  unfolding modeRefusal
+  -- In another mode both are refused alike too: by 4, 5 and 24 alone.
+  mode-alike : (m : ℕ) → newModeRefusal (inMode s m) ≡ newModeRefusal (inMode u m)
+  unfolding newModeRefusal modeRefusal hasSecondPort portsModeRefusal
   mode-alike m = refl
 
   in-mode-alike : (m : ℕ) → settingsRefusal (inMode s m) ≡ settingsRefusal (inMode u m)

@@ -13,7 +13,7 @@ use Rattle.agreement.specs.Confirmation.{sentThere}
 
 -- Configuration 2, multiplexing. A release is sent in subframe 4, a scheduled block in 5, a grant in 8.
 abbrev set : Settings
-set = record { config = 2; nrb = 50; n1 = 10; mode = 1; blocks = 1; scheduled = 7; prefix = 0; special = 7 }
+set = record { config = 2; nrb = 50; n1 = 10; mode = 1; blocks = 1; scheduled = 7; prefix = 0; special = 7; ports = 1 }
 
 abbrev sent : ℕ → Send
 sent s =

@@ -1,5 +1,5 @@
 -- Demand 3, whole, as a statement about an engine: its make, feed, change of mode, resource, inverse and reading as functions. Document
--- 00, demand 3, document 01, "The runs of demand 3", and document 02, U1 and U8: each field quotes the sentence that it states.
+-- 00, demand 3, document 01, "The runs of demand 3", and document 02, U1, U8 and U9: each field quotes the sentence that it states.
 -- proofs/Demand3.antt proves it of the definitions that the promises of the code are equations with: makeOf (handset::make), feedOf
 -- (handset::feed), changeOf (handset::change_mode), resourceOf and inverseOf (resource::resource_of and inverse_of), readOf
 -- (station::read).
@@ -14,7 +14,7 @@ use Rattle.frame.specs.declared.Settings.{Settings}
 use Rattle.frame.specs.Distance.{subframeOf}
 use Rattle.frame.specs.Layout.{downlink}
 use Rattle.frame.specs.Once.{InWindow, InExactlyOne}
-use Rattle.frame.specs.Settings.{modeRefusal, hasScheduled, settingsRefusal, inMode, windowRefusal}
+use Rattle.frame.specs.Settings.{newModeRefusal, hasScheduled, settingsRefusal, inMode, windowRefusal}
 use Rattle.frame.specs.Special.{tooShort}
 use Rattle.confirmation.specs.declared.Send.{Send}
 use Rattle.confirmation.specs.Sent.{toldOf}
@@ -121,11 +121,12 @@ pub record HoldsAfter (e : Engine) (set : Settings) (sent : ℕ → Send) (items
   -- "an uplink one without a window "no window","; and one with a window "silent" where no reply is sent: SentExactly (Window.antt)
   pub noWindow : (i s : ℕ) (x : Heard) → IsSubframe set items i s x → downlink (set .config) (s % 10) ≡ false → windowAt set s ≡ []
       → fedAt e set items i x .answer ≡ answer.NoWindow
-  -- U8: "Refusals 4, 5 and 8 apply and leave the state." A change is refused exactly by 4 and 5, for the new mode with the run's other
-  -- settings, and 8 never is; it answers its number, 0 where it is not refused,
-  pub changedExactly : (i m : ℕ) → IsChange items i m → changedAt e set items i m .refusal ≡ modeRefusal (inMode set m)
+  -- U8: "Refusals 4, 5 and 8 apply and leave the state"; U9: 24 too, for "two ports with mode 1 (a mode change included)". A change is
+  -- refused exactly by 4, 5 and 24, for the new mode with the run's other settings, and 8 never is; it answers its number, 0 where it is
+  -- not refused,
+  pub changedExactly : (i m : ℕ) → IsChange items i m → changedAt e set items i m .refusal ≡ newModeRefusal (inMode set m)
   -- and leaves the handset where it is
-  pub changeLeaves : (i m : ℕ) → IsChange items i m → (modeRefusal (inMode set m) ≡ 0 → ⊥)
+  pub changeLeaves : (i m : ℕ) → IsChange items i m → (newModeRefusal (inMode set m) ≡ 0 → ⊥)
       → changedAt e set items i m .handset ≡ handsetAt e set items i
   -- "Take any window whose uplink subframe was fed too. If 01 bundles it": mode 0, or mode 1 where M = 1; U8: "by its own mode"
   pub bundled : (i s : ℕ) (x : Heard) → IsSubframe set items i s x
@@ -143,7 +144,8 @@ pub record Demand3 (e : Engine) : Type 0 where
   -- "In a window of M downlink subframes, the pairs of position and first CCE map, by 01's formula,"
   pub byFormula : (set : Settings) (n m c : ℕ) → windowRefusal set n ≡ 0 → m < sizeOf set n → c < edge (set .nrb) 4
       → e .resource set n m c ≡ mapped.At (record { 0 = resourceNumber (set .nrb) (set .n1) (sizeOf set n) m c })
-  -- "one to one onto the resources N1 to N1 + M × N_4 − 1,"
+  -- "one to one onto the resources N1 to N1 + M × N_4 − 1,"; U9: "One to one and the reading then mean the first port", here and in what
+  -- follows
   pub oneToOne : (set : Settings) (n : ℕ) → windowRefusal set n ≡ 0
       → OneToOne (sizeOf set n) (edge (set .nrb) 4) (set .n1) (e .resource set n) (e .inverse set n)
   -- "and the station's reading, given bits it doesn't refuse, gives the pair back", whatever scheduled position it is told

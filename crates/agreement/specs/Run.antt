@@ -1,4 +1,4 @@
--- The runs of demand 3: document 01, "The runs of demand 3"; document 02, U1 and U8. Their sentences stand above the definitions that
+-- The runs of demand 3: document 01, "The runs of demand 3"; document 02, U1, U8 and U9. Their sentences stand above the definitions that
 -- they give.
 -- Assumes nothing.
 use Prim.Native.Nat.{ℕ, _-_, _%_, _+_, _<_}
@@ -10,7 +10,7 @@ use lib.Dec.{eqb, leb, ltb}
 use lib.ListN.{length, getD, take}
 use Rattle.frame.specs.declared.Settings.{Settings}
 use Rattle.frame.specs.Order.{member, timesOf}
-use Rattle.frame.specs.Settings.{modeRefusal, inMode}
+use Rattle.frame.specs.Settings.{newModeRefusal, inMode}
 use Rattle.frame.specs.Table.{windowOf}
 use Rattle.confirmation.specs.declared.Send.{Send}
 use Rattle.confirmation.specs.declared.Send.the-variants as send
@@ -88,9 +88,10 @@ heardAgo heard = agoIn Nothing heard
 abbrev pub windowAt : Settings → ℕ → List ℕ
 windowAt set s = windowOf (set .config) (s % 10)
 
--- U8: "Refusals 4, 5 .. apply and leave the state." The mode that stands after a change to m, where `mode` stood.
+-- U8: "Refusals 4, 5 .. apply and leave the state"; U9: so does 24 where there are two ports. The mode that stands after a change to m,
+-- where `mode` stood.
 abbrev pub standing : Settings → ℕ → ℕ → ℕ
-standing set mode m = cond (eqb (modeRefusal (inMode set m)) 0) m mode
+standing set mode m = cond (eqb (newModeRefusal (inMode set m)) 0) m mode
 
 -- The mode that stands at each of the run's subframes from here on, where `mode` stands and those before heard `past`.
 abbrev pub modesFrom : Settings → List Heard → ℕ → List Item → List ℕ

@@ -1,5 +1,5 @@
 -- What demand 3 says of one window whose uplink subframe was fed: document 00, demand 3, and document 01, "The runs of demand 3";
--- document 02, U1.
+-- document 02, U1 and U9.
 -- Assumes nothing.
 use Prim.Native.Nat.{ℕ, _+_, _/_, _%_, _^_, _<_, _≤_}
 use mathlib.Core.Bool.{Bool, true, false, cond, not, _&&_, _||_}
@@ -119,6 +119,11 @@ SentExactly a Due Right =
     × ((r : Reply) → a ≡ answer.Sent r → Right r)
     × (((r : Reply) → a ≡ answer.Sent r → ⊥) → a ≡ answer.Silent)
 
+-- U9: "replies carry both": with two antenna ports the second port's resource is one above the first's, on which the reply is read; with
+-- one port there is none, and its number is 0.
+abbrev pub CarriesBoth : Settings → Reply → Type 0
+CarriesBoth set r = (set .ports ≡ 2 → r .second .0 ≡ r .resource .0 + 1) × (set .ports ≡ 1 → r .second .0 ≡ 0)
+
 -- "If 01 bundles it": `set` are the settings in the window's own mode, `ks` is K as printed, `es` the window's subframes in time order;
 -- `resource` is the resource call and `read` the station's reading, with the same settings and n = s mod 10, told the position of the
 -- scheduled block that was sent.
@@ -140,6 +145,8 @@ pub record BundledReply (set : Settings) (resource : ℕ → ℕ → Mapped) (re
   pub second : set .blocks ≡ 2 → (r .b1 ≡ 1) ↔ EveryHeard decodedSecond es
   -- a bit is 0 or 1; a one-bit reply's second is 0
   pub bits : (r .b0 ≤ 1) × (r .b1 ≤ 1) × (set .blocks ≡ 1 → r .b1 ≡ 0)
+  -- U9: the resource above is that of the first port; this is the second's
+  pub ports : CarriesBoth set r
 
 abbrev pub Bundled : Settings → (ℕ → ℕ → Mapped) → (ℕ → ℕ → ℕ → Reading) → List ℕ → List Entry → Answer → Type 0
 Bundled set resource read ks es a =
@@ -179,6 +186,8 @@ pub record MultiplexedReply (set : Settings) (resource : ℕ → ℕ → Mapped)
   pub exactly : (p : ℕ) → p < length ks
       → (delivered / 2 ^ p % 2 ≡ 1) ↔ ((ss : List State) → length ss ≡ length ks → symbolOf ss ≡ symbol.Sent index (r .b0) (r .b1) → getD ss p Dtx ≡ Ack)
   pub noOther : delivered < 2 ^ length ks
+  -- U9: two ports have no mode 1, so that there is no second resource
+  pub onePort : r .second .0 ≡ 0
 
 abbrev pub Multiplexed : Settings → (ℕ → ℕ → Mapped) → (ℕ → ℕ → ℕ → Reading) → List ℕ → (ℕ → Heard) → List Entry → Answer → Type 0
 Multiplexed set resource read ks heard es a =

@@ -1,4 +1,5 @@
--- The cases that document 01 wants proved ("Cases to prove"), as one fact about the definitions; its lines in their order.
+-- The cases that document 01 wants proved ("Cases to prove"), as one fact about the definitions; its lines in their order, and the case
+-- of document 02, U9.
 -- Assumes nothing.
 use Prim.Native.Nat.{ℕ, zero, suc}
 use mathlib.Core.Bool.{cond}
@@ -13,7 +14,13 @@ use Rattle.resource.specs.declared.Inverted.the-variants as inverted
 use Rattle.resource.specs.declared.Mapped.{Mapped}
 use Rattle.resource.specs.declared.Mapped.the-variants as mapped
 use Rattle.resource.specs.Calls.{sizeOf, resourceOf, inverseOf}
+use Rattle.resource.specs.declared.PortsMapped.{PortsMapped}
+use Rattle.resource.specs.declared.PortsMapped.the-variants as ports
 use Rattle.resource.specs.Formula.{edge}
+use Rattle.resource.specs.Ports.{portsOf}
+use Rattle.claims.specs.declared.Checked.the-variants as checked
+use Rattle.claims.specs.Bits.{bitRoomOf, bitCheckedOf}
+use Rattle.claims.specs.Claims.{roomOf, checkedOf}
 use Rattle.reply.specs.declared.Answer.the-variants as answer
 use Rattle.heard.specs.declared.Grant.{Grant}
 use Rattle.heard.specs.declared.Heard.{Heard}
@@ -26,9 +33,16 @@ use Rattle.reply.specs.Replies.{windowAnswer}
 abbrev pub edges : ℕ → List ℕ
 edges nrb = map (edge nrb) (0 ∷ 1 ∷ 2 ∷ 3 ∷ 4 ∷ [])
 
--- a cell with N_RB 50 and N1 10, in mode 0, of one block, with no scheduled resource
+-- a cell with N_RB 50 and N1 10, in mode 0, of one block, with no scheduled resource, for handsets of so many antenna ports
+abbrev pub cellOf : ℕ → ℕ → Settings
+cellOf ports config =
+    record { config = config; nrb = 50; n1 = 10; mode = 0; blocks = 1; scheduled = noResource; prefix = 0; special = 7; ports = ports }
+
 abbrev pub cell : ℕ → Settings
-cell config = record { config = config; nrb = 50; n1 = 10; mode = 0; blocks = 1; scheduled = noResource; prefix = 0; special = 7 }
+cell = cellOf 1
+
+abbrev pub twoPorts : ℕ → Settings
+twoPorts = cellOf 2
 
 -- the position of a subframe in the window of n, from the table: the first m whose k_m leads to it
 abbrev pub subframePosition : ℕ → ℕ → List ℕ → ℕ
@@ -37,6 +51,14 @@ subframePosition x n (k ∷ ks) = cond (eqb (before n k) x) zero (suc (subframeP
 
 abbrev pub at : ℕ → Mapped
 at r = mapped.At (record { 0 = r })
+
+-- the first port's resource, and the second port's, 0 where there is none
+abbrev pub onPorts : ℕ → ℕ → PortsMapped
+onPorts r second = ports.At (record { 0 = r }) (record { 0 = second })
+
+-- the claims (0,10) and (1,0), each m × 256 + first CCE
+abbrev pub twoClaims : List ℕ
+twoClaims = 10 ∷ 256 ∷ []
 
 -- what a frame's subframes hear: x in 9, y in 3, nothing in the others
 abbrev pub heardIn9And3 : Heard → Heard → ℕ → Heard
@@ -72,3 +94,10 @@ pub record Tabled : Type 0 where
   -- and whatever their first CCEs
   pub silent : (g g′ : Grant) → g .dai ≡ 1 → g′ .dai ≡ 3
       → windowAnswer (cell 2) 7 (viewBefore 7 (heardIn9And3 (Granted g) (Granted g′))) ≡ answer.Silent
+  -- U9: "with N_RB 50, M = 2, N1 10, (0,10) takes 20 and 21, (1,0) 21 and 22": a clash, in both forms of the scratch. With one port they
+  -- take 20 and 21 and are clean.
+  pub ports010 : portsOf (twoPorts 1) 2 0 10 ≡ onPorts 20 21
+  pub ports10 : portsOf (twoPorts 1) 2 1 0 ≡ onPorts 21 22
+  pub portsRoom : (roomOf (twoPorts 1) 2 ≡ 123) × (bitRoomOf (twoPorts 1) 2 ≡ 16)
+  pub portsClash : (checkedOf (twoPorts 1) 2 twoClaims 123 ≡ checked.Clash 1) × (bitCheckedOf (twoPorts 1) 2 twoClaims 16 ≡ checked.Clash 1)
+  pub onePort : (portsOf (cell 1) 2 0 10 ≡ onPorts 20 0) × (checkedOf (cell 1) 2 twoClaims 122 ≡ checked.Clean)

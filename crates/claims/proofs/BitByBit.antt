@@ -1,24 +1,23 @@
 -- The scratch of the bit form bit by bit: it is as document 02 says, and no other scratch is.
 -- Assumes nothing.
 use Prim.Native.Nat.{ℕ, zero, suc, _+_, _*_, _/_, _%_, _^_, _<_, _≤_}
-use mathlib.Core.Bool.{Bool, true, false, cond}
+use mathlib.Core.Bool.{Bool, true, false, cond, _&&_}
 use mathlib.Core.List.{List, _++_}
 use mathlib.Core.Path.{_≡_, refl, sym, ap₂, _∙_}
 use native.Mathlib.Omega.{arith}
-use lib.Dec.{ltb}
+use lib.Dec.{ltb, eqb}
 use lib.ListN.{length, getD, take, drop, take-append-drop, length-append, length-drop}
 use lib.Seq.{length-take-le, drop-at, getD-take, ext-getD}
-use borrow.Author.Tests.{ltb-true, ltb-false, eqb-true}
+use borrow.Author.Tests.{ltb-true, ltb-false, ne-eqb}
 use Rattle.frame.specs.declared.Settings.{Settings}
-use Rattle.frame.specs.Settings.{orElse, windowRefusal}
-use Rattle.frame.proofs.Bools.{never-true}
+use Rattle.frame.specs.Settings.{orElse, hasSecondPort, windowRefusal}
 use Rattle.resource.specs.declared.Mapped.{Mapped}
 use Rattle.resource.specs.declared.Mapped.the-variants as mapped
 use Rattle.resource.proofs.OneToOne.{resource-range}
 use Rattle.claims.specs.declared.Checked.{Checked}
 use Rattle.claims.specs.declared.Checked.the-variants.{Clean, Clash, Refused}
 use Rattle.claims.specs.Bits.{bitRoomOf, bitCheckedOf, bytesFrom, bitMarkedUpTo, bitScratchOf}
-use Rattle.claims.specs.Claims.{claimPosition, claimCce, claimed, resourcesOf, roomOf, firstClash, scratchRefusal, checkedOn, refusedOr, checkedWith, isResource, marked, scratchAfter}
+use Rattle.claims.specs.Claims.{claimPosition, claimCce, claimed, resourcesOf, roomOf, firstClash, scratchRefusal, checkedOn, refusedOr, checkedWith, takes, marked, scratchAfter}
 use Rattle.claims.specs.Forms.{bitAt, BitByBit, Answered, BitForm}
 use Rattle.claims.proofs.BitMarks as bits
 use Rattle.claims.proofs.Packed.{bits-below, bits-only, bytes-length, bytes-at}
@@ -41,18 +40,22 @@ answered-scratch Clean new old a = refl
 answered-scratch (Clash i) new old a = refl
 
 module _ (s : Settings) (n : ℕ) (accepted : windowRefusal s n ≡ 0) (claims : List ℕ) where
-  -- No claim has a resource past the window's.
-  past : (claim t : ℕ) → roomOf s n ≤ t → isResource (claimed s n claim) (t + s .n1) ≡ false
+  -- No claim has a resource past the room.
+  past : (claim t : ℕ) → roomOf s n ≤ t → takes s (claimed s n claim) (t + s .n1) ≡ false
   unfolding roomOf resourcesOf
   past claim t h = go (claimed s n claim) refl
     where
-      go : (a : Mapped) → claimed s n claim ≡ a → isResource a (t + s .n1) ≡ false
+      go : (a : Mapped) → claimed s n claim ≡ a → takes s a (t + s .n1) ≡ false
       go (mapped.Refused k) e = refl
       go (mapped.At r) e =
-          never-true _ λ same.
           let f = resource-range s n accepted (claimPosition claim) (claimCce claim) (r .0) e in
-          let g : r .0 ≡ t + s .n1 = eqb-true (r .0) (t + s .n1) same in
-          omega arith
+          rw (ne-eqb (r .0) (t + s .n1) (λ same. omega (arith, f .1))) (next (hasSecondPort s) h)
+        where
+          next : (two : Bool) → resourcesOf s n + cond two 1 0 ≤ t → (two && eqb (r .0 + 1) (t + s .n1)) ≡ false
+          next true room =
+              let f = resource-range s n accepted (claimPosition claim) (claimCce claim) (r .0) e in
+              ne-eqb (r .0 + 1) (t + s .n1) (λ same. omega (arith, f .1))
+          next false room = refl
 
   unmarked : (e t : ℕ) → roomOf s n ≤ t → marked s n claims e t ≡ false
   unmarked zero t h = refl

@@ -43,7 +43,7 @@ module _ (room : Room) (upTo : Marking) (s : Settings) (n : ℕ) (claims old : L
   refused-as k zero next v e h = absurd (h e)
   refused-as k (suc w) next v e h = rw e
 
-  -- 1 to 6, 17, 19 and 7
+  -- 1 to 6, 17, 19, 24 and 7
   pub refused : (k : ℕ) → k ≡ windowRefusal s n → (k ≡ 0 → ⊥) → Right room upTo s n claims old (Refused k 0) old
   unfolding checkedWith scratchRefusal
   refused k e h = right (Refused k 0) old (refused-as k (windowRefusal s n) _ _ e h) refl

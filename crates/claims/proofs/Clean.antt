@@ -1,22 +1,23 @@
--- The answer is clean exactly when nothing is refused, no claim is bad and no claim clashes with an earlier one, in either form of
--- the scratch.
+-- The answer is clean exactly when nothing is refused, no claim is bad and no resource of one claim is another's, over both ports and
+-- in either form of the scratch.
 -- Assumes nothing.
 use Prim.Native.Nat.{ℕ, zero, suc, _<_}
-use mathlib.Core.Bool.{Bool, true, false, cond}
+use mathlib.Core.Bool.{Bool, true, false, cond, false≢true}
 use mathlib.Core.List.{List}
 use mathlib.Core.Logic.{_↔_, ⊎-elim}
-use mathlib.Core.Path.{_≡_, refl}
+use mathlib.Core.Path.{_≡_, refl, sym, _∙_}
 use native.Mathlib.Nat.{le-refl, le-of-suc-le-suc, eq-or-lt-of-le}
 use native.Mathlib.Omega.{arith}
 use lib.Dec.{ltb}
 use lib.ListN.{length, getD}
 use borrow.Author.Tests.{le-ltb, ltb-false}
 use Rattle.frame.specs.declared.Settings.{Settings}
-use Rattle.frame.proofs.Bools.{neither-test}
+use Rattle.frame.proofs.Bools.{neither-test, never-true}
 use Rattle.claims.specs.declared.Checked.the-variants.{Clean, Clash, Refused}
 use Rattle.claims.specs.Claims.{isBad, firstBad, clashes, earlier, firstClash, scratchRefusal, refusedOr, checkedOn, checkedWith}
 use Rattle.claims.specs.Clean.{AllClean}
 use Rattle.claims.proofs.First.{first-none, first-bad, first-clash}
+use Rattle.claims.proofs.Share.{share-exactly}
 
 -- `earlier` fails exactly where x clashes with no claim before index e.
 module _ (s : Settings) (n : ℕ) (claims : List ℕ) (x : ℕ) where
@@ -48,8 +49,9 @@ module _ (s : Settings) (n : ℕ) (claims : List ℕ) (room lent : ℕ) where
       record {
         accepted = f .0;
         good = λ i h. first-bad s n claims .before i (omega arith) (omega arith);
-        apart = λ i j h b.
-            none-earlier s n claims (getD claims j 0) j (first-clash s n claims .before j (omega arith) (omega arith)) i h;
+        apart = λ i j h b r p q.
+            let none = none-earlier s n claims (getD claims j 0) j (first-clash s n claims .before j (omega arith) (omega arith)) i h in
+            false≢true (sym none ∙ share-exactly s n (getD claims i 0) (getD claims j 0) .1 (r, p, q));
       }
 
   clean-from : AllClean s n claims room lent → checkedWith s n claims room lent ≡ Clean
@@ -57,7 +59,9 @@ module _ (s : Settings) (n : ℕ) (claims : List ℕ) (room lent : ℕ) where
   clean-from a =
       let bad = first-none (λ (i : ℕ). isBad s n (getD claims i 0)) (length claims) (length claims) (a .good) (le-refl _) (le-refl _) in
       let clash = first-none (λ (i : ℕ). earlier s n claims i (getD claims i 0)) (length claims) (length claims)
-      (λ j h. earlier-none s n claims (getD claims j 0) j λ i b. a .apart i j b h)
+      (λ j h. earlier-none s n claims (getD claims j 0) j λ i b. never-true _ λ e.
+      let f = share-exactly s n (getD claims i 0) (getD claims j 0) .0 e in
+      a .apart i j b h (f .0) (f .1) (f .2))
       (le-refl _) (le-refl _) in
       rw (a .accepted, le-ltb (firstBad s n claims) (length claims) (omega arith), le-ltb (firstClash s n claims) (length claims) (omega arith))
 

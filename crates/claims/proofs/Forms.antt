@@ -10,12 +10,12 @@ use lib.ListN.{length, getD}
 use borrow.Author.Tests.{ltb-true, ltb-false, lt-ltb, le-ltb}
 use Rattle.frame.specs.declared.Settings.{Settings}
 use Rattle.frame.specs.Settings.{orElse, windowRefusal}
-use Rattle.resource.proofs.Counts.{window-resources}
 use Rattle.claims.specs.Bits.{bitRoomOf, bitCheckedOf, bitScratchOf}
-use Rattle.claims.specs.Claims.{resourcesOf, roomOf, firstClash, scratchRefusal, checkedOn, refusedOr, checkedWith, checkedOf, markedUpTo, scratchOf}
+use Rattle.claims.specs.Claims.{roomOf, firstClash, scratchRefusal, checkedOn, refusedOr, checkedWith, checkedOf, markedUpTo, scratchOf}
 use Rattle.claims.specs.Forms.{bitAt, Answered, FormsAgree}
 use Rattle.claims.proofs.Marks as bytes
 use Rattle.claims.proofs.BitByBit.{answered-scratch, answered-bits}
+use Rattle.claims.proofs.Read.{room-most}
 
 -- Two forms that each have their scratch answer alike, and so do any two where settings or subframe are refused.
 module _ (s : Settings) (n : ℕ) (claims : List ℕ) (room lent room' lent' : ℕ) where
@@ -60,9 +60,9 @@ an-eighth : (s : Settings) (n : ℕ) → (roomOf s n ≤ 8 * bitRoomOf s n) × (
 unfolding bitRoomOf
 an-eighth s n = (omega arith, omega arith)
 
-at-most : (s : Settings) (n : ℕ) → windowRefusal s n ≡ 0 → (roomOf s n ≤ 1206) × (bitRoomOf s n ≤ 151)
-unfolding bitRoomOf roomOf resourcesOf
-at-most s n accepted = let most = window-resources s n accepted in (most, omega arith)
+at-most : (s : Settings) (n : ℕ) → windowRefusal s n ≡ 0 → (roomOf s n ≤ 1207) × (bitRoomOf s n ≤ 151)
+unfolding bitRoomOf
+at-most s n accepted = let most = room-most s n accepted in (most, omega arith)
 
 pub forms-agree : FormsAgree
 forms-agree =

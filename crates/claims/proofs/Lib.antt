@@ -6,6 +6,7 @@ pub mod First
 pub mod Forms
 pub mod Marks
 pub mod Offsets
+pub mod OnPorts
 pub mod Packed
 pub mod Read
 pub mod Share

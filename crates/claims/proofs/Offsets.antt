@@ -13,7 +13,7 @@ use Rattle.resource.proofs.Counts.{resources-least}
 use Rattle.resource.proofs.OneToOne.{resource-range}
 use Rattle.resource.proofs.Sized.{resource-tested}
 use Rattle.claims.specs.declared.ClaimedWindow.{ClaimedWindow}
-use Rattle.claims.specs.Claims.{claimPosition, claimCce, claimed, resourcesOf, roomOf, isResource}
+use Rattle.claims.specs.Claims.{claimPosition, claimCce, claimed, resourcesOf, takes}
 use Rattle.claims.specs.Marking.{Has, AcceptedWindow, Offset}
 use Rattle.claims.proofs.Share.{has-resource}
 
@@ -33,7 +33,7 @@ module _ (w : ClaimedWindow) (known : AcceptedWindow w) (claim c : ℕ) (a : Map
     from-n1 = resource-range (w .s) (w .n) (known .accepted) (claimPosition claim) (claimCce claim) r has .0
 
     pub offset-given : Offset (w .s) (w .n) claim (r - w .s .n1)
-    unfolding roomOf resourcesOf
+    unfolding resourcesOf
     offset-given =
         let back : r ≡ r - w .s .n1 + w .s .n1 = omega (arith, from-n1) in
         record {
@@ -42,12 +42,12 @@ module _ (w : ClaimedWindow) (known : AcceptedWindow w) (claim c : ℕ) (a : Map
         }
 
   pub offset-refused : (k : ℕ) → a ≡ mapped.Refused k → Offset (w .s) (w .n) claim 0
-  unfolding roomOf resourcesOf
+  unfolding resourcesOf
   offset-refused k refused =
       record {
         below = resources-least (w .s) (w .n) (known .accepted);
         resource = λ good.
             let f = has-resource (w .s) (w .n) (known .accepted) claim good in
-            let z = ap (λ (a : Mapped). isResource a (f .0)) (sym (answer ∙ refused) ∙ f .1) in
-            absurd (false≢true (z ∙ eq-eqb (f .0) (f .0) refl));
+            let z = ap (λ (a : Mapped). takes (w .s) a (f .0)) (sym (answer ∙ refused) ∙ f .1) in
+            absurd (false≢true (z ∙ rw (eq-eqb (f .0) (f .0) refl)));
       }

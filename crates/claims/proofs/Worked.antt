@@ -1,11 +1,12 @@
--- The bit form on numbers: in the cell of document 01's cases, and in the widest window of document 02, U6.
+-- Claims on numbers: in the cell of document 01's cases with one antenna port by bits (document 02, U6) and with two (U9), and in the
+-- widest window.
 -- Assumes nothing.
 use Prim.Native.Nat.{ℕ, _+_, _*_}
 use mathlib.Core.List.{List, [], _∷_, _++_}
 use mathlib.Core.Path.{_≡_, refl}
 use lib.ListN.{replicate}
 use Rattle.frame.specs.declared.Settings.{Settings}
-use Rattle.frame.specs.Settings.{cellRefusal, modeRefusal, blocksRefusal, hasScheduled, scheduledRefusal, laterRefusal, settingsRefusal, noWindowRefusal, windowRefusal}
+use Rattle.frame.specs.Settings.{cellRefusal, modeRefusal, blocksRefusal, hasScheduled, scheduledRefusal, hasSecondPort, portsModeRefusal, portsRefusal, laterRefusal, settingsRefusal, noWindowRefusal, windowRefusal}
 use Rattle.frame.specs.Special.{specialRefusal}
 use Rattle.frame.specs.Table.{table, windowOf}
 use Rattle.resource.specs.Calls.{pairRefusal, resourceOf}
@@ -13,16 +14,17 @@ use Rattle.resource.specs.Formula.{edge, regionOf, resourceNumber}
 use Rattle.claims.specs.declared.Checked.{Checked}
 use Rattle.claims.specs.declared.Checked.the-variants.{Clean, Clash, Refused}
 use Rattle.claims.specs.Bits.{bitRoomOf, bitCheckedOf, bitMarkedUpTo, bitScratchOf}
-use Rattle.claims.specs.Claims.{resourcesOf, roomOf, isBad, firstBad, clashes, firstClash, scratchRefusal, checkedOn, checkedWith, checkedOf}
+use Rattle.claims.specs.Claims.{resourcesOf, roomOf, isBad, firstBad, clashes, firstClash, scratchRefusal, checkedOn, checkedWith, checkedOf, markedUpTo, scratchOf}
 
--- A cell in mode 0, of one block, with no scheduled resource, in which special subframes carry data.
-abbrev pub plain : ℕ → ℕ → ℕ → Settings
-plain config nrb n1 =
-    record { config = config; nrb = nrb; n1 = n1; mode = 0; blocks = 1; scheduled = 65535; prefix = 0; special = 7 }
+-- A cell in mode 0, of one block, with no scheduled resource, in which special subframes carry data; the last number is that of the
+-- antenna ports.
+abbrev pub plain : ℕ → ℕ → ℕ → ℕ → Settings
+plain config nrb n1 ports =
+    record { config = config; nrb = nrb; n1 = n1; mode = 0; blocks = 1; scheduled = 65535; prefix = 0; special = 7; ports = ports }
 
 -- Configuration 1 with N_RB 50 and N1 10: in its window n = 2 M is 2 and N_4 is 61.
 abbrev pub cell : Settings
-cell = plain 1 50 10
+cell = plain 1 50 10 1
 
 -- The claim of position m and first CCE c.
 abbrev pub claimOf : ℕ → ℕ → ℕ
@@ -50,7 +52,7 @@ pub record InTheCell : Type 0 where
   pub short : (bitCheckedOf cell 2 [] 15 ≡ Refused 15 0) × (bitScratchOf cell 2 [] (replicate 15 255) ≡ replicate 15 255)
 
 pub in-the-cell : InTheCell
-unfolding cellRefusal modeRefusal blocksRefusal hasScheduled scheduledRefusal specialRefusal laterRefusal settingsRefusal noWindowRefusal windowRefusal table windowOf pairRefusal resourceOf edge regionOf resourceNumber bitRoomOf bitMarkedUpTo bitScratchOf resourcesOf roomOf isBad firstBad clashes firstClash scratchRefusal checkedOn checkedWith
+unfolding cellRefusal modeRefusal blocksRefusal hasScheduled scheduledRefusal specialRefusal hasSecondPort portsModeRefusal portsRefusal laterRefusal settingsRefusal noWindowRefusal windowRefusal table windowOf pairRefusal resourceOf edge regionOf resourceNumber bitRoomOf bitMarkedUpTo bitScratchOf resourcesOf roomOf isBad firstBad clashes firstClash scratchRefusal checkedOn checkedWith
 in-the-cell =
     record {
       rooms = (refl, refl);
@@ -62,13 +64,56 @@ in-the-cell =
       short = (refl, refl);
     }
 
+-- The same cell with two ports: a claim takes its resource and the next one. The scratch is of 124 bytes, one more than the window asks
+-- for, or of 17 for the bits.
+abbrev pub twoPorts : Settings
+twoPorts = plain 1 50 10 2
+
+abbrev pub dirtyBytes : List ℕ
+dirtyBytes = replicate 124 255
+
+pub record OnTwoPorts : Type 0 where
+  pub rooms : (roomOf twoPorts 2 ≡ 123) × (bitRoomOf twoPorts 2 ≡ 16)
+  -- U9: "(0,10) takes 20 and 21, (1,0) 21 and 22", a clash; offsets 10 and 11 are marked
+  pub clash : (checkedOf twoPorts 2 (claimOf 0 10 ∷ claimOf 1 0 ∷ []) 124 ≡ Clash 1)
+      × (scratchOf twoPorts 2 (claimOf 0 10 ∷ claimOf 1 0 ∷ []) dirtyBytes ≡ replicate 10 0 ++ 1 ∷ 1 ∷ replicate 111 0 ++ 255 ∷ [])
+  pub bitClash : (bitCheckedOf twoPorts 2 (claimOf 0 10 ∷ claimOf 1 0 ∷ []) 17 ≡ Clash 1)
+      × (bitScratchOf twoPorts 2 (claimOf 0 10 ∷ claimOf 1 0 ∷ []) dirty ≡ 0 ∷ 12 ∷ replicate 14 0 ++ 255 ∷ [])
+  -- in the other order too: 21 and 22, then 20 and 21
+  pub downward : checkedOf twoPorts 2 (claimOf 1 0 ∷ claimOf 0 10 ∷ []) 124 ≡ Clash 1
+  -- (0,10) and (1,1), which takes 22 and 23, are clean: bits 2 to 5 of byte 1 are 4 + 8 + 16 + 32
+  pub clean : (bitCheckedOf twoPorts 2 (claimOf 0 10 ∷ claimOf 1 1 ∷ []) 17 ≡ Clean)
+      × (bitScratchOf twoPorts 2 (claimOf 0 10 ∷ claimOf 1 1 ∷ []) dirty ≡ 0 ∷ 60 ∷ replicate 14 0 ++ 255 ∷ [])
+  -- the last claim takes 131 and 132: offset 122 is the one resource more
+  pub last : (checkedOf twoPorts 2 (claimOf 1 60 ∷ []) 123 ≡ Clean)
+      × (scratchOf twoPorts 2 (claimOf 1 60 ∷ []) dirtyBytes ≡ replicate 121 0 ++ 1 ∷ 1 ∷ 255 ∷ [])
+  pub short : (checkedOf twoPorts 2 [] 122 ≡ Refused 15 0) × (bitCheckedOf twoPorts 2 [] 15 ≡ Refused 15 0)
+  -- with one port the two are clean
+  pub onePort : checkedOf cell 2 (claimOf 0 10 ∷ claimOf 1 0 ∷ []) 124 ≡ Clean
+
+pub on-two-ports : OnTwoPorts
+unfolding cellRefusal modeRefusal blocksRefusal hasScheduled scheduledRefusal specialRefusal hasSecondPort portsModeRefusal portsRefusal laterRefusal settingsRefusal noWindowRefusal windowRefusal table windowOf pairRefusal resourceOf edge regionOf resourceNumber bitRoomOf bitMarkedUpTo bitScratchOf resourcesOf roomOf isBad firstBad clashes firstClash scratchRefusal checkedOn checkedWith markedUpTo scratchOf
+on-two-ports =
+    record {
+      rooms = (refl, refl);
+      clash = (refl, refl);
+      bitClash = (refl, refl);
+      downward = refl;
+      clean = (refl, refl);
+      last = (refl, refl);
+      short = (refl, refl);
+      onePort = refl;
+    }
+
 -- The widest window: configuration 5, n = 2, with N_RB 110. The bit form needs 151 bytes; on these the byte form is refused, so
 -- that the two forms do not answer alike where one of them has too little.
 pub record InTheWidest : Type 0 where
-  pub rooms : (roomOf (plain 5 110 0) 2 ≡ 1206) × (bitRoomOf (plain 5 110 0) 2 ≡ 151)
-  pub bits : (bitCheckedOf (plain 5 110 0) 2 [] 151 ≡ Clean) × (bitCheckedOf (plain 5 110 0) 2 [] 150 ≡ Refused 15 0)
-  pub bytes : checkedOf (plain 5 110 0) 2 [] 151 ≡ Refused 15 0
+  pub rooms : (roomOf (plain 5 110 0 1) 2 ≡ 1206) × (bitRoomOf (plain 5 110 0 1) 2 ≡ 151)
+  pub bits : (bitCheckedOf (plain 5 110 0 1) 2 [] 151 ≡ Clean) × (bitCheckedOf (plain 5 110 0 1) 2 [] 150 ≡ Refused 15 0)
+  pub bytes : checkedOf (plain 5 110 0 1) 2 [] 151 ≡ Refused 15 0
+  -- with two ports it has one resource more, and the bits have room for it
+  pub twoPorts : (roomOf (plain 5 110 0 2) 2 ≡ 1207) × (bitRoomOf (plain 5 110 0 2) 2 ≡ 151)
 
 pub in-the-widest : InTheWidest
-unfolding cellRefusal modeRefusal blocksRefusal hasScheduled scheduledRefusal specialRefusal laterRefusal settingsRefusal noWindowRefusal windowRefusal table windowOf edge bitRoomOf resourcesOf roomOf firstBad firstClash scratchRefusal checkedOn checkedWith
-in-the-widest = record { rooms = (refl, refl); bits = (refl, refl); bytes = refl }
+unfolding cellRefusal modeRefusal blocksRefusal hasScheduled scheduledRefusal specialRefusal hasSecondPort portsModeRefusal portsRefusal laterRefusal settingsRefusal noWindowRefusal windowRefusal table windowOf edge bitRoomOf resourcesOf roomOf firstBad firstClash scratchRefusal checkedOn checkedWith
+in-the-widest = record { rooms = (refl, refl); bits = (refl, refl); bytes = refl; twoPorts = (refl, refl) }

@@ -1,4 +1,4 @@
--- Claims of a cell with one bit for each resource: document 02, U6. The answer is that of the byte form; resource t + N1 has bit
+-- Claims of a cell with one bit for each resource: document 02, U6 and U9. The answer is that of the byte form; resource t + N1 has bit
 -- t mod 8 of byte t / 8.
 -- Assumes nothing.
 use Prim.Native.Nat.{ℕ, zero, suc, _+_, _*_, _/_}
@@ -9,11 +9,11 @@ use Rattle.frame.specs.declared.Settings.{Settings}
 use Rattle.claims.specs.declared.Checked.{Checked}
 use Rattle.claims.specs.Claims.{roomOf, firstClash, checkedWith, marked, scratchAfter}
 
--- The scratch that is asked for, in bytes: (M × N_4 + 7) / 8, rounded down.
+-- The scratch that is asked for, in bytes: (M × N_4 + 7) / 8, with two ports (M × N_4 + 8) / 8, rounded down.
 unfoldable pub bitRoomOf : Settings → ℕ → ℕ
 bitRoomOf s n = (roomOf s n + 7) / 8
 
--- The answer to a list of claims with a scratch of `lent` bytes: 15 is a scratch shorter than (M × N_4 + 7) / 8.
+-- The answer to a list of claims with a scratch of `lent` bytes: 15 is a scratch shorter than that.
 abbrev pub bitCheckedOf : Settings → ℕ → List ℕ → ℕ → Checked
 bitCheckedOf s n claims lent = checkedWith s n claims (bitRoomOf s n) lent
 
@@ -27,7 +27,7 @@ abbrev pub bytesFrom : (ℕ → Bool) → ℕ → ℕ → List ℕ
 bytesFrom test zero j = []
 bytesFrom test (suc count) j = bitsFrom test 8 (8 * j) ∷ bytesFrom test count (suc j)
 
--- The scratch with the marks of the claims before index e; bytes from (M × N_4 + 7) / 8 on keep their values.
+-- The scratch with the marks of the claims before index e; the bytes behind it keep their values.
 unfoldable pub bitMarkedUpTo : Settings → ℕ → List ℕ → List ℕ → ℕ → List ℕ
 bitMarkedUpTo s n claims old e = bytesFrom (marked s n claims e) (bitRoomOf s n) 0 ++ drop (bitRoomOf s n) old
 

@@ -1,4 +1,4 @@
--- Claims of a cell: document 01, "Claims of a cell" and refusals 15 and 16.
+-- Claims of a cell: document 01, "Claims of a cell" and refusals 15 and 16; document 02, U9.
 -- Assumes nothing.
 use Prim.Native.Nat.{ℕ, zero, suc, _+_, _*_, _/_, _%_}
 use mathlib.Core.Bool.{Bool, false, cond, not, _&&_, _||_}
@@ -6,7 +6,7 @@ use mathlib.Core.List.{List, [], _∷_, _++_}
 use lib.Dec.{ltb, eqb}
 use lib.ListN.{length, getD, drop}
 use Rattle.frame.specs.declared.Settings.{Settings}
-use Rattle.frame.specs.Settings.{orElse, windowRefusal}
+use Rattle.frame.specs.Settings.{orElse, hasSecondPort, windowRefusal}
 use Rattle.resource.specs.declared.Mapped.{Mapped}
 use Rattle.resource.specs.declared.Mapped.the-variants as mapped
 use Rattle.resource.specs.Calls.{sizeOf, resourceOf}
@@ -29,10 +29,14 @@ claimed s n claim = resourceOf s n (claimPosition claim) (claimCce claim)
 unfoldable pub resourcesOf : Settings → ℕ → ℕ
 resourcesOf s n = sizeOf s n * edge (s .nrb) 4
 
--- The number of marks, one for each resource of the window. In the byte form a mark takes a byte, so that this is the scratch that
--- is asked for; in the bit form (Bits.antt) it takes a bit.
+-- U9: "With two ports both scratch forms need one resource more": the second port's of the last one.
+abbrev pub portsMore : Settings → ℕ
+portsMore s = cond (hasSecondPort s) 1 0
+
+-- The number of marks, one for each resource that a claim of the window may have. In the byte form a mark takes a byte, so that this is
+-- the scratch that is asked for; in the bit form (Bits.antt) it takes a bit.
 unfoldable pub roomOf : Settings → ℕ → ℕ
-roomOf s n = resourcesOf s n
+roomOf s n = resourcesOf s n + portsMore s
 
 -- 16: m not below M or CCE not below N_4.
 unfoldable pub isBad : Settings → ℕ → ℕ → Bool
@@ -47,9 +51,20 @@ firstIndex test (suc count) i = cond (test i) i (firstIndex test count (suc i))
 unfoldable pub firstBad : Settings → ℕ → List ℕ → ℕ
 firstBad s n claims = firstIndex (λ (i : ℕ). isBad s n (getD claims i 0)) (length claims) 0
 
--- Two claims clash: the later one is "equal to an earlier one".
+-- A claim takes resource r, where the resource call gave its answer: r is that of the first port, or with two ports the one above it.
+abbrev pub takes : Settings → Mapped → ℕ → Bool
+takes s (mapped.At x) r = eqb (x .0) r || (hasSecondPort s && eqb (x .0 + 1) r)
+takes s (mapped.Refused k) r = false
+
+-- Of two claims with these answers the later one takes a resource of the earlier one.
+abbrev pub meets : Settings → Mapped → Mapped → Bool
+meets s x (mapped.At y) = takes s x (y .0) || (hasSecondPort s && takes s x (y .0 + 1))
+meets s x (mapped.Refused k) = false
+
+-- U9: "Two claims clash when any of their resources coincide". With one port, and where neither is bad, that is 01's "equal to an
+-- earlier one" (OnPorts.antt).
 unfoldable pub clashes : Settings → ℕ → ℕ → ℕ → Bool
-clashes s n a b = eqb a b
+clashes s n a b = meets s (claimed s n a) (claimed s n b)
 
 -- The claim clashes with one that stands in the list before index i.
 abbrev pub earlier : Settings → ℕ → List ℕ → ℕ → ℕ → Bool
@@ -60,18 +75,22 @@ earlier s n claims (suc i) claim = clashes s n (getD claims i 0) claim || earlie
 unfoldable pub firstClash : Settings → ℕ → List ℕ → ℕ
 firstClash s n claims = firstIndex (λ (i : ℕ). earlier s n claims i (getD claims i 0)) (length claims) 0
 
--- 15: scratch shorter than `room`, the bytes that its form asks for. A call refuses 1 to 6, 17, 19 and 7, then 15. `lent` is the
+-- 15: scratch shorter than `room`, the bytes that its form asks for. A call refuses 1 to 6, 17, 19, 24 and 7, then 15. `lent` is the
 -- length of the scratch.
 unfoldable pub scratchRefusal : Settings → ℕ → ℕ → ℕ → ℕ
 scratchRefusal s n room lent = orElse (windowRefusal s n) (cond (ltb lent room) 15 0)
 
--- 01's answer of a list that is not refused for settings, subframe or scratch: 16 for a bad claim anywhere, with the first one's
--- index; else the index of the first claim that clashes with an earlier one; else clean.
-unfoldable pub checkedOn : Settings → ℕ → List ℕ → Checked
-checkedOn s n claims =
+-- 01's answer of a list that is not refused for settings, subframe or scratch, where `clash` is the index of the first clash: 16 for a
+-- bad claim anywhere, with the first one's index; else that index; else, where it is the length of the list, clean.
+abbrev pub checkedAt : Settings → ℕ → List ℕ → ℕ → Checked
+checkedAt s n claims clash =
     cond (ltb (firstBad s n claims) (length claims)) (Refused 16 (firstBad s n claims))
-    (cond (ltb (firstClash s n claims) (length claims)) (Clash (firstClash s n claims))
+    (cond (ltb clash (length claims)) (Clash clash)
     Clean)
+
+-- The first clash is that of the first claim that clashes with an earlier one.
+unfoldable pub checkedOn : Settings → ℕ → List ℕ → Checked
+checkedOn s n claims = checkedAt s n claims (firstClash s n claims)
 
 abbrev pub refusedOr : ℕ → Checked → Checked
 refusedOr zero checked = checked
@@ -81,28 +100,24 @@ refusedOr (suc k) checked = Refused (suc k) 0
 unfoldable pub checkedWith : Settings → ℕ → List ℕ → ℕ → ℕ → Checked
 checkedWith s n claims room lent = refusedOr (scratchRefusal s n room lent) (checkedOn s n claims)
 
--- The byte form: 15 is a scratch shorter than M × N_4.
+-- The byte form: 15 is a scratch shorter than M × N_4, with two ports than M × N_4 + 1.
 abbrev pub checkedOf : Settings → ℕ → List ℕ → ℕ → Checked
 checkedOf s n claims lent = checkedWith s n claims (roomOf s n) lent
 
--- The answer is the resource with number r.
-abbrev pub isResource : Mapped → ℕ → Bool
-isResource (mapped.At x) r = eqb (x .0) r
-isResource (mapped.Refused k) r = false
-
--- t + N1 is the resource of a claim before index e.
+-- t + N1 is a resource of a claim before index e; U9: "mark both resources of a claim".
 abbrev pub marked : Settings → ℕ → List ℕ → ℕ → ℕ → Bool
 marked s n claims zero t = false
-marked s n claims (suc e) t = isResource (claimed s n (getD claims e 0)) (t + s .n1) || marked s n claims e t
+marked s n claims (suc e) t = takes s (claimed s n (getD claims e 0)) (t + s .n1) || marked s n claims e t
 
--- The bytes t, t + 1, .., `count` of them: 1 where marked, else 0.
-abbrev pub marks : Settings → ℕ → List ℕ → ℕ → ℕ → ℕ → List ℕ
-marks s n claims e zero t = []
-marks s n claims e (suc count) t = cond (marked s n claims e t) 1 0 ∷ marks s n claims e count (suc t)
+-- The bytes t, t + 1, .., `count` of them: 1 where the test passes, else 0.
+abbrev pub marksFrom : (ℕ → Bool) → ℕ → ℕ → List ℕ
+marksFrom test zero t = []
+marksFrom test (suc count) t = cond (test t) 1 0 ∷ marksFrom test count (suc t)
 
--- The scratch with the marks of the claims before index e; bytes from M × N_4 on keep their values.
+-- The scratch with the marks of the claims before index e; bytes from M × N_4 on, with two ports from M × N_4 + 1 on, keep their
+-- values.
 unfoldable pub markedUpTo : Settings → ℕ → List ℕ → List ℕ → ℕ → List ℕ
-markedUpTo s n claims old e = marks s n claims e (roomOf s n) 0 ++ drop (roomOf s n) old
+markedUpTo s n claims old e = marksFrom (marked s n claims e) (roomOf s n) 0 ++ drop (roomOf s n) old
 
 -- The scratch after the call, given the one with the marks: as it was on a refusal, 16 included.
 abbrev pub scratchAfter : Checked → List ℕ → List ℕ → List ℕ

@@ -18,7 +18,7 @@ bitAt scratch t = getD scratch (t / 8) 0 / 2 ^ (t % 8) % 2
 
 -- The scratch `new` after a call that was lent `old`, bit by bit, with the marks of the claims before index e.
 pub record BitByBit (s : Settings) (n : ℕ) (claims old new : List ℕ) (e : ℕ) : Type 0 where
-  -- bit t is 1 if t + N1 is the resource of a claim before that index, else 0
+  -- bit t is 1 if t + N1 is a resource of a claim before that index, else 0
   pub marks : (t : ℕ) → t < roomOf s n → bitAt new t ≡ cond (marked s n claims e t) 1 0
   -- the unused bits of the last byte are 0
   pub unused : (t : ℕ) → roomOf s n ≤ t → t < 8 * bitRoomOf s n → bitAt new t ≡ 0
@@ -59,6 +59,6 @@ pub record FormsAgree : Type 0 where
   pub marks : (s : Settings) (n : ℕ) (claims old bitOld : List ℕ) → Answered (checkedOf s n claims (length old))
       → Answered (bitCheckedOf s n claims (length bitOld)) → (t : ℕ) → t < roomOf s n
       → bitAt (bitScratchOf s n claims bitOld) t ≡ getD (scratchOf s n claims old) t 0
-  -- the scratch is an eighth, rounded up to whole bytes: at most 151 bytes, where the byte form asks for at most 1,206
+  -- the scratch is an eighth, rounded up to whole bytes: at most 151 bytes, where the byte form asks for at most 1,207
   pub eighth : (s : Settings) (n : ℕ) → (roomOf s n ≤ 8 * bitRoomOf s n) × (8 * bitRoomOf s n < roomOf s n + 8)
-  pub most : (s : Settings) (n : ℕ) → windowRefusal s n ≡ 0 → (roomOf s n ≤ 1206) × (bitRoomOf s n ≤ 151)
+  pub most : (s : Settings) (n : ℕ) → windowRefusal s n ≡ 0 → (roomOf s n ≤ 1207) × (bitRoomOf s n ≤ 151)

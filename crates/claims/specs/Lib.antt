@@ -4,3 +4,4 @@ pub mod Clean
 pub mod First
 pub mod Forms
 pub mod Marking
+pub mod OnPorts

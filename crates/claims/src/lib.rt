@@ -1,5 +1,6 @@
-// Claims of a cell (document 01): which claim is the first that equals an earlier one. The scratch has a byte for each resource
-// here, a bit for each in bits.rt (document 02, U6).
+// Claims of a cell (document 01): which claim is the first that clashes with an earlier one. With one antenna port that is one that
+// equals it, with two one that shares a resource with it (document 02, U9). The scratch has a byte for each resource here, a bit for
+// each in bits.rt (U6).
 mod bits;
 
 pub use bits::claims_in_bits;
@@ -12,20 +13,22 @@ ghost use Rattle.frame.specs.Settings.{windowRefusal};
 ghost use Rattle.claims.specs.Claims.{roomOf, isBad, firstBad, firstClash, markedUpTo, checkedOf, scratchOf};
 ghost use Rattle.claims.specs.Marking.{windowIn, AcceptedWindow, Ready, Offset};
 
-// The answer: clean; the index of the first claim equal to an earlier one; or a refusal's number with an index, that of the first
-// bad claim for 16, else 0.
+// The answer: clean; the index of the first claim that clashes with an earlier one; or a refusal's number with an index, that of the
+// first bad claim for 16, else 0.
 pub enum Checked {
     Clean,
     Clash(usize),
     Refused(u16, usize),
 }
 
-// The window that the claims are for: the settings, the uplink subframe n, M, N_4, and how many marks there are.
+// The window that the claims are for: the settings, the uplink subframe n, M, N_4, how far above its first resource a claim's second
+// one is, 1 with two antenna ports and 0 with one, where it is the first, and how many marks there are.
 struct ClaimedWindow {
     s: Settings,
     n: u16,
     size: u16,
     top: u16,
+    more: usize,
     marks: usize,
 }
 
@@ -56,19 +59,21 @@ pub fn claims_of(s: Settings, n: u16, claims: &[u16], scratch: &mut [u8]) -> Che
     Checked::Clean
 }
 
-// The window of uplink subframe n, with a mark for each of its resources.
+// The window of uplink subframe n, with a mark for each resource that a claim may have.
 fn window_in(s: Settings, n: u16) -> ClaimedWindow
     requires { ⌜ windowRefusal s n ≡ 0 ⌝ }
     ensures { λ w. ⌜ w ≡ windowIn s n ⌝ }
 {
     let size = frame::size_of(s.config, n);
     let top = resource::cces_of(s.nrb);
-    let marks = (size * top) as usize;
+    let more = frame::has_second_port(s) as usize;
+    let marks = (size * top) as usize + more;
     ClaimedWindow {
         s,
         n,
         size,
         top,
+        more,
         marks,
     }
 }
@@ -112,7 +117,8 @@ fn clear(bytes: &mut [u8])
     }
 }
 
-// The offset of a claim, its resource less N1; 0 for a claim without a resource, so that no claim has an offset past the marks.
+// The offset of a claim, its first resource less N1; 0 for a claim without one. It is below M × N_4 whatever the claim, so that the
+// offset of the second resource is inside the marks too.
 fn offset_of(w: ClaimedWindow, claim: u16) -> usize
     requires { ⌜ AcceptedWindow w ⌝ }
     ensures { λ t. ⌜ Offset (w .s) (w .n) claim t ⌝ }
@@ -126,7 +132,7 @@ fn offset_of(w: ClaimedWindow, claim: u16) -> usize
 }
 
 // Marks the claims in a cleared scratch up to the first clash, and answers its index; the length of the list where there is none.
-// Each claim is read once.
+// Each claim is read once. Both its places are looked at before either is written; with one port they are the same.
 fn mark(w: ClaimedWindow, claims: &[u16], scratch: &mut [u8]) -> usize
     requires { ⌜ Ready w (now claims) (roomOf (w .s) (w .n)) (now scratch) ⌝ }
     ensures { λ r. ⌜ r ≡ firstClash (w .s) (w .n) (now (claims .entry)) ⌝ }
@@ -136,10 +142,15 @@ fn mark(w: ClaimedWindow, claims: &[u16], scratch: &mut [u8]) -> usize
     while i < claims.len() {
         let claim = claims[i];
         let t = offset_of(w, claim);
+        let u = t + w.more;
         if scratch[t] != 0 {
             return i;
         }
+        if scratch[u] != 0 {
+            return i;
+        }
         scratch[t] = 1;
+        scratch[u] = 1;
         i += 1;
     }
     i

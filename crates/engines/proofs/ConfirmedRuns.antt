@@ -97,7 +97,7 @@ abbrev sentByThree : Positions
 sentByThree = sentThere (sharedByThree .set) (sending (sharedByThree .sends)) 12
 
 three-replied : Replied feedbackEngine (sharedByThree .set) (sending (sharedByThree .sends)) (sharedByThree .items) 12
-    (record { kind = 2; resource = record { 0 = 26 }; b0 = 1; b1 = 0 })
+    (record { kind = 2; resource = record { 0 = 26 }; b0 = 1; b1 = 0; second = record { 0 = 0 } })
 unfolding handsets
 three-replied =
     record {

@@ -2,8 +2,10 @@ pub mod ChangedRuns
 pub mod Computing
 pub mod ConfirmedRuns
 pub mod Finite
+pub mod PortRuns
 pub mod Worked
 pub mod WrongChanges
 pub mod WrongEngines
 pub mod WrongHandsets
+pub mod WrongPorts
 pub mod WrongStations

@@ -1,5 +1,6 @@
 -- Runs that meet the hypotheses of demand 3, each with every answer and with the station's reading of every reply: the theorem is
--- about something. Those with changes of mode are in ChangedRuns.antt. N_RB 50, N1 10; the scheduled resource, where one is set, is 7.
+-- about something. Those with changes of mode are in ChangedRuns.antt, those of two antenna ports in PortRuns.antt. N_RB 50, N1 10; the
+-- scheduled resource, where one is set, is 7.
 -- The prefix is normal and the special configuration 7, which allows data, but in the cells that are named short.
 -- Assumes nothing.
 use Prim.Native.Nat.{ℕ, suc, zero, _+_, _<_}
@@ -31,13 +32,13 @@ use Rattle.engines.proofs.Computing.{handsets, stations}
 use Rattle.engines.proofs.Finite.{sending, scheduleTest, feedsTest, scheduled, brought}
 use Rattle.agreement.proofs.SameModes.{AllFeeds, made-settings}
 
--- a cell of so many blocks, with this scheduled resource, prefix and special configuration
-abbrev cellOf : ℕ → ℕ → ℕ → ℕ → ℕ → ℕ → Settings
-cellOf blocks scheduled prefix special config mode =
-    record { config = config; nrb = 50; n1 = 10; mode = mode; blocks = blocks; scheduled = scheduled; prefix = prefix; special = special }
+-- a cell of so many ports and blocks, with this scheduled resource, prefix and special configuration
+abbrev cellOf : ℕ → ℕ → ℕ → ℕ → ℕ → ℕ → ℕ → Settings
+cellOf ports blocks scheduled prefix special config mode =
+    record { config = config; nrb = 50; n1 = 10; mode = mode; blocks = blocks; scheduled = scheduled; prefix = prefix; special = special; ports = ports }
 
 abbrev cellWith : ℕ → ℕ → ℕ → ℕ → Settings
-cellWith blocks scheduled = cellOf blocks scheduled 0 7
+cellWith blocks scheduled = cellOf 1 blocks scheduled 0 7
 
 -- a cell of one block and one of two, with no scheduled resource
 abbrev pub cell : ℕ → ℕ → Settings
@@ -55,10 +56,14 @@ scheduledTwoBlockCell = cellWith 2 7
 
 -- the same whose special subframes are too short for data: special configuration 0 with the normal prefix, 4 with the extended one
 abbrev pub shortCell : ℕ → ℕ → Settings
-shortCell = cellOf 1 7 0 0
+shortCell = cellOf 1 1 7 0 0
 
 abbrev pub shortExtendedCell : ℕ → ℕ → Settings
-shortExtendedCell = cellOf 1 7 1 4
+shortExtendedCell = cellOf 1 1 7 1 4
+
+-- one of two antenna ports, which has mode 0 and no scheduled resource, of so many blocks
+abbrev pub twoPortCell : ℕ → ℕ → Settings
+twoPortCell blocks config = cellOf 2 blocks noResource 0 7 config 0
 
 -- n times x, then the rest of a list
 abbrev pub times : {A : Type 0} → ℕ → A → List A → List A
@@ -103,8 +108,15 @@ hearsRelease c d = feed (Released (record { cce = record { 0 = c }; dai = d }))
 
 -- a reply, and its reading: kind, resource and bits; as a PDCCH its position and first CCE, as a scheduled block its position, with
 -- the bits or the set of delivered positions
+abbrev replyWith : ℕ → ℕ → ℕ → ℕ → ℕ → Answer
+replyWith kind r b0 b1 second = answer.Sent (record { kind = kind; resource = record { 0 = r }; b0 = b0; b1 = b1; second = record { 0 = second } })
+
 abbrev pub reply : ℕ → ℕ → ℕ → ℕ → Answer
-reply kind r b0 b1 = answer.Sent (record { kind = kind; resource = record { 0 = r }; b0 = b0; b1 = b1 })
+reply kind r b0 b1 = replyWith kind r b0 b1 0
+
+-- a bundled reply on two antenna ports: both resources
+abbrev pub replyOnBoth : ℕ → ℕ → ℕ → ℕ → Answer
+replyOnBoth r second b0 b1 = replyWith 1 r b0 b1 second
 
 abbrev pub bundledRead : ℕ → ℕ → ℕ → ℕ → Reading
 bundledRead m c b0 b1 = reading.Bundled (place.Pdcch m (record { 0 = c })) b0 b1
@@ -173,7 +185,7 @@ worked-changed r good s b e f =
     }
 
 -- Without changes of mode every reply is read in the run's own settings.
-worked : (r : Run) → settingsRefusal (r .set) ≡ 0 → T (scheduleTest (r .set) (r .sends)) → T (feedsTest (r .set) (r .sends) (r .items))
+pub worked : (r : Run) → settingsRefusal (r .set) ≡ 0 → T (scheduleTest (r .set) (r .sends)) → T (feedsTest (r .set) (r .sends) (r .items))
     → ourAnswers r ≡ r .answers → AllFeeds (r .items) → readingsFrom (λ (s : ℕ). r .set) (sending (r .sends)) 0 (r .answers) ≡ r .readings → Worked r
 worked r good s b e feeds f =
     worked-changed r good s b e
@@ -473,7 +485,7 @@ symbol-shared-by-three = worked sharedByThree refl tt tt refl tt refl
 
 -- Scheduled blocks and releases (document 02, U1). Most of these runs are in configuration 2, where the window of subframe 12 is 4,
 -- 5, 8 and 6; nothing is sent before it, so that it alone is answered.
-abbrev answersInTwo : Answer → List Answer
+abbrev pub answersInTwo : Answer → List Answer
 answersInTwo last = times 2 answer.Taken (answer.Silent ∷ times 4 answer.Taken (answer.Silent ∷ times 4 answer.Taken (last ∷ [])))
 
 -- Bundled.

@@ -137,7 +137,7 @@ not-keeps-refused d =
     omega (arith, ap (λ (h : Handset). h .settings .mode) l)
 
 -- What a change answers, where another number stands for ours.
-abbrev saysInstead : (ℕ → ℕ) → Handset → ℕ → Changed
+abbrev pub saysInstead : (ℕ → ℕ) → Handset → ℕ → Changed
 saysInstead number h m = record { refusal = number (changeOf h m .refusal); handset = changeOf h m .handset }
 
 -- 5 is not answered: a change to mode 1 in configuration 5 leaves the handset and answers 0.

@@ -1,7 +1,8 @@
 -- What the statement shuts out, field by field. For each field that an engine can break there is the engine of this repository with
 -- one fault, and a proof that the statement does not hold of it. The proof asks the statement for this field, and for those that
 -- settle the witnesses it speaks of; without the field it no longer checks. The handsets are in WrongHandsets.antt, those that go wrong
--- where the mode changes in WrongChanges.antt, the stations in WrongStations.antt; here is what all use.
+-- where the mode changes in WrongChanges.antt, those with their antenna ports in WrongPorts.antt, the stations in WrongStations.antt; here
+-- is what all use.
 --
 -- Demand3
 --   byFormula       all ends number the dynamic resources from the top of the range down   not-top-down
@@ -35,7 +36,10 @@
 --   changedExactly  5 is not known                                                         not-accepts-five
 --                   5 for 4                                                                not-five-for-four
 --                   8 while something heard is remembered                                  not-refuses-open
+--                   24 is not known                                                        not-accepts-twenty-four
+--                   24 before 5                                                            not-twenty-four-first
 --   changeLeaves    a refused change is kept                                               not-keeps-refused
+--                   one that is refused 24 is kept                                         not-keeps-twenty-four
 --   bundled, multiplexed: the mode of a window
 --                   every window in the mode that stands                                   not-in-standing
 --                   in the mode of k_0                                                     not-in-first-printed
@@ -75,6 +79,10 @@
 --                   NACK though all are decoded: the bits exchanged                        not-exchanged-second
 --   bits            the second bit set in a cell of one block                              not-second-set
 --                   the first block's NACK goes out as 2, the second's ACK                 not-nack-as-two, not-ack-as-two
+--   ports           with two ports the second is two above the first                       not-two-above
+--                       both are on one resource                                           not-on-first-twice
+--                       the second is silent                                               not-first-alone
+--                   with one port a second resource is named                               not-always-two
 -- MultiplexedReply
 --   kind            a multiplexed reply goes out as a bundled one                          not-other-kind-multiplexed
 --   isSymbol        the bits exchanged: another row's symbol                               not-exchanged-symbol
@@ -91,6 +99,7 @@
 --   exactly         the station marks no position delivered                                not-delivers-nothing
 --                   it marks those that are A in one of the symbol's rows                  not-delivers-one-row
 --   noOther         it marks a position beyond the window                                  not-delivers-beyond
+--   onePort         a second resource is named                                             not-always-two-multiplexed
 --
 -- The other fields no engine can break: `exactlyOne` speaks of the table of windows alone; `index`, `named` and `delivered` are
 -- witnesses, which `isSymbol`, `isHeard` and `isRead` settle; `onto` of the one-to-one map follows from `into` and `back`, which give
@@ -191,10 +200,10 @@ replyingIn kind sent = replying (λ (r : Reply). cond (eqb (r .kind) kind) (sent
 
 -- a reply on another resource, and one with other bits
 abbrev pub sentOn : Reply → ℕ → Answer
-sentOn r number = answer.Sent (record { kind = r .kind; resource = record { 0 = number }; b0 = r .b0; b1 = r .b1 })
+sentOn r number = answer.Sent (record { kind = r .kind; resource = record { 0 = number }; b0 = r .b0; b1 = r .b1; second = r .second })
 
 abbrev pub withBits : Reply → ℕ → ℕ → Answer
-withBits r b0 b1 = answer.Sent (record { kind = r .kind; resource = r .resource; b0 = b0; b1 = b1 })
+withBits r b0 b1 = answer.Sent (record { kind = r .kind; resource = r .resource; b0 = b0; b1 = b1; second = r .second })
 
 -- An answer by a number: two answers with different numbers are not the same.
 abbrev answerNumber : Answer → ℕ

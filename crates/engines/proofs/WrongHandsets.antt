@@ -411,7 +411,7 @@ not-first-only d =
 
 -- A bundled reply goes out as a multiplexed one, and the reverse.
 abbrev pub otherKind : Answer → Answer
-otherKind = replying (λ (r : Reply). answer.Sent (record { kind = 3 - r .kind; resource = r .resource; b0 = r .b0; b1 = r .b1 }))
+otherKind = replying (λ (r : Reply). answer.Sent (record { kind = 3 - r .kind; resource = r .resource; b0 = r .b0; b1 = r .b1; second = r .second }))
 
 pub not-other-kind : Demand3 (answersBy otherKind) → ⊥
 unfolding schedules
@@ -565,12 +565,12 @@ not-ack-as-two d =
 
 -- The right bits go out on another resource than that of the PDCCH with position m and first CCE c; a reply on the scheduled resource
 -- goes out as it is.
-abbrev movedTo : (ℕ → ℕ → Mapped) → Reply → Inverted → Answer
-movedTo other r (inverted.At m c) = replyOn (r .kind) (other m (c .0)) (r .b0) (r .b1)
-movedTo other r (inverted.Refused k) = answer.Sent r
+abbrev movedTo : Settings → (ℕ → ℕ → Mapped) → Reply → Inverted → Answer
+movedTo s other r (inverted.At m c) = replyOn s (r .kind) (other m (c .0)) (r .b0) (r .b1)
+movedTo s other r (inverted.Refused k) = answer.Sent r
 
 abbrev moved : (Handset → ℕ → ℕ → Mapped) → Handset → Reply → Answer
-moved other h r = movedTo (other h) r (inverseOf (h .settings) (h .next) (r .resource .0))
+moved other h r = movedTo (h .settings) (other h) r (inverseOf (h .settings) (h .next) (r .resource .0))
 
 -- On that of the first heard PDCCH.
 abbrev firstSeen : Handset → Seen

@@ -22,7 +22,8 @@ use resource::Resource;
 use spelling::Written;
 ghost use mathlib.Core.Path.{_≡_};
 ghost use Rattle.frame.specs.Distance.{answeredOf};
-ghost use Rattle.resource.specs.Calls.{resourceOf, inverseOf};
+ghost use Rattle.resource.specs.Calls.{inverseOf};
+ghost use Rattle.resource.specs.Ports.{portsOf};
 ghost use Rattle.station.specs.Readings.{readOf};
 ghost use Rattle.claims.specs.Bits.{bitCheckedOf, bitScratchOf};
 ghost use Rattle.claims.specs.Claims.{checkedOf, scratchOf};
@@ -38,10 +39,10 @@ ghost use Rattle.spelling.specs.Writing.{writeOf, spelledInto};
 
 // The number of the structs' layout, which the name carries too: a program that was compiled for another layout does not link.
 #[no_mangle]
-pub extern "C" fn feedback_layout_4() -> u16
-    ensures { λ r. ⌜ r ≡ 4 ⌝ }
+pub extern "C" fn feedback_layout_5() -> u16
+    ensures { λ r. ⌜ r ≡ 5 ⌝ }
 {
-    4
+    5
 }
 
 #[no_mangle]
@@ -82,9 +83,9 @@ pub extern "C" fn feedback_resource(
     position: u16,
     cce: u16,
 ) -> ResourceAnswer
-    ensures { λ r. ⌜ r ≡ resourceAnswer (resourceOf settings n position cce) ⌝ }
+    ensures { λ r. ⌜ r ≡ resourceAnswer (portsOf settings n position cce) ⌝ }
 {
-    numbers::resource_numbers(resource::resource_of(settings, n, position, Cce::new(cce)))
+    numbers::resource_numbers(resource::ports_of(settings, n, position, Cce::new(cce)))
 }
 
 #[no_mangle]

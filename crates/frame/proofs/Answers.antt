@@ -27,7 +27,7 @@ module _ (s : Settings) (d k : ℕ) (asked : k ≡ settingsRefusal s) (none : k 
   unfolding answeredRefusal noDownlinkRefusal
   at-other e = refused-next k _ 7 _ asked none (rw e)
 
--- Where 1 to 7, 17 and 19 are not met, d is downlink.
+-- Where 1 to 7, 17, 19 and 24 are not met, d is downlink.
 pub answered-downlink : (s : Settings) (d : ℕ) → answeredRefusal s d ≡ 0 → downlink (s .config) d ≡ true
 unfolding answeredRefusal noDownlinkRefusal
 answered-downlink s d e =

@@ -10,6 +10,7 @@ pub mod Earliest
 pub mod Hex
 pub mod Layouts
 pub mod Lists
+pub mod OnePort
 pub mod Orders
 pub mod Padded
 pub mod Shares

@@ -1,5 +1,5 @@
--- Settings and their refusals: document 01, "Settings" and "Causes and their numbers", 1 to 7; document 02, U1, 17, U2, 19,
--- and U8.
+-- Settings and their refusals: document 01, "Settings" and "Causes and their numbers", 1 to 7; document 02, U1, 17, U2, 19, U8,
+-- and U9, 24.
 -- Assumes nothing.
 use Prim.Native.Nat.{ℕ, suc}
 use mathlib.Core.Bool.{Bool, cond, not, _&&_, _||_}
@@ -42,13 +42,30 @@ hasScheduled s = not (eqb (s .scheduled) noResource)
 unfoldable pub scheduledRefusal : Settings → ℕ
 scheduledRefusal s = cond (hasScheduled s && not (ltb (s .scheduled) (s .n1))) 17 0
 
--- What later papers add to the settings ("A later paper may add settings"), after 6: 17, then 19.
+-- There are two antenna ports: "a new setting says two".
+unfoldable pub hasSecondPort : Settings → Bool
+hasSecondPort s = eqb (s .ports) 2
+
+-- 24: "two ports with mode 1 (a mode change included)".
+unfoldable pub portsModeRefusal : Settings → ℕ
+portsModeRefusal s = cond (eqb (s .mode) 1 && hasSecondPort s) 24 0
+
+-- 24: "a port count not 1 or 2, or two ports with mode 1 .. or with a scheduled resource".
+unfoldable pub portsRefusal : Settings → ℕ
+portsRefusal s = cond (outside 1 2 (s .ports) || (hasSecondPort s && hasScheduled s)) 24 (portsModeRefusal s)
+
+-- What later papers add to the settings ("A later paper may add settings"), after 6: 17, then 19, then 24.
 unfoldable pub laterRefusal : Settings → ℕ
-laterRefusal s = orElse (scheduledRefusal s) (specialRefusal s)
+laterRefusal s = orElse (scheduledRefusal s) (orElse (specialRefusal s) (portsRefusal s))
 
 -- Refusals 1 to 6, lowest number first, then those of later papers; 0 if the settings are accepted.
 unfoldable pub settingsRefusal : Settings → ℕ
 settingsRefusal s = orElse (cellRefusal s) (orElse (modeRefusal s) (orElse (blocksRefusal s) (laterRefusal s)))
+
+-- What a change to the settings' mode is refused for, its other settings being accepted: 4 and 5, then 24 where there are two ports
+-- (document 02, U8 and U9).
+unfoldable pub newModeRefusal : Settings → ℕ
+newModeRefusal s = orElse (modeRefusal s) (portsModeRefusal s)
 
 -- The same settings in another mode: what a change of mode makes of them, and those in which one window is answered and read
 -- (document 02, U8).
@@ -63,6 +80,7 @@ inMode s m =
       scheduled = s .scheduled;
       prefix = s .prefix;
       special = s .special;
+      ports = s .ports;
     }
 
 -- 7: subframe over 9 or without a window, that is M = 0.

@@ -8,7 +8,7 @@ use crate::table::position_of;
 ghost use mathlib.Core.Path.{_≡_};
 ghost use Rattle.frame.specs.Distance.{answeredRefusal, answeredOf, shares};
 
-// The first of refusals 1 to 6, 17 and 19 that the settings meet, then 7 for a subframe d that is not downlink; 0 if d has an answer.
+// The first of refusals 1 to 6, 17, 19 and 24 that the settings meet, then 7 for a subframe d that is not downlink; 0 if d has an answer.
 fn answered_refusal(s: Settings, d: u16) -> u16
     ensures { λ r. ⌜ r ≡ answeredRefusal s d ⌝ }
 {

@@ -8,9 +8,10 @@ mod table;
 pub use answering::answered_of;
 pub use answering::shares_window;
 pub use refusals::has_scheduled;
+pub use refusals::has_second_port;
 pub use refusals::in_mode;
 pub use refusals::is_bundled;
-pub use refusals::mode_refusal;
+pub use refusals::new_mode_refusal;
 pub use refusals::settings_refusal;
 pub use refusals::window_refusal;
 pub use special::is_too_short;
@@ -24,7 +25,7 @@ pub use table::window_of;
 // uplink-downlink configuration, `nrb` is N_RB, `n1` is N1 (36.213's N_PUCCH^(1)), `mode` is 0 for bundling and 1 for multiplexing,
 // `blocks` is the most transport blocks that a grant or a scheduled block carries. `scheduled` is the resource configured for
 // scheduled blocks (document 02, U1), 65535 where none is set. `prefix` is 0 for the normal cyclic prefix and 1 for the extended one,
-// `special` is the special subframe configuration (U2).
+// `special` is the special subframe configuration (U2). `ports` is the number of antenna ports on which the handset sends (U9).
 #[repr(C)]
 pub struct Settings {
     pub config: u16,
@@ -35,6 +36,7 @@ pub struct Settings {
     pub scheduled: u16,
     pub prefix: u16,
     pub special: u16,
+    pub ports: u16,
 }
 
 // The window of an uplink subframe: M, then K in the print's order, and its positions in time order, earliest first. Zeros stand

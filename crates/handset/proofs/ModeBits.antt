@@ -10,7 +10,7 @@ use native.Mathlib.Omega.{arith}
 use lib.Dec.{T, eqb, eqb→eq}
 use borrow.Author.Tests.{eqb-true, eq-eqb, ne-eqb}
 use Rattle.frame.specs.declared.Settings.{Settings}
-use Rattle.frame.specs.Settings.{modeRefusal, inMode}
+use Rattle.frame.specs.Settings.{newModeRefusal, inMode}
 use Rattle.frame.proofs.Accepted.{zero-allowed}
 use Rattle.frame.proofs.Below.{below, below-at}
 use Rattle.frame.proofs.Bits.{half-bit, bit-of-low, low-none, none-low}
@@ -54,15 +54,15 @@ module _ (s : Settings) (modes : ℕ) where
   unfolding modesSound
   sound-fits e k least most = go (ℕ-discrete (modes % 8192) 0)
     where
-      allowed : (modes % 8192 ≡ 0 → ⊥) → modeRefusal (inMode s 1) ≡ 0
-      allowed some = eqb-true (modeRefusal (inMode s 1)) 0 (rw (ne-eqb (modes % 8192) 0 some) at e)
+      allowed : (modes % 8192 ≡ 0 → ⊥) → newModeRefusal (inMode s 1) ≡ 0
+      allowed some = eqb-true (newModeRefusal (inMode s 1)) 0 (rw (ne-eqb (modes % 8192) 0 some) at e)
 
-      one : (modes % 8192 ≡ 0 → ⊥) → (m : ℕ) → m ≤ 1 → modeRefusal (inMode s m) ≡ 0
+      one : (modes % 8192 ≡ 0 → ⊥) → (m : ℕ) → m ≤ 1 → newModeRefusal (inMode s m) ≡ 0
       one some zero small = zero-allowed s
       one some (suc zero) small = allowed some
       one some (suc (suc m)) small = absurd (omega arith)
 
-      go : Dec (modes % 8192 ≡ 0) → modeRefusal (inMode s (modeAgo modes k)) ≡ 0
+      go : Dec (modes % 8192 ≡ 0) → newModeRefusal (inMode s (modeAgo modes k)) ≡ 0
       go (yes none) =
           let same : suc (k - 1) ≡ k = omega arith in
           let off : modeAgo modes k ≡ 0 = ap (modeAgo modes) (sym same) ∙ bit-ago modes (k - 1) ∙ low-none 13 modes none (k - 1) (omega arith) in
@@ -71,16 +71,16 @@ module _ (s : Settings) (modes : ℕ) where
 
   fits-sound : ModesFit s modes → modesSound s modes ≡ true
   unfolding modesSound
-  fits-sound fits = go (ℕ-discrete (modeRefusal (inMode s 1)) 0)
+  fits-sound fits = go (ℕ-discrete (newModeRefusal (inMode s 1)) 0)
     where
-      go : Dec (modeRefusal (inMode s 1) ≡ 0) → (eqb (modes % 8192) 0 || eqb (modeRefusal (inMode s 1)) 0) ≡ true
-      go (yes allowed) = rw (eq-eqb (modeRefusal (inMode s 1)) 0 allowed) (or-true (eqb (modes % 8192) 0))
+      go : Dec (newModeRefusal (inMode s 1) ≡ 0) → (eqb (modes % 8192) 0 || eqb (newModeRefusal (inMode s 1)) 0) ≡ true
+      go (yes allowed) = rw (eq-eqb (newModeRefusal (inMode s 1)) 0 allowed) (or-true (eqb (modes % 8192) 0))
       go (no refused) = rw (eq-eqb (modes % 8192) 0 (none-low 13 modes (λ b h. sym (bit-ago modes b) ∙ none (suc b) (omega arith) (omega arith))))
         where
           none : (k : ℕ) → 1 ≤ k → k ≤ 13 → modeAgo modes k ≡ 0
           none k least most = is (modeAgo modes k) (mode-ago-most modes k) (fits k least most)
             where
-              is : (m : ℕ) → m ≤ 1 → modeRefusal (inMode s m) ≡ 0 → m ≡ 0
+              is : (m : ℕ) → m ≤ 1 → newModeRefusal (inMode s m) ≡ 0 → m ≡ 0
               is zero small e = refl
               is (suc zero) small e = absurd (refused e)
               is (suc (suc m)) small e = absurd (omega arith)

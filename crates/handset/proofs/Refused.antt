@@ -5,7 +5,7 @@ use Prim.Native.Nat.{ℕ, zero, suc}
 use mathlib.Core.Path.{_≡_, refl}
 use borrow.Author.Tests.{ne-eqb}
 use Rattle.frame.specs.declared.Settings.{Settings}
-use Rattle.frame.specs.Settings.{orElse, cellRefusal, modeRefusal, settingsRefusal, inMode}
+use Rattle.frame.specs.Settings.{orElse, cellRefusal, newModeRefusal, settingsRefusal, inMode}
 use Rattle.reply.specs.declared.Answer.the-variants.{Refused}
 use Rattle.heard.specs.declared.Heard.{Heard}
 use Rattle.handset.specs.Change.{changeRefusal, changedAs, changeOf}
@@ -18,9 +18,9 @@ unfolding feedOf feedRefusal fresh stateRefusal stateSound settingsRefusal cellR
 feed-refused x = refl
 
 pub change-refused : (mode : ℕ) → changeOf (fresh noSettings) mode
-    ≡ record { refusal = orElse (modeRefusal (inMode noSettings mode)) 8; handset = fresh noSettings }
+    ≡ record { refusal = orElse (newModeRefusal (inMode noSettings mode)) 8; handset = fresh noSettings }
 unfolding changeOf changeRefusal fresh stateRefusal stateSound settingsRefusal cellRefusal
-change-refused mode = go (modeRefusal (inMode noSettings mode))
+change-refused mode = go (newModeRefusal (inMode noSettings mode))
   where
     go : (k : ℕ) → changedAs (orElse k 8) (fresh noSettings) mode ≡ record { refusal = orElse k 8; handset = fresh noSettings }
     go zero = refl

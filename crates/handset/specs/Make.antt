@@ -29,8 +29,8 @@ fresh s = record { settings = s; next = 0; modes = modesBefore (s .mode); past =
 -- Settings with every number 0, which refusal 2 refuses: what a handset beside a refusal has, so that every feed of it answers 8
 -- (proofs/Refused.antt).
 abbrev pub noSettings : Settings
-noSettings = record { config = 0; nrb = 0; n1 = 0; mode = 0; blocks = 0; scheduled = 0; prefix = 0; special = 0 }
+noSettings = record { config = 0; nrb = 0; n1 = 0; mode = 0; blocks = 0; scheduled = 0; prefix = 0; special = 0; ports = 0 }
 
--- Making: 1 to 6, 17 and 19, else a fresh handset.
+-- Making: 1 to 6, 17, 19 and 24, else a fresh handset.
 unfoldable pub makeOf : Settings → Made
 makeOf s = record { refusal = settingsRefusal s; handset = cond (eqb (settingsRefusal s) 0) (fresh s) (fresh noSettings) }

@@ -1,4 +1,4 @@
--- The modes that a handset remembers: document 02, U8. They stand in one number: bit i, counted from the lowest, which is 0, is the mode
+-- The modes that a handset remembers: document 02, U8 and U9. They stand in one number: bit i, counted from the lowest, which is 0, is the mode
 -- that stood when the subframe i + 1 ago was fed. There are 13, one for each remembered subframe; the bits above them have no meaning.
 -- Assumes nothing.
 use Prim.Native.Nat.{ℕ, _+_, _-_, _*_, _/_, _%_, _^_, _≤_}
@@ -7,7 +7,7 @@ use mathlib.Core.Path.{_≡_}
 use lib.Dec.{eqb}
 use Rattle.frame.specs.declared.Settings.{Settings}
 use Rattle.frame.specs.Earliest.{earliestK}
-use Rattle.frame.specs.Settings.{modeRefusal, inMode}
+use Rattle.frame.specs.Settings.{newModeRefusal, inMode}
 
 -- The mode that stood when the subframe k ago was fed, k from 1 to 13.
 unfoldable pub modeAgo : ℕ → ℕ → ℕ
@@ -21,13 +21,13 @@ modesBefore mode = cond (eqb mode 1) 8191 0
 abbrev pub modesPushed : ℕ → ℕ → ℕ
 modesPushed modes mode = modes % 4096 * 2 + mode
 
--- 8 covers the remembered modes: none of the 13 is 1, or the settings may have mode 1. That is: each is a mode that 4 and 5 allow
--- (ModesFit).
+-- 8 covers the remembered modes: none of the 13 is 1, or the settings may have mode 1. That is: each is a mode that 4, 5
+-- and 24 allow (ModesFit).
 unfoldable pub modesSound : Settings → ℕ → Bool
-modesSound s modes = eqb (modes % 8192) 0 || eqb (modeRefusal (inMode s 1)) 0
+modesSound s modes = eqb (modes % 8192) 0 || eqb (newModeRefusal (inMode s 1)) 0
 
 abbrev pub ModesFit : Settings → ℕ → Type 0
-ModesFit s modes = (k : ℕ) → 1 ≤ k → k ≤ 13 → modeRefusal (inMode s (modeAgo modes k)) ≡ 0
+ModesFit s modes = (k : ℕ) → 1 ≤ k → k ≤ 13 → newModeRefusal (inMode s (modeAgo modes k)) ≡ 0
 
 -- Settings in the mode of the window of subframe n: U8, "the mode that stood when its earliest downlink subframe was fed".
 abbrev pub inWindowMode : Settings → ℕ → ℕ → Settings

@@ -1,6 +1,6 @@
 -- Refusal 8: lent state fails 1 to 6, expects a subframe over 9, or remembers a grant failing 9 to 12 in the subframe it was fed in;
--- "so does one that breaks a rule on settings or grants added later": 17 and 19, 20, and 18 after what it remembers from before.
--- U8: a remembered mode that 4 or 5 would refuse breaks one too.
+-- "so does one that breaks a rule on settings or grants added later": 17, 19 and 24, 20, and 18 after what it remembers from before.
+-- U8 and U9: a remembered mode that 4, 5 or 24 would refuse breaks one too.
 -- Assumes nothing.
 use Prim.Native.Nat.{ℕ}
 use mathlib.Core.Bool.{Bool, true, cond, _&&_}

@@ -1,16 +1,16 @@
-// Changing the mode of a handset between feeds (document 02, U8; refusals 4, 5 and 8).
+// Changing the mode of a handset between feeds (document 02, U8; refusals 4, 5 and 8; U9, 24).
 use crate::Changed;
 use crate::Handset;
 use crate::state::state_refusal;
 ghost use mathlib.Core.Path.{_≡_};
 ghost use Rattle.handset.specs.Change.{changeRefusal, changeOf};
 
-// 4 and 5 for the new mode with the handset's other settings, then 8; 0 if the change is not refused.
+// 4, 5 and 24 for the new mode with the handset's other settings, then 8; 0 if the change is not refused.
 fn change_refusal(h: Handset, mode: u16) -> u16
     ensures { λ r. ⌜ r ≡ changeRefusal h mode ⌝ }
 {
     let s = h.settings;
-    let new = frame::mode_refusal(frame::in_mode(s, mode));
+    let new = frame::new_mode_refusal(frame::in_mode(s, mode));
     if new != 0 {
         return new;
     }

@@ -13,7 +13,7 @@ use heard::Slot;
 pub use making::make;
 use reply::Answer;
 
-// The handset's state, 72 bytes: its settings, the subframe it expects, and for the last 13 subframes, newest first, the mode that
+// The handset's state, 74 bytes: its settings, the subframe it expects, and for the last 13 subframes, newest first, the mode that
 // stood when each was fed, a bit each from the lowest on, and what it heard.
 #[repr(C)]
 pub struct Handset {

@@ -1,4 +1,4 @@
-// Making a handset from settings (document 01, "The running handset"; refusals 1 to 6, 17 and 19).
+// Making a handset from settings (document 01, "The running handset"; refusals 1 to 6, 17, 19 and 24).
 use crate::Handset;
 use crate::Made;
 use crate::modes::modes_before;
@@ -27,7 +27,7 @@ fn fresh_of(settings: Settings) -> Handset
     }
 }
 
-// A fresh handset, or the first of refusals 1 to 6, 17 and 19 that the settings meet, with a handset that every feed refuses.
+// A fresh handset, or the first of refusals 1 to 6, 17, 19 and 24 that the settings meet, with a handset that every feed refuses.
 pub fn make(s: Settings) -> Made
     ensures { λ r. ⌜ r ≡ makeOf s ⌝ }
 {
@@ -42,6 +42,7 @@ pub fn make(s: Settings) -> Made
             scheduled: 0,
             prefix: 0,
             special: 0,
+            ports: 0,
         };
         let handset = fresh_of(refused);
         return Made { refusal, handset };

@@ -29,7 +29,7 @@ pub fn modes_before(mode: u16) -> u16
 pub fn modes_sound(s: Settings, modes: u16) -> bool
     ensures { λ r. ⌜ r ≡ modesSound s modes ⌝ }
 {
-    let multiplexing = frame::mode_refusal(frame::in_mode(s, 1));
+    let multiplexing = frame::new_mode_refusal(frame::in_mode(s, 1));
     (modes % 8192 == 0) | (multiplexing == 0)
 }
 

@@ -1,5 +1,5 @@
-// Refusal 8: what a lent state must be (document 01, "Causes and their numbers"; document 02, U1, U2 and
-// U8).
+// Refusal 8: what a lent state must be (document 01, "Causes and their numbers"; document 02, U1, U2, U8 and
+// U9).
 use crate::Handset;
 use crate::modes::modes_sound;
 use frame::Settings;
@@ -63,7 +63,7 @@ fn all_sound(s: Settings, next: u16, past: [Slot; 13]) -> bool
     valid
 }
 
-// 8 where the state fails 1 to 6, 17 or 19, expects a subframe over 9, or remembers a mode that fails 5 or what fails 9 to 12, 18 or
+// 8 where the state fails 1 to 6, 17, 19 or 24, expects a subframe over 9, or remembers a mode that fails 5 or 24 or what fails 9 to 12, 18 or
 // 20; else 0.
 pub fn state_refusal(h: Handset) -> u16
     ensures { λ r. ⌜ r ≡ stateRefusal h ⌝ }

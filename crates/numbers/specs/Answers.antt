@@ -10,8 +10,8 @@ use Rattle.frame.specs.Coded.{padded}
 use Rattle.frame.specs.Order.{orderOf}
 use Rattle.frame.specs.Settings.{windowRefusal}
 use Rattle.frame.specs.Table.{windowOf}
-use Rattle.resource.specs.declared.Mapped.{Mapped}
-use Rattle.resource.specs.declared.Mapped.the-variants as mapped
+use Rattle.resource.specs.declared.PortsMapped.{PortsMapped}
+use Rattle.resource.specs.declared.PortsMapped.the-variants as mapped
 use Rattle.resource.specs.declared.Inverted.{Inverted}
 use Rattle.resource.specs.declared.Inverted.the-variants as inverted
 use Rattle.station.specs.declared.Place.{Place}
@@ -50,9 +50,10 @@ windowAs (suc r) ks = record { refusal = suc r; size = 0; k = padded 9 []; order
 unfoldable pub windowAnswer : Settings → ℕ → WindowAnswer
 windowAnswer s n = windowAs (windowRefusal s n) (windowOf (s .config) n)
 
-abbrev pub resourceAnswer : Mapped → ResourceAnswer
-resourceAnswer (mapped.At r) = record { refusal = 0; resource = r .0 }
-resourceAnswer (mapped.Refused k) = record { refusal = k; resource = 0 }
+-- Both antenna ports' resources; the second is 0 where there is one port.
+abbrev pub resourceAnswer : PortsMapped → ResourceAnswer
+resourceAnswer (mapped.At r second) = record { refusal = 0; resource = r .0; second = second .0 }
+resourceAnswer (mapped.Refused k) = record { refusal = k; resource = 0; second = 0 }
 
 abbrev pub inverseAnswer : Inverted → InverseAnswer
 inverseAnswer (inverted.At m c) = record { refusal = 0; position = m; cce = c .0 }
@@ -81,14 +82,14 @@ claimsAnswer (checked.Clash i) = record { refusal = 0; kind = claimsClash; index
 claimsAnswer (checked.Refused k i) = record { refusal = k; kind = claimsRefused; index = i }
 
 abbrev pub noReply : ℕ → ℕ → Handset → FedAnswer
-noReply refusal kind h = record { refusal = refusal; kind = kind; resource = 0; b0 = 0; b1 = 0; handset = h }
+noReply refusal kind h = record { refusal = refusal; kind = kind; resource = 0; b0 = 0; b1 = 0; second = 0; handset = h }
 
 abbrev pub answerNumbers : Answer → Handset → FedAnswer
 answerNumbers answer.Taken h = noReply 0 kindTaken h
 answerNumbers answer.NoWindow h = noReply 0 kindNoWindow h
 answerNumbers answer.Silent h = noReply 0 kindSilent h
 answerNumbers (answer.Sent r) h =
-    record { refusal = 0; kind = r .kind; resource = r .resource .0; b0 = r .b0; b1 = r .b1; handset = h }
+    record { refusal = 0; kind = r .kind; resource = r .resource .0; b0 = r .b0; b1 = r .b1; second = r .second .0; handset = h }
 answerNumbers (answer.Refused k) h = noReply k kindRefused h
 
 abbrev pub fedAnswer : Fed → FedAnswer

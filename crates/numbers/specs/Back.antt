@@ -12,9 +12,11 @@ use Rattle.frame.specs.declared.Settings.{Settings}
 use Rattle.frame.specs.Order.{orderOf}
 use Rattle.frame.specs.Settings.{windowRefusal}
 use Rattle.frame.specs.Table.{windowOf}
-use Rattle.resource.specs.declared.Mapped.{Mapped}
+use Rattle.resource.specs.declared.PortsMapped.{PortsMapped}
+use Rattle.resource.specs.declared.PortsMapped.the-variants as mapped
 use Rattle.resource.specs.declared.Inverted.{Inverted}
-use Rattle.resource.specs.Calls.{mappedAs, invertedAs, resourceOf, inverseOf}
+use Rattle.resource.specs.Calls.{invertedAs, inverseOf}
+use Rattle.resource.specs.Ports.{portsOf}
 use Rattle.station.specs.declared.Place.{Place}
 use Rattle.station.specs.declared.Place.the-variants as place
 use Rattle.station.specs.declared.Reading.{Reading}
@@ -62,8 +64,12 @@ toldWindow s n = toldAs (windowRefusal s n) (windowOf (s .config) n) (orderOf (w
 abbrev pub windowIn : WindowAnswer → ToldWindow
 windowIn a = toldAs (a .refusal) (take (a .size) (a .k)) (take (a .size) (a .order))
 
-abbrev pub mappedIn : ResourceAnswer → Mapped
-mappedIn a = mappedAs (a .refusal) (a .resource)
+abbrev pub mappedAs : ℕ → ℕ → ℕ → PortsMapped
+mappedAs zero r second = mapped.At (record { 0 = r }) (record { 0 = second })
+mappedAs (suc k) r second = mapped.Refused (suc k)
+
+abbrev pub mappedIn : ResourceAnswer → PortsMapped
+mappedIn a = mappedAs (a .refusal) (a .resource) (a .second)
 
 abbrev pub invertedIn : InverseAnswer → Inverted
 invertedIn a = invertedAs (a .refusal) (a .position) (a .cce)
@@ -98,7 +104,7 @@ answerIn a =
     (cond (eqb (a .kind) kindSilent) answer.Silent
     (cond (eqb (a .kind) kindTaken) answer.Taken
     (cond (eqb (a .kind) kindNoWindow) answer.NoWindow
-    (answer.Sent (record { kind = a .kind; resource = record { 0 = a .resource }; b0 = a .b0; b1 = a .b1 })))))
+    (answer.Sent (record { kind = a .kind; resource = record { 0 = a .resource }; b0 = a .b0; b1 = a .b1; second = record { 0 = a .second } })))))
 
 abbrev pub fedIn : FedAnswer → Fed
 fedIn a = record { answer = answerIn a; handset = a .handset }
@@ -113,7 +119,7 @@ recordIn a = recordAs (a .refusal) (cond (eqb (a .kind) recordEnd) traced.End (t
 -- Every answer of every call comes back from its numbers.
 pub record AnswersComeBack : Type 0 where
   pub window : (s : Settings) (n : ℕ) → windowIn (windowAnswer s n) ≡ toldWindow s n
-  pub resource : (s : Settings) (n m c : ℕ) → mappedIn (resourceAnswer (resourceOf s n m c)) ≡ resourceOf s n m c
+  pub resource : (s : Settings) (n m c : ℕ) → mappedIn (resourceAnswer (portsOf s n m c)) ≡ portsOf s n m c
   pub inverse : (s : Settings) (n r : ℕ) → invertedIn (inverseAnswer (inverseOf s n r)) ≡ inverseOf s n r
   pub reading : (s : Settings) (n : ℕ) (t : Told) (r b0 b1 : ℕ) → readingIn (readingAnswer (readOf s n t r b0 b1)) ≡ readOf s n t r b0 b1
   -- in both forms of the scratch, whichever room they ask for
@@ -128,7 +134,7 @@ Apart numbers x y = numbers x ≡ numbers y → x ≡ y
 
 pub record SameNumbers : Type 0 where
   pub window : (s t : Settings) (n n' : ℕ) → windowAnswer s n ≡ windowAnswer t n' → toldWindow s n ≡ toldWindow t n'
-  pub resource : (s t : Settings) (n m c n' m' c' : ℕ) → Apart resourceAnswer (resourceOf s n m c) (resourceOf t n' m' c')
+  pub resource : (s t : Settings) (n m c n' m' c' : ℕ) → Apart resourceAnswer (portsOf s n m c) (portsOf t n' m' c')
   pub inverse : (s t : Settings) (n r n' r' : ℕ) → Apart inverseAnswer (inverseOf s n r) (inverseOf t n' r')
   pub reading : (s s' : Settings) (n : ℕ) (t : Told) (r b0 b1 n' : ℕ) (t' : Told) (r' c0 c1 : ℕ) → Apart readingAnswer (readOf s n t r b0 b1) (readOf s' n' t' r' c0 c1)
   pub claims : (s t : Settings) (n n' : ℕ) (list list' : List ℕ) (room room' lent lent' : ℕ)

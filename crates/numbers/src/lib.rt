@@ -7,7 +7,7 @@ use heard::Slot;
 use reader::Record;
 use reply::Answer;
 use resource::Inverted;
-use resource::Mapped;
+use resource::PortsMapped;
 use station::Place;
 use station::Reading;
 use station::Told;
@@ -49,10 +49,12 @@ pub struct WindowAnswer {
     pub order: [u16; 9],
 }
 
+// `second` is the second antenna port's resource, 0 where there is one port.
 #[repr(C)]
 pub struct ResourceAnswer {
     pub refusal: u16,
     pub resource: u16,
+    pub second: u16,
 }
 
 #[repr(C)]
@@ -76,7 +78,7 @@ pub struct ReadingAnswer {
     pub scheduled: u16,
 }
 
-// Kind 1 is clean, 2 a clash with the index of the first claim equal to an earlier one; 0 where refused, and 16 has the index of the
+// Kind 1 is clean, 2 a clash with the index of the first claim that clashes with an earlier one; 0 where refused, and 16 has the index of the
 // first bad claim.
 #[repr(C)]
 pub struct ClaimsAnswer {
@@ -85,7 +87,8 @@ pub struct ClaimsAnswer {
     pub index: u64,
 }
 
-// Kind 1 is a bundled reply, 2 a multiplexed one, 3 silent, 4 taken, 5 no window; 0 where refused. `handset` is the handset after the feed.
+// Kind 1 is a bundled reply, 2 a multiplexed one, 3 silent, 4 taken, 5 no window; 0 where refused. `second` is the resource of a
+// reply's second antenna port, 0 where there is one port. `handset` is the handset after the feed.
 #[repr(C)]
 pub struct FedAnswer {
     pub refusal: u16,
@@ -93,6 +96,7 @@ pub struct FedAnswer {
     pub resource: u16,
     pub b0: u16,
     pub b1: u16,
+    pub second: u16,
     pub handset: Handset,
 }
 
@@ -104,17 +108,19 @@ pub struct RecordAnswer {
     pub slot: Slot,
 }
 
-pub fn resource_numbers(x: Mapped) -> ResourceAnswer
+pub fn resource_numbers(x: PortsMapped) -> ResourceAnswer
     ensures { λ r. ⌜ r ≡ resourceAnswer x ⌝ }
 {
     match x {
-        Mapped::At(r) => ResourceAnswer {
+        PortsMapped::At(r, next) => ResourceAnswer {
             refusal: 0,
             resource: r.number(),
+            second: next.number(),
         },
-        Mapped::Refused(k) => ResourceAnswer {
+        PortsMapped::Refused(k) => ResourceAnswer {
             refusal: k,
             resource: 0,
+            second: 0,
         },
     }
 }
@@ -225,6 +231,7 @@ fn no_reply(refusal: u16, kind: u16, handset: Handset) -> FedAnswer
         resource: 0,
         b0: 0,
         b1: 0,
+        second: 0,
         handset,
     }
 }
@@ -239,12 +246,14 @@ fn answer_numbers(x: Answer, handset: Handset) -> FedAnswer
         Answer::Refused(k) => no_reply(k, KIND_REFUSED, handset),
         Answer::Sent(r) => {
             let resource = r.resource;
+            let second = r.second;
             FedAnswer {
                 refusal: 0,
                 kind: r.kind,
                 resource: resource.number(),
                 b0: r.b0,
                 b1: r.b1,
+                second: second.number(),
                 handset,
             }
         }

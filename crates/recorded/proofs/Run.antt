@@ -12,7 +12,8 @@ use lib.ListN.{length, getD, take, drop}
 use lib.Seq.{take-at, drop-append-add}
 use borrow.Author.Tests.{eq-eqb, ne-eqb}
 use Rattle.frame.specs.declared.Settings.{Settings}
-use Rattle.frame.specs.Settings.{settingsRefusal}
+use Rattle.frame.specs.Settings.{portsRefusal, settingsRefusal}
+use Rattle.frame.proofs.OnePort.{ports-fine}
 use Rattle.counting.specs.Windows.{hasWindow, windowsBefore}
 use Rattle.counting.proofs.Frames.{windows-rise}
 use Rattle.heard.specs.declared.Heard.{Heard}
@@ -27,7 +28,7 @@ use Rattle.handset.specs.Change.{changeOf}
 use Rattle.handset.specs.Make.{makeOf}
 use Rattle.handset.proofs.Told.{never-refused}
 use Rattle.reader.specs.Record.{broughtAt}
-use Rattle.trace.specs.Trace.{headerOf, settingsOf}
+use Rattle.trace.specs.Trace.{headerOf, settingsAt, settingsOf}
 use Rattle.replaying.specs.Replay.{refusalIn, broughtIn, Played, after as behind, stopOr, played, playedIn, startRefusal, endedAs, replayOf, written, outputOf}
 use Rattle.replaying.specs.Written.{bytesOf}
 use Rattle.replaying.proofs.Feeds.{taken-up, grows}
@@ -356,6 +357,10 @@ module _ (l : List ℕ) (good : settingsRefusal (settingsOf l) ≡ 0) where
   unfolding runOf
   one-mode s = made-settings set (runOf l) (all-feeds (makeOf set .handset) (broughtIn l)) s
 
+  one-port : (settingsOf l .ports ≡ 1) × (portsRefusal (settingsOf l) ≡ 0)
+  unfolding settingsAt settingsOf
+  one-port = (refl, ports-fine (settingsOf l) refl)
+
   pub is-run : IsRun l
   unfolding broughtIn
   is-run =
@@ -370,5 +375,6 @@ module _ (l : List ℕ) (good : settingsRefusal (settingsOf l) ≡ 0) where
         output = λ old e. outputs old e ∙ ap (λ (b : List ℕ). written b old) printed;
         told = tells;
         mode = one-mode;
+        ports = one-port;
         holds = λ sent schedule brings. demand3 .run set good sent schedule (runOf l) brings;
       }

@@ -312,6 +312,7 @@ plain s =
       scheduled = s .scheduled;
       prefix = s .prefix;
       special = 0;
+      ports = s .ports;
     }
 
 abbrev withoutSpecial : List ℕ → List ℕ

@@ -7,6 +7,7 @@ use mathlib.Core.List.{List, [], _∷_, _++_}
 use mathlib.Core.Path.{_≡_}
 use lib.Dec.{eqb}
 use lib.ListN.{length, take, drop}
+use Rattle.frame.specs.Settings.{portsRefusal}
 use Rattle.counting.specs.Windows.{hasWindow, windowsBefore}
 use Rattle.confirmation.specs.declared.Send.{Send}
 use Rattle.heard.specs.declared.Heard.{Heard}
@@ -64,6 +65,8 @@ pub record IsRun (l : List ℕ) : Type 0 where
   pub told : (room : ℕ) → startRefusal l room ≡ 0 → replayOf l room ≡ endedAs (playedIn l)
   -- every window of it is answered and read in the mode of the trace's settings, since a trace has no changes of mode (U8)
   pub mode : (s : ℕ) → settingsIn (settingsOf l) (runOf l) s ≡ settingsOf l
+  -- it is a handset's of one antenna port, U9: "Replays and traces keep one port"; so that 24 is never met
+  pub ports : (settingsOf l .ports ≡ 1) × (portsRefusal (settingsOf l) ≡ 0)
   -- and demand 3 holds of it, for every schedule that its feeds bring
   pub holds : (sent : ℕ → Send) → Schedule (settingsOf l) sent → BringsSent (settingsOf l) sent (runOf l)
       → HoldsAfter feedbackEngine (settingsOf l) sent (runOf l)

@@ -55,16 +55,16 @@ pub second-small : (s : Settings) (seen : Seen) → secondBit s seen ≤ 1
 unfolding secondBit
 second-small s seen = either (λ (b : ℕ). b ≤ 1) (eqb (s .blocks) 2) _ _ (bit-small (seen .second)) (omega arith)
 
-reply-answered : (kind : ℕ) (x : Mapped) (b0 b1 : ℕ) → 1 ≤ kind → kind ≤ 2 → b0 ≤ 1 → b1 ≤ 1 → Answered (replyOn kind x b0 b1)
+reply-answered : (s : Settings) (kind : ℕ) (x : Mapped) (b0 b1 : ℕ) → 1 ≤ kind → kind ≤ 2 → b0 ≤ 1 → b1 ≤ 1 → Answered (replyOn s kind x b0 b1)
 unfolding replyOn
-reply-answered kind (mapped.At r) b0 b1 p q s t = (p, q, s, t)
-reply-answered kind (mapped.Refused k) b0 b1 p q s t = tt
+reply-answered s kind (mapped.At r) b0 b1 p q t u = (p, q, t, u)
+reply-answered s kind (mapped.Refused k) b0 b1 p q t u = tt
 
 bundled-answered : (s : Settings) (n : ℕ) (seen : Seen) → Answered (bundledAnswer s n seen)
 unfolding bundledAnswer loneAnswer
 bundled-answered s n seen =
-    let small : (x : Mapped) → Answered (replyOn kindBundled x (bit (seen .first)) (secondBit s seen)) =
-    λ x. reply-answered kindBundled x _ _ (omega arith) (omega arith) (bit-small (seen .first)) (second-small s seen) in
+    let small : (x : Mapped) → Answered (replyOn s kindBundled x (bit (seen .first)) (secondBit s seen)) =
+    λ x. reply-answered s kindBundled x _ _ (omega arith) (omega arith) (bit-small (seen .first)) (second-small s seen) in
     either Answered (eqb (seen .u) 0) _ _ (either Answered (seen .scheduled) _ _ (small (onScheduled s)) tt)
     (either Answered (missShown s seen) _ _ tt (small (resourceOf s n (seen .position) (seen .cce .0))))
 
@@ -73,7 +73,7 @@ symbol-answered : (s : Settings) (n : ℕ) (view : ℕ → View) (ks : List ℕ)
 unfolding symbolAnswer
 symbol-answered s n view ks ss (symbol.Sent i b0 b1) e =
     let small = bits-small ss i b0 b1 e in
-    reply-answered kindMultiplexed (carrierOf s n i (view (getD ks i 0))) b0 b1 (omega arith) (omega arith) (small .0) (small .1)
+    reply-answered s kindMultiplexed (carrierOf s n i (view (getD ks i 0))) b0 b1 (omega arith) (omega arith) (small .0) (small .1)
 symbol-answered s n view ks ss symbol.Silent e = tt
 
 module _ (s : Settings) (n : ℕ) (view : ℕ → View) where

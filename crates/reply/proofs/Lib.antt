@@ -1,3 +1,4 @@
 pub mod Answered
 pub mod Multiplexing
+pub mod Ports
 pub mod Silences

@@ -108,7 +108,7 @@ module _ (s : Settings) (n : ℕ) (F : ℕ → View) (w : Window) (read : w ≡ 
   symbol-silent e = rw (symbol-read ∙ e)
 
   pub symbol-sent : (i b0 b1 : ℕ) → y ≡ symbol.Sent i b0 b1 → (x : View) → x ≡ F (getD (w .k) i 0)
-      → (at : Mapped) → at ≡ carrierOf s n i x → (a : Answer) → a ≡ replyOn 2 at b0 b1
+      → (at : Mapped) → at ≡ carrierOf s n i x → (a : Answer) → a ≡ replyOn s 2 at b0 b1
       → a ≡ multiplexedAnswer s n F (windowOf (s .config) n)
   unfolding multiplexedAnswer symbolAnswer
   symbol-sent i b0 b1 e x ex at em a ea = rw (symbol-read ∙ e, ← k-read (s .config) n w read i, ← ex, ← em) ea

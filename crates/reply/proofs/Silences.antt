@@ -38,10 +38,10 @@ use Rattle.reply.specs.Silence.{HeardMapped, NoneOrMissed, SilentCause}
 use Rattle.reply.proofs.Multiplexing.{state-length}
 
 -- A reply that has a resource is sent.
-mapped-not-silent : (kind : ℕ) (x : Mapped) (r : Resource) (b0 b1 : ℕ) → x ≡ mapped.At r → replyOn kind x b0 b1 ≡ answer.Silent → ⊥
+mapped-not-silent : (s : Settings) (kind : ℕ) (x : Mapped) (r : Resource) (b0 b1 : ℕ) → x ≡ mapped.At r → replyOn s kind x b0 b1 ≡ answer.Silent → ⊥
 unfolding replyOn
-mapped-not-silent kind (mapped.At q) r b0 b1 e f = let z : _≡_ {A = ℕ} 0 1 = cc in omega arith
-mapped-not-silent kind (mapped.Refused k) r b0 b1 e f = let z : _≡_ {A = ℕ} 0 1 = cc in omega arith
+mapped-not-silent s kind (mapped.At q) r b0 b1 e f = let z : _≡_ {A = ℕ} 0 1 = cc in omega arith
+mapped-not-silent s kind (mapped.Refused k) r b0 b1 e f = let z : _≡_ {A = ℕ} 0 1 = cc in omega arith
 
 -- Position and first CCE of the fold are those of a heard PDCCH.
 module _ (view : ℕ → View) (ks : List ℕ) where
@@ -75,11 +75,11 @@ latest view c n =
 module _ (s : Settings) (n : ℕ) (view : ℕ → View) (all-mapped : HeardMapped s n view) where
   -- The bundled reply that is due goes out.
   bundled-sent : (seen : Seen) → (seen .u ≡ 0) ⊎ Latest view (windowOf (s .config) n) seen → (seen .u ≡ 0 → ⊥)
-      → replyOn 1 (resourceOf s n (seen .position) (seen .cce .0)) (bit (seen .first)) (secondBit s seen) ≡ answer.Silent → ⊥
+      → replyOn s 1 (resourceOf s n (seen .position) (seen .cce .0)) (bit (seen .first)) (secondBit s seen) ≡ answer.Silent → ⊥
   bundled-sent seen (inl none) some e = some none
   bundled-sent seen (inr l) some e =
       let p = all-mapped (seen .position) (l .control) (l .inside) (l .heard) in
-      mapped-not-silent 1 _ (p .0) _ _ (rw (l .cce) (p .1)) e
+      mapped-not-silent s 1 _ (p .0) _ _ (rw (l .cce) (p .1)) e
 
   -- So does the reply of a lone scheduled block: without one there is nothing to send.
   lone-silent : (seen : Seen) → seen .u ≡ 0 → (loneAnswer s seen ≡ answer.Silent) ↔ NoneOrMissed s seen
@@ -132,7 +132,7 @@ module _ (s : Settings) (n : ℕ) (view : ℕ → View) (all-mapped : HeardMappe
       let h = index-heard (windowState view ks) i b0 b1 e in
       let inside : i < length ks = rw (state-length view ks) at (h .0) in
       let p = carrier-mapped i (view (getD ks i 0)) inside refl (λ d. h .1 (entry (λ (k : ℕ). stateOf (view k)) ks i Dtx 0 inside ∙ d)) in
-      mapped-not-silent 2 _ (p .0) b0 b1 (p .1) a
+      mapped-not-silent s 2 _ (p .0) b0 b1 (p .1) a
 
   multiplexed-silent : 2 ≤ sizeOf s n → sizeOf s n ≤ 4
       → (multiplexedAnswer s n view (windowOf (s .config) n) ≡ answer.Silent) ↔ AllDtx (windowState view (windowOf (s .config) n))

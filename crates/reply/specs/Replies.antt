@@ -1,5 +1,5 @@
--- The reply of a window: document 01, "The bundled reply" and "The multiplexed reply"; document 02, U1. The settings' mode is the
--- mode that the window is answered in.
+-- The reply of a window: document 01, "The bundled reply" and "The multiplexed reply"; document 02, U1 and U9. The settings' mode is
+-- the mode that the window is answered in.
 -- Assumes nothing.
 use Prim.Native.Nat.{ℕ, _+_, _-_, _%_}
 use mathlib.Core.Bool.{Bool, cond, not, _&&_}
@@ -12,6 +12,7 @@ use Rattle.frame.specs.Table.{windowOf}
 use Rattle.resource.specs.declared.Mapped.{Mapped}
 use Rattle.resource.specs.declared.Mapped.the-variants as mapped
 use Rattle.resource.specs.Calls.{resourceOf}
+use Rattle.resource.specs.Ports.{secondPort}
 use Rattle.symbols.specs.declared.State.{State}
 use Rattle.symbols.specs.declared.State.the-variants.{Ack, Nack, Dtx}
 use Rattle.symbols.specs.declared.Symbol.{Symbol}
@@ -26,11 +27,13 @@ use Rattle.fold.specs.Fold.{seenOf}
 use Rattle.heard.specs.Memory.{bit}
 use Rattle.reply.specs.Kinds.{kindBundled, kindMultiplexed}
 
--- A reply of a kind (specs/Kinds.antt) with two bits, on the resource that the map gives. The one place that makes a reply. A valid
--- grant has a resource; without one nothing is sent, which no state that 8 accepts comes to (handset/proofs/Silences.antt).
-unfoldable pub replyOn : ℕ → Mapped → ℕ → ℕ → Answer
-replyOn kind (mapped.At r) b0 b1 = Sent (record { kind = kind; resource = r; b0 = b0; b1 = b1 })
-replyOn kind (mapped.Refused k) b0 b1 = Silent
+-- A reply of a kind (specs/Kinds.antt) with two bits, on the resource that the map gives and, of a handset with two ports, on the next
+-- one too: U9, "replies carry both". The one place that makes a reply. A valid grant has a resource; without one nothing is sent, which
+-- no state that 8 accepts comes to (handset/proofs/Silences.antt).
+unfoldable pub replyOn : Settings → ℕ → Mapped → ℕ → ℕ → Answer
+replyOn s kind (mapped.At r) b0 b1 =
+    Sent (record { kind = kind; resource = r; b0 = b0; b1 = b1; second = record { 0 = secondPort s (r .0) } })
+replyOn s kind (mapped.Refused k) b0 b1 = Silent
 
 -- The DAI that the last of U PDCCHs has where none was missed: ((U − 1) mod 4) + 1.
 unfoldable pub expected : ℕ → ℕ
@@ -51,7 +54,7 @@ onScheduled s = mapped.At (record { 0 = s .scheduled })
 
 -- No PDCCH was heard: "If it is the only thing heard, the reply goes on a configured resource"; silent where nothing was.
 unfoldable pub loneAnswer : Settings → Seen → Answer
-loneAnswer s seen = cond (seen .scheduled) (replyOn kindBundled (onScheduled s) (bit (seen .first)) (secondBit s seen)) Silent
+loneAnswer s seen = cond (seen .scheduled) (replyOn s kindBundled (onScheduled s) (bit (seen .first)) (secondBit s seen)) Silent
 
 -- The bundled reply: where U = 0 that of a lone scheduled block; silent where a miss is shown; else each block's bit is 1 (ACK) if
 -- all that was heard decoded it, on the resource of the last heard PDCCH.
@@ -59,7 +62,7 @@ unfoldable pub bundledAnswer : Settings → ℕ → Seen → Answer
 bundledAnswer s n seen =
     cond (eqb (seen .u) 0) (loneAnswer s seen)
     (cond (missShown s seen) Silent
-    (replyOn kindBundled (resourceOf s n (seen .position) (seen .cce .0)) (bit (seen .first)) (secondBit s seen)))
+    (replyOn s kindBundled (resourceOf s n (seen .position) (seen .cce .0)) (bit (seen .first)) (secondBit s seen)))
 
 -- State of a position: A if heard with every carried block decoded, N if heard otherwise, D if unheard.
 unfoldable pub stateOf : View → State
@@ -80,7 +83,7 @@ windowState view ks = map (λ (k : ℕ). stateOf (view k)) ks
 
 -- The symbol is sent on the resource of position i, its index.
 unfoldable pub symbolAnswer : Settings → ℕ → (ℕ → View) → List ℕ → Symbol → Answer
-symbolAnswer s n view ks (symbol.Sent i b0 b1) = replyOn kindMultiplexed (carrierOf s n i (view (getD ks i 0))) b0 b1
+symbolAnswer s n view ks (symbol.Sent i b0 b1) = replyOn s kindMultiplexed (carrierOf s n i (view (getD ks i 0))) b0 b1
 symbolAnswer s n view ks symbol.Silent = Silent
 
 unfoldable pub multiplexedAnswer : Settings → ℕ → (ℕ → View) → List ℕ → Answer

@@ -1,4 +1,4 @@
-// The reply of a window (document 01, "The bundled reply" and "The multiplexed reply"; document 02, U1).
+// The reply of a window (document 01, "The bundled reply" and "The multiplexed reply"; document 02, U1 and U9).
 use crate::Answer;
 use crate::Reply;
 use fold::Seen;
@@ -29,16 +29,20 @@ const KIND_BUNDLED: u16 = 1;
 
 const KIND_MULTIPLEXED: u16 = 2;
 
-fn reply_on(kind: u16, mapped: Mapped, b0: u16, b1: u16) -> Answer
-    ensures { λ r. ⌜ r ≡ replyOn kind mapped b0 b1 ⌝ }
+fn reply_on(s: Settings, kind: u16, mapped: Mapped, b0: u16, b1: u16) -> Answer
+    ensures { λ r. ⌜ r ≡ replyOn s kind mapped b0 b1 ⌝ }
 {
     match mapped {
-        Mapped::At(resource) => Answer::Sent(Reply {
-            kind,
-            resource,
-            b0,
-            b1,
-        }),
+        Mapped::At(resource) => {
+            let second = resource::second_port(s, resource);
+            Answer::Sent(Reply {
+                kind,
+                resource,
+                b0,
+                b1,
+                second,
+            })
+        }
         Mapped::Refused(_) => Answer::Silent,
     }
 }
@@ -77,7 +81,7 @@ fn lone_answer(s: Settings, seen: Seen) -> Answer
     if seen.scheduled {
         let b0 = seen.first as u16;
         let b1 = second_bit(s, seen);
-        return reply_on(KIND_BUNDLED, on_scheduled(s), b0, b1);
+        return reply_on(s, KIND_BUNDLED, on_scheduled(s), b0, b1);
     }
     Answer::Silent
 }
@@ -97,7 +101,7 @@ fn bundled_answer(s: Settings, n: u16, size: u16, seen: Seen) -> Answer
     let mapped = resource::resource_sized(s, size, seen.position, cce);
     let b0 = seen.first as u16;
     let b1 = second_bit(s, seen);
-    reply_on(KIND_BUNDLED, mapped, b0, b1)
+    reply_on(s, KIND_BUNDLED, mapped, b0, b1)
 }
 
 // The digit of a heard position's state: 0 for A, 1 for N.
@@ -169,7 +173,7 @@ fn multiplexed_answer(s: Settings, n: u16, past: [Slot; 13], w: Window) -> Answe
             let k = w.k;
             let t = past[(k[i as usize] - 1) as usize];
             let mapped = carrier_of(s, n, w.size, i, view_in(t));
-            reply_on(KIND_MULTIPLEXED, mapped, b0, b1)
+            reply_on(s, KIND_MULTIPLEXED, mapped, b0, b1)
         }
     }
 }

@@ -1,4 +1,4 @@
--- Where 1 to 7, 17 and 19 are not met: N_4 is what the call for it gives, and a window has from 1 to 1,206 resources.
+-- Where 1 to 7, 17, 19 and 24 are not met: N_4 is what the call for it gives, and a window has from 1 to 1,206 resources.
 -- Assumes nothing.
 use Prim.Native.Nat.{ℕ, _*_, _≤_}
 use mathlib.Core.Path.{_≡_}

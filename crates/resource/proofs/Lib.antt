@@ -6,4 +6,5 @@ pub mod OneToOne
 pub mod Refused
 pub mod Room
 pub mod Search
+pub mod SecondPort
 pub mod Sized

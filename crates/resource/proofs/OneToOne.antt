@@ -151,7 +151,7 @@ module _ (nrb n1 size : ℕ) where
             same-pair m c m′ c′ (sym (p .back) ∙ p′ .back);
       }
 
--- Where 1 to 7, 17 and 19 are not met, the calls are the map and the inverse of their window.
+-- Where 1 to 7, 17, 19 and 24 are not met, the calls are the map and the inverse of their window.
 pub resource-call : (s : Settings) (n : ℕ) → windowRefusal s n ≡ 0 → (m c : ℕ) → resourceOf s n m c ≡ resourceIn (s .nrb) (s .n1) (sizeOf s n) m c
 unfolding resourceOf resourceIn
 resource-call s n e m c = rw e

@@ -25,7 +25,7 @@ inverted-first k zero next m c e h = absurd (h e)
 inverted-first k (suc w) next m c e h = rw e
 
 module _ (s : Settings) (size : ℕ) where
-  -- 1 to 6, 17 and 19
+  -- 1 to 6, 17, 19 and 24
   pub settings-refused : (k m c : ℕ) → k ≡ settingsRefusal s → (k ≡ 0 → ⊥) → mapped.Refused k ≡ resourceSized s size m c
   unfolding resourceSized
   settings-refused k m c e h = mapped-first k (settingsRefusal s) _ _ e h

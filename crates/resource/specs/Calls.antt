@@ -47,13 +47,13 @@ inverseIn nrb n1 size r = invertedAs (rangeRefusal nrb n1 size r) (positionBack 
 abbrev pub sizeOf : Settings → ℕ → ℕ
 sizeOf s n = length (windowOf (s .config) n)
 
--- The resource call: 1 to 6, 17, 19 and 7, then 11, else the formula's resource.
+-- The resource call: 1 to 6, 17, 19, 24 and 7, then 11, else the formula's resource.
 unfoldable pub resourceOf : Settings → ℕ → ℕ → ℕ → Mapped
 resourceOf s n m c =
     mappedAs (orElse (windowRefusal s n) (pairRefusal (s .nrb) (sizeOf s n) m c))
     (resourceNumber (s .nrb) (s .n1) (sizeOf s n) m c)
 
--- The resource call where M is told: 1 to 6, 17 and 19, 7 where M is not 1 to 9, then 11, else the formula's resource.
+-- The resource call where M is told: 1 to 6, 17, 19 and 24, 7 where M is not 1 to 9, then 11, else the formula's resource.
 unfoldable pub resourceSized : Settings → ℕ → ℕ → ℕ → Mapped
 resourceSized s size m c =
     mappedAs (orElse (settingsRefusal s) (orElse (cond (outside 1 9 size) 7 0) (pairRefusal (s .nrb) size m c)))
@@ -68,7 +68,7 @@ resourceWithin s size m c =
     (cond (outside 1 9 size) (mapped.Refused 7)
     (resourceIn (s .nrb) (s .n1) size m c)))
 
--- The inverse call: 1 to 6, 17, 19 and 7, then 13, else the pair.
+-- The inverse call: 1 to 6, 17, 19, 24 and 7, then 13, else the pair.
 unfoldable pub inverseOf : Settings → ℕ → ℕ → Inverted
 inverseOf s n r =
     invertedAs (orElse (windowRefusal s n) (rangeRefusal (s .nrb) (s .n1) (sizeOf s n) r))

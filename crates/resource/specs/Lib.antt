@@ -2,4 +2,5 @@ pub mod Bounds
 pub mod Calls
 pub mod Formula
 pub mod OneToOne
+pub mod Ports
 pub mod Search

@@ -1,5 +1,10 @@
-// The PUCCH resource of a PDCCH, a grant or a release, and its place back from a resource (document 01, "Resources").
+// The PUCCH resource of a PDCCH, a grant or a release, and its place back from a resource (document 01, "Resources"); the resources of
+// both antenna ports are in ports.rt (document 02, U9).
+mod ports;
+
 use frame::Settings;
+pub use ports::ports_of;
+pub use ports::second_port;
 ghost use mathlib.Core.Path.{_≡_};
 ghost use Prim.Native.Nat.{_≤_};
 ghost use lib.Dec.{ltb};
@@ -48,6 +53,12 @@ impl Resource {
 // The answer of the resource call.
 pub enum Mapped {
     At(Resource),
+    Refused(u16),
+}
+
+// The answer of the resource call for both antenna ports: the first port's resource and the second port's, 0 where there is one port.
+pub enum PortsMapped {
+    At(Resource, Resource),
     Refused(u16),
 }
 

@@ -33,7 +33,22 @@ header-read : (r : ℕ) (rest : List ℕ) → headerOf (headerBytes r ++ rest) �
 unfolding headerOf numberAt headerBytes
 header-read r rest = rw (two-bytes r, two-bytes (spelledSize r))
 
-settings-read : (r : ℕ) (s : Settings) (rest : List ℕ) → settingsAt (headerBytes r ++ (settingsBytes s ++ rest)) 8 ≡ s
+-- Settings of one antenna port: those of every trace.
+abbrev onePort : Settings → Settings
+onePort s =
+    record {
+      config = s .config;
+      nrb = s .nrb;
+      n1 = s .n1;
+      mode = s .mode;
+      blocks = s .blocks;
+      scheduled = s .scheduled;
+      prefix = s .prefix;
+      special = s .special;
+      ports = 1;
+    }
+
+settings-read : (r : ℕ) (s : Settings) (rest : List ℕ) → settingsAt (headerBytes r ++ (settingsBytes s ++ rest)) 8 ≡ onePort s
 unfolding settingsAt numberAt headerBytes settingsBytes
 settings-read r s rest = rw (two-bytes (s .n1), two-bytes (s .scheduled))
 
@@ -71,7 +86,7 @@ module _ (l : List ℕ) where
   header-back = header-read r (settingsBytes (settingsOf l) ++ recordsBytes l 0 r)
 
   pub settings-back : settingsOf w ≡ settingsOf l
-  unfolding settingsOf spellingOf headerBytes
+  unfolding settingsAt settingsOf spellingOf headerBytes
   settings-back = rw header-back (settings-read r (settingsOf l) (recordsBytes l 0 r))
 
   -- From record i on.

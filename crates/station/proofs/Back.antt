@@ -96,7 +96,7 @@ not-refused : (s : Settings) (n : ℕ) (t : Told) (r b0 b1 : ℕ) → windowRefu
 unfolding readOf
 not-refused s n t r b0 b1 e f = rw (e, f)
 
--- A resource that is not taken as a scheduled block is dynamic, 1 to 7, 17 and 19 included.
+-- A resource that is not taken as a scheduled block is dynamic, 1 to 7, 17, 19 and 24 included.
 pub read-dynamic : (s : Settings) (n : ℕ) (t : Told) (r b0 b1 : ℕ) → toldRefusal s n t ≡ 0
     → readOn s n t r b0 b1 ≡ dynamicReading s n r b0 b1 → readOf s n t r b0 b1 ≡ dynamicReading s n r b0 b1
 unfolding readOf dynamicReading

@@ -51,7 +51,7 @@ abbrev pub readInverted : Settings → ℕ → Inverted → ℕ → ℕ → Read
 readInverted s size (inverted.At m c) b0 b1 = readAt s size (Pdcch m c) b0 b1
 readInverted s size (inverted.Refused k) b0 b1 = Refused k
 
--- A dynamic resource is inverted to position and first CCE: 1 to 6, 17, 19 and 7, then 13, then 14.
+-- A dynamic resource is inverted to position and first CCE: 1 to 6, 17, 19, 24 and 7, then 13, then 14.
 unfoldable pub dynamicReading : Settings → ℕ → ℕ → ℕ → ℕ → Reading
 dynamicReading s n r b0 b1 = readInverted s (sizeOf s n) (inverseOf s n r) b0 b1
 
@@ -71,7 +71,7 @@ abbrev pub readAs : ℕ → Reading → Reading
 readAs zero reading = reading
 readAs (suc k) reading = Refused (suc k)
 
--- The reading: 1 to 6, 17, 19 and 7, then 20, 11 and 18 for what it is told, whatever the resource; then 13 and 14.
+-- The reading: 1 to 6, 17, 19, 24 and 7, then 20, 11 and 18 for what it is told, whatever the resource; then 13 and 14.
 unfoldable pub readOf : Settings → ℕ → Told → ℕ → ℕ → ℕ → Reading
 readOf s n told r b0 b1 = readAs (orElse (windowRefusal s n) (toldRefusal s n told)) (readOn s n told r b0 b1)
 

@@ -26,7 +26,7 @@ unfoldable pub headerOf : List ℕ → Header
 headerOf l = record { records = numberAt l 0; first = numberAt l 2; settings = numberAt l 4; size = numberAt l 6 }
 
 -- "The settings take ten bytes: configuration, N_RB, mode, blocks, special, prefix (0 normal, 1 extended), N1, scheduled resource
--- (65535 for none)."
+-- (65535 for none)." U9: "Replays and traces keep one port."
 unfoldable pub settingsAt : List ℕ → ℕ → Settings
 settingsAt l at =
     record {
@@ -38,6 +38,7 @@ settingsAt l at =
       scheduled = numberAt l (at + 8);
       prefix = byteAt l (at + 5);
       special = byteAt l (at + 4);
+      ports = 1;
     }
 
 -- The settings of a trace.

@@ -42,7 +42,7 @@ pub fn header_of(trace: &[u8]) -> Header
     }
 }
 
-// The settings whose ten bytes begin at `at`.
+// The settings whose ten bytes begin at `at`. A trace has one antenna port.
 fn settings_at(trace: &[u8], at: u16) -> Settings
     ensures { λ r. ⌜ r ≡ settingsAt (now (trace .entry)) at ⌝ }
 {
@@ -56,6 +56,7 @@ fn settings_at(trace: &[u8], at: u16) -> Settings
         scheduled: number_at(trace, i + 8),
         prefix: byte_at(trace, i + 5) as u16,
         special: byte_at(trace, i + 4) as u16,
+        ports: 1,
     }
 }
 

@@ -23,7 +23,7 @@ use feedback_tests::random::Random;
 use feedback_tests::trace::{Trace, LONGEST, WINDOW};
 use feedback_tests::{
     AnsweredAnswer, Block, Changed, Fed, Grant, Handset, Heard, ReadingAnswer, Release,
-    ReplayAnswer, Settings, WindowAnswer, WriteAnswer, NOT_TOLD,
+    ReplayAnswer, ResourceAnswer, Settings, WindowAnswer, WriteAnswer, NOT_TOLD,
 };
 use std::hint::black_box;
 use std::time::Instant;
@@ -93,7 +93,8 @@ as there are resources, or as many bits. With a schedule one subframe of each wi
 has a scheduled block, every other time, and one PDCCH in eight is a release. Special
 subframes carry data, but for the cells called short: there they bring nothing or a
 release. A mode change checks the whole state too; it is to the other mode, of the handsets
-of such runs, and in a run of its own it comes before one subframe in eleven.
+of such runs, and in a run of its own it comes before one subframe in eleven. Handsets with
+two ports bundle; a claim of theirs has two resources, and the lists are of claims two apart.
 
 The traces are of configuration 2 with two blocks and a schedule, with grants, scheduled
 blocks, releases and nothing in the downlink, and good to the end. In plain Rust a
@@ -114,6 +115,7 @@ Rust that check makes no reply.
     replays(&model, &mut Random::new(3));
     writings(&model, &mut Random::new(4));
     mode_changes(&model, &mut Random::new(5));
+    two_ports(&model, &mut Random::new(6));
 }
 
 fn numbers(model: &Model, random: &mut Random) {
@@ -319,6 +321,10 @@ fn scheduled_run(model: &Model, random: &mut Random) -> Run {
 /// few are lost, and most blocks are decoded.
 fn run(model: &Model, random: &mut Random) -> Run {
     let settings = random.plain_settings();
+    run_of(model, settings, random)
+}
+
+fn run_of(model: &Model, settings: Settings, random: &mut Random) -> Run {
     let mut heard = vec![Heard::Nothing; 200];
     for window in model.windows().iter().filter(|window| window.config == settings.config) {
         for frame in 0..20 {
@@ -385,11 +391,75 @@ fn distinct(settings: Settings, window: &Window, length: usize, random: &mut Ran
     claims
 }
 
-/// Each form has the scratch that the widest window needs.
+/// The resource call, the answer of a window and the claims with two ports.
+fn two_ports(model: &Model, random: &mut Random) {
+    let inputs: Vec<Input> = (0..INPUTS)
+        .map(|_| {
+            let settings = two_port_settings(random);
+            unread(model, settings, random)
+        })
+        .collect();
+    row("resource, two ports", &inputs, inputs.len(), engine_resource, plain_rust_resource);
+    let run = |_| {
+        let settings = two_port_settings(random);
+        run_of(model, settings, random)
+    };
+    let runs: Vec<Run> = (0..RUNS).map(run).collect();
+    let feeds: Vec<Feed> = runs.iter().flat_map(|run| feeds_of(model, run)).collect();
+    let fits: Fits = &|feed| answers(model, feed, true);
+    feed_rows(&feeds, &[("feed, uplink, bundled window, two ports", fits)]);
+
+    let cell = |_| {
+        let mut settings = two_port_settings(random);
+        settings.nrb = settings.nrb.max(25);
+        let window = random.window(model, settings.config);
+        List { settings, n: window.n, claims: apart(model, settings, window, 10, random) }
+    };
+    let cells: Vec<List> = (0..INPUTS / 8).map(cell).collect();
+    let widest = Settings::plain(5, 110, 10, 0, 1).with_ports(2);
+    let window = model.window(5, 2).expect("a window");
+    let of_widest = |claims| List { settings: widest, n: 2, claims };
+    let hundreds: Vec<List> =
+        (0..16).map(|_| of_widest(apart(model, widest, window, 600, random))).collect();
+    let all = apart(model, widest, window, 603, random);
+    let many = [of_widest(all.into_iter().cycle().take(100_000).collect())];
+    for (name, form) in
+        [("claims, two ports", Form::Bytes), ("claims by bits, two ports", Form::Bits)]
+    {
+        claims_row(&format!("{name}, list of 10"), form, &cells);
+        claims_row(&format!("{name}, list of 600"), form, &hundreds);
+        claims_row(&format!("{name}, list of 100,000, of which 603 differ"), form, &many);
+    }
+}
+
+fn two_port_settings(random: &mut Random) -> Settings {
+    Settings { mode: 0, ..random.plain_settings() }.with_ports(2)
+}
+
+/// Some of the allowed claims of a window that have every other resource, in random order.
+fn apart(
+    model: &Model,
+    settings: Settings,
+    window: &Window,
+    length: usize,
+    random: &mut Random,
+) -> Vec<u16> {
+    let resources = window.size() * edge(settings.nrb, 4);
+    let claim = |t: u16| {
+        let pair = model.inverse(settings, window.n, settings.n1 + t);
+        pair.position * 256 + pair.cce
+    };
+    let mut claims: Vec<u16> = (0..resources).step_by(2).map(claim).collect();
+    random.shuffle(&mut claims);
+    claims.truncate(length);
+    claims
+}
+
+/// Each form has the scratch that the widest window needs, with two ports.
 fn claims_row(name: &str, form: Form, lists: &[List]) {
     let number = lists.iter().map(|list| list.claims.len()).sum();
-    let (mut our_scratch, mut plain_scratch) = ([0; 1206], [0; 1206]);
-    let room = form.need(1206);
+    let (mut our_scratch, mut plain_scratch) = ([0; 1207], [0; 1207]);
+    let room = form.need(1207);
     row(
         name,
         lists,
@@ -519,12 +589,15 @@ fn place(answer: AnsweredAnswer) -> u64 {
 
 fn engine_resource(input: &Input) -> u64 {
     // SAFETY: the call takes numbers and gives numbers, and is lent no memory.
-    let answer = unsafe { feedback_resource(input.settings, input.n, input.position, input.cce) };
-    answer.resource.into()
+    both(unsafe { feedback_resource(input.settings, input.n, input.position, input.cce) })
 }
 
 fn plain_rust_resource(input: &Input) -> u64 {
-    plain_resource(input.settings, input.n, input.position, input.cce).resource.into()
+    both(plain_resource(input.settings, input.n, input.position, input.cce))
+}
+
+fn both(answer: ResourceAnswer) -> u64 {
+    u64::from(answer.second) << 16 | u64::from(answer.resource)
 }
 
 fn engine_inverse(input: &Input) -> u64 {
@@ -576,7 +649,8 @@ fn plain_rust_feed(feed: &Feed) -> u64 {
 fn value(fed: Fed) -> u64 {
     let fed = black_box(&fed);
     let bits = fed.b0 << 1 | fed.b1;
-    u64::from(fed.resource) << 32 | u64::from(fed.kind) << 16 | u64::from(bits)
+    let resources = u64::from(fed.second) << 48 | u64::from(fed.resource) << 32;
+    resources | u64::from(fed.kind) << 16 | u64::from(bits)
 }
 
 fn engine_fed(handset: Handset, heard: Heard) -> Fed {

@@ -9,7 +9,9 @@
 use super::{
     bundles, edge, first_met, is_short, is_uplink, mode_causes, settings_refusal, Model, Window,
 };
-use crate::{Block, Changed, Fed, Grant, Handset, Heard, Made, Release, Settings, Slot, NONE};
+use crate::{
+    Block, Changed, Fed, Grant, Handset, Heard, Made, Release, ResourceAnswer, Settings, Slot, NONE,
+};
 use std::cmp::Reverse;
 
 /// When something was heard, what it was, and the mode that stood then. Before the start
@@ -26,6 +28,13 @@ struct Member {
     position: u16,
     k: u16,
     heard: Heard,
+}
+
+/// A reply: its kind, the resource that it is sent on, or the two of them, and its bits.
+struct Sent {
+    kind: u16,
+    on: ResourceAnswer,
+    bits: (u16, u16),
 }
 
 impl Model {
@@ -60,18 +69,19 @@ impl Model {
                     false => self.multiplexed(settings, window, members),
                 };
                 let silent = Fed::answer(Fed::SILENT, after);
-                reply.map_or(silent, |(kind, resource, bits)| {
-                    Fed::reply(kind, resource, bits, after)
+                reply.map_or(silent, |Sent { kind, on, bits }| {
+                    Fed::reply(kind, on.resource, bits, after).with_second(on.second)
                 })
             }
         }
     }
 
-    /// A new mode is judged by the state's configuration, and only then the state.
+    /// A new mode is judged by the state's configuration and ports, and only then the state.
     pub fn change_mode(&self, handset: Handset, mode: u16) -> Changed {
-        let [no_mode, no_multiplexing] = mode_causes(handset.settings.config, mode);
+        let Settings { config, ports, .. } = handset.settings;
+        let [no_mode, no_multiplexing, one_port_only] = mode_causes(config, ports, mode);
         let is_bad = self.diary_of_good(&handset).is_none();
-        match first_met([no_mode, no_multiplexing, (8, is_bad)]) {
+        match first_met([no_mode, no_multiplexing, one_port_only, (8, is_bad)]) {
             Some(refusal) => Changed::refused(refusal, handset),
             None => Changed::to(handset.in_mode(mode)),
         }
@@ -82,7 +92,7 @@ impl Model {
         settings: Settings,
         window: &Window,
         mut members: Vec<Member>,
-    ) -> Option<(u16, u16, (u16, u16))> {
+    ) -> Option<Sent> {
         members.sort_by_key(|member| Reverse(member.k));
         let pdcchs: Vec<&Member> =
             members.iter().filter(|member| pdcch(member.heard).is_some()).collect();
@@ -96,7 +106,7 @@ impl Model {
         }
         let ack = |block: usize| u16::from(members.iter().all(|each| decoded(each.heard)[block]));
         let bits = (ack(0), if settings.blocks == 2 { ack(1) } else { 0 });
-        Some((Fed::BUNDLED, self.resource_of(settings, window, named), bits))
+        Some(Sent { kind: Fed::BUNDLED, on: self.resource_of(settings, window, named), bits })
     }
 
     fn multiplexed(
@@ -104,21 +114,22 @@ impl Model {
         settings: Settings,
         window: &Window,
         members: Vec<Member>,
-    ) -> Option<(u16, u16, (u16, u16))> {
+    ) -> Option<Sent> {
         let at = |position| members.iter().find(|member| member.position == position);
         let letter = |position| at(position).map_or('D', |member| letter_of(member.heard));
         let state: String = (0..window.size()).map(letter).collect();
         let symbol = self.symbol(&state)?;
         let member = at(symbol.index).expect("index i is always a heard position");
-        let resource = self.resource_of(settings, window, member);
-        Some((Fed::MULTIPLEXED, resource, (symbol.b0, symbol.b1)))
+        let on = self.resource_of(settings, window, member);
+        Some(Sent { kind: Fed::MULTIPLEXED, on, bits: (symbol.b0, symbol.b1) })
     }
 
-    /// The resource of a PDCCH, or the one that is set for scheduled blocks.
-    fn resource_of(&self, settings: Settings, window: &Window, member: &Member) -> u16 {
+    /// What the resource call answers for a PDCCH, or the one resource that is set for
+    /// scheduled blocks.
+    fn resource_of(&self, settings: Settings, window: &Window, member: &Member) -> ResourceAnswer {
         match pdcch(member.heard) {
-            None => settings.scheduled,
-            Some((cce, _)) => self.resource(settings, window.n, member.position, cce).resource,
+            None => ResourceAnswer::of(settings.scheduled),
+            Some((cce, _)) => self.resource(settings, window.n, member.position, cce),
         }
     }
 
@@ -128,8 +139,9 @@ impl Model {
             return None;
         }
         let diary = diary(handset)?;
+        let Settings { config, ports, .. } = handset.settings;
         let is_bad = |entry: &Entry| {
-            let mode_refusal = first_met(mode_causes(handset.settings.config, entry.mode));
+            let mode_refusal = first_met(mode_causes(config, ports, entry.mode));
             mode_refusal.is_some() || self.refusal(handset.settings, &diary, *entry).is_some()
         };
         (!diary.iter().any(is_bad)).then_some(diary)

@@ -109,7 +109,8 @@ fn number(bytes: &[u8]) -> usize {
     usize::from(bytes[0]) + 256 * usize::from(bytes[1])
 }
 
-/// Configuration, N_RB, mode, blocks, special, prefix, N1, scheduled resource.
+/// Configuration, N_RB, mode, blocks, special, prefix, N1, scheduled resource. There is
+/// always one port.
 fn settings_in(bytes: &[u8]) -> Settings {
     let byte = |at: usize| u16::from(bytes[at]);
     let wide = |at: usize| byte(at) + 256 * byte(at + 1);
@@ -122,6 +123,7 @@ fn settings_in(bytes: &[u8]) -> Settings {
         prefix: byte(5),
         n1: wide(6),
         scheduled: wide(8),
+        ports: 1,
     }
 }
 

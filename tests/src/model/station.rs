@@ -1,8 +1,9 @@
 //! The station's side: the reading of a reply and the claims of a cell.
 
-use super::{bundles, first_met, is_short, Layout, Model, Symbol};
+use super::{bundles, first_met, is_short, resources_at, Layout, Model, Symbol};
 use crate::{ClaimsAnswer, ReadingAnswer, Settings, NONE, NOT_TOLD};
 use std::collections::{HashMap, HashSet};
+use std::ops::Range;
 
 /// What each bit of a byte counts, the lowest bit first.
 const WEIGHTS: [u8; 8] = [1, 2, 4, 8, 16, 32, 64, 128];
@@ -67,7 +68,8 @@ impl Model {
         Some(ReadingAnswer::multiplexed(position, cce, delivered))
     }
 
-    /// The answer to a list of claims, and every byte of the scratch afterwards.
+    /// The answer to a list of claims, and every byte of the scratch afterwards. Each claim
+    /// has its resources, and is held against those of every claim before it.
     pub fn claims(
         &self,
         settings: Settings,
@@ -76,23 +78,32 @@ impl Model {
         scratch: &[u8],
     ) -> (ClaimsAnswer, Vec<u8>) {
         let kept = scratch.to_vec();
-        let Layout(pairs) = match self.layout(settings, n) {
+        let layout = match self.layout(settings, n) {
             Err(refusal) => return (ClaimsAnswer::refused(refusal, 0), kept),
             Ok(layout) => layout,
         };
-        if scratch.len() < pairs.len() {
+        let all = layout.resources(settings);
+        if scratch.len() < all.len() {
             return (ClaimsAnswer::refused(15, 0), kept);
         }
-        let numbers: Vec<u16> = pairs.iter().map(|(m, cce)| m * 256 + cce).collect();
-        let allowed: HashSet<&u16> = numbers.iter().collect();
-        if let Some(index) = claims.iter().position(|claim| !allowed.contains(claim)) {
+        let of_claim = layout.of_claims(settings);
+        if let Some(index) = claims.iter().position(|claim| !of_claim.contains_key(claim)) {
             return (ClaimsAnswer::refused(16, index), kept);
         }
-        // No two equal claims come before the first clash, so this ends early.
-        let clash = (0..claims.len()).find(|index| claims[..*index].contains(&claims[*index]));
-        let before: HashSet<&u16> = claims[..clash.unwrap_or(claims.len())].iter().collect();
-        let marks = numbers.iter().map(|number| u8::from(before.contains(number)));
-        let left = marks.chain(scratch[pairs.len()..].iter().copied()).collect();
+        let of_claims: Vec<&Range<u16>> = claims.iter().map(|claim| &of_claim[claim]).collect();
+        let share = |one: &Range<u16>, other: &Range<u16>| {
+            one.clone().any(|resource| other.contains(&resource))
+        };
+        // No two claims before the first clash share a resource, so this ends early.
+        let clashes = |index: &usize| {
+            of_claims[..*index].iter().any(|earlier| share(earlier, of_claims[*index]))
+        };
+        let clash = (0..claims.len()).find(clashes);
+        let before = &of_claims[..clash.unwrap_or(claims.len())];
+        let marked: HashSet<u16> = before.iter().copied().cloned().flatten().collect();
+        let beyond = &scratch[all.len()..];
+        let marks = all.map(|resource| u8::from(marked.contains(&resource)));
+        let left = marks.chain(beyond.iter().copied()).collect();
         (clash.map_or(ClaimsAnswer::CLEAN, ClaimsAnswer::clash), left)
     }
 
@@ -107,28 +118,53 @@ impl Model {
         scratch: &[u8],
     ) -> (ClaimsAnswer, Vec<u8>) {
         let kept = scratch.to_vec();
-        let Layout(pairs) = match self.layout(settings, n) {
+        let layout = match self.layout(settings, n) {
             Err(refusal) => return (ClaimsAnswer::refused(refusal, 0), kept),
             Ok(layout) => layout,
         };
-        let places: Vec<usize> = (0..pairs.len()).collect();
-        let eights: Vec<&[usize]> = places.chunks(8).collect();
+        let all: Vec<u16> = layout.resources(settings).collect();
+        let eights: Vec<&[u16]> = all.chunks(8).collect();
         if scratch.len() < eights.len() {
             return (ClaimsAnswer::refused(15, 0), kept);
         }
-        let numbers = pairs.iter().map(|(m, cce)| m * 256 + cce);
-        let place_of: HashMap<u16, usize> = numbers.zip(places.iter().copied()).collect();
-        if let Some(index) = claims.iter().position(|claim| !place_of.contains_key(claim)) {
+        let of_claim = layout.of_claims(settings);
+        if let Some(index) = claims.iter().position(|claim| !of_claim.contains_key(claim)) {
             return (ClaimsAnswer::refused(16, index), kept);
         }
-        let mut taken = HashSet::new();
-        let clash = claims.iter().position(|claim| !taken.insert(place_of[claim]));
-        let byte = |eight: &[usize]| -> u8 {
-            let weighed = eight.iter().zip(WEIGHTS).filter(|(place, _)| taken.contains(*place));
+        let mut taken: HashSet<u16> = HashSet::new();
+        let clash = claims.iter().position(|claim| {
+            let mut wanted = of_claim[claim].clone();
+            let is_late = wanted.any(|resource| taken.contains(&resource));
+            if !is_late {
+                taken.extend(of_claim[claim].clone());
+            }
+            is_late
+        });
+        let byte = |eight: &[u16]| -> u8 {
+            let weighed =
+                eight.iter().zip(WEIGHTS).filter(|(resource, _)| taken.contains(*resource));
             weighed.map(|(_, weight)| weight).sum()
         };
         let marks = eights.iter().map(|eight| byte(eight));
         let left = marks.chain(scratch[eights.len()..].iter().copied()).collect();
         (clash.map_or(ClaimsAnswer::CLEAN, ClaimsAnswer::clash), left)
+    }
+}
+
+impl Layout {
+    /// Every resource that a claim of the window can have: from that of the first pair to
+    /// the last one of the last pair.
+    fn resources(&self, settings: Settings) -> Range<u16> {
+        let Self(pairs) = self;
+        settings.n1..resources_at(settings, pairs.len() as u16 - 1).end
+    }
+
+    /// Every claim that is allowed, with its resources.
+    fn of_claims(&self, settings: Settings) -> HashMap<u16, Range<u16>> {
+        let Self(pairs) = self;
+        let numbered = (0..).zip(pairs);
+        let of_pair =
+            |(place, (m, cce)): (u16, &(u16, u16))| (m * 256 + cce, resources_at(settings, place));
+        numbered.map(of_pair).collect()
     }
 }

@@ -1,6 +1,6 @@
 //! The handset's side: making one, feeding it, and changing its mode.
 
-use super::{bundles, cces, check, is_short, region, DOWNLINK, K, SPECIAL};
+use super::{bundles, cces, check, is_short, region, second, DOWNLINK, K, SPECIAL};
 use crate::{Changed, Fed, Handset, Made, Settings, Slot, NONE};
 
 /// How long before its answer each window begins: its largest k; 0 where there is none.
@@ -106,7 +106,9 @@ pub extern "C" fn plain_feed_nothing(handset: Handset) -> Fed {
     }
     let mode = handset.modes >> (BEGINS[config][n] - 1) & 1;
     match reply(settings, mode, window, |k| handset.past[usize::from(k) - 1]) {
-        Some(Reply { kind, resource, bits }) => Fed::reply(kind, resource, bits, after),
+        Some(Reply { kind, resource, bits }) => {
+            Fed::reply(kind, resource, bits, after).with_second(second(settings, resource))
+        }
         None => Fed::answer(Fed::SILENT, after),
     }
 }
@@ -171,6 +173,8 @@ pub extern "C" fn plain_change_mode(handset: Handset, mode: u16) -> Changed {
         Changed::refused(4, handset)
     } else if mode == 1 && handset.settings.config == 5 {
         Changed::refused(5, handset)
+    } else if mode == 1 && handset.settings.ports == 2 {
+        Changed::refused(24, handset)
     } else if limits_of_good(&handset).is_none() {
         Changed::refused(8, handset)
     } else {
@@ -282,7 +286,8 @@ fn limits_of_good(handset: &Handset) -> Option<Limits> {
     let settings = &handset.settings;
     check(settings).ok()?;
     let multiplexed = handset.modes & Handset::ALL_MULTIPLEXING != 0;
-    if handset.next > 9 || multiplexed && settings.config == 5 {
+    let bundles_only = settings.config == 5 || settings.ports == 2;
+    if handset.next > 9 || multiplexed && bundles_only {
         return None;
     }
     let mut limits = Limits::new(settings);

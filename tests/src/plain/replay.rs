@@ -128,6 +128,7 @@ fn parts(file: &[u8]) -> Result<Parts<'_>, u16> {
     Ok(Parts { settings, records })
 }
 
+/// A trace does not say how many ports there are: always one.
 fn settings_in(bytes: &[u8; SETTINGS]) -> Settings {
     let byte = |at: usize| u16::from(bytes[at]);
     let wide = |at: usize| u16::from_le_bytes([bytes[at], bytes[at + 1]]);

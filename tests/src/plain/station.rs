@@ -178,6 +178,16 @@ fn in_bytes(settings: &Settings, n: u16, claims: &[u16], scratch: &mut [u8]) -> 
     let marks = scratch.get_mut(..places.number()).ok_or((15, 0))?;
     places.check(claims)?;
     marks.fill(0);
+    if settings.ports == 2 {
+        let is_taken = |claim: &u16| match &mut marks[places.place(*claim)..] {
+            [first @ 0, second @ 0, ..] => {
+                (*first, *second) = (1, 1);
+                false
+            }
+            _ => true,
+        };
+        return Ok(claims.iter().position(is_taken));
+    }
     let is_taken = |claim: &u16| {
         let mark = &mut marks[places.place(*claim)];
         let was_taken = *mark == 1;
@@ -192,6 +202,21 @@ fn in_bits(settings: &Settings, n: u16, claims: &[u16], scratch: &mut [u8]) -> J
     let marks = scratch.get_mut(..places.number().div_ceil(8)).ok_or((15, 0))?;
     places.check(claims)?;
     marks.fill(0);
+    if settings.ports == 2 {
+        let is_taken = |claim: &u16| {
+            let place = places.place(*claim);
+            // Both bits lie in one byte, but where the first is the last of its byte.
+            let (low, high) = ((3u16 << (place & 7)) as u8, (place & 7 == 7) as u8);
+            let (at, next) = (place >> 3, (place + 1) >> 3);
+            if (marks[at] & low) | (marks[next] & high) != 0 {
+                return true;
+            }
+            marks[at] |= low;
+            marks[next] |= high;
+            false
+        };
+        return Ok(claims.iter().position(is_taken));
+    }
     let is_taken = |claim: &u16| {
         let place = places.place(*claim);
         let (mark, bit) = (&mut marks[place >> 3], 1 << (place & 7));
@@ -206,6 +231,7 @@ fn in_bits(settings: &Settings, n: u16, claims: &[u16], scratch: &mut [u8]) -> J
 struct Places {
     size: u16,
     edges: [u16; 5],
+    ports: u16,
 }
 
 impl Places {
@@ -215,12 +241,13 @@ impl Places {
         check(settings).map_err(without_index)?;
         let size = window_size(settings.config, n).map_err(without_index)?;
         let edges = [0, 8, 20, 32, 44].map(|twelfths| settings.nrb * twelfths / 36);
-        Ok(Self { size, edges })
+        Ok(Self { size, edges, ports: settings.ports })
     }
 
+    /// The second port of the last claim has one more.
     #[inline(always)]
     fn number(&self) -> usize {
-        usize::from(self.size * self.edges[4])
+        usize::from(self.size * self.edges[4] + self.ports - 1)
     }
 
     /// No claim of the list is bad.

@@ -3,11 +3,12 @@
 use Prim.Native.Nat.{_-_}
 use mathlib.Core.Path.{refl}
 use native.Mathlib.Omega.{arith}
-use lib.ListN.{length}
+use lib.ListN.{length, length-set}
 use borrow.Author.Needs.{needs}
 use Rattle.claims.specs.Claims.{markedUpTo}
 use Rattle.claims.proofs.Marks.{none-marked}
-use Rattle.claims.proofs.Turn.{Before, ended, byte-clash, byte-turn}
+use Rattle.claims.proofs.Read.{next-most}
+use Rattle.claims.proofs.Turn.{Before, ended, byte-inside, next-byte-inside, byte-clash, next-byte-clash, byte-turn}
 use Rattle.claims.proofs.mark.Statement.{statement}
 use Rattle.claims.proofs.mark.Tie as tie
 
@@ -35,20 +36,52 @@ shared-slice-read-claim c = omega arith
 offset-of-requires : tie.Need-offset-of-requires Inv-loop μ-loop
 offset-of-requires c κs = search needs
 
+add-u : tie.Need-add-u Inv-loop μ-loop
+add-u c =
+    let b = c .before in
+    omega (arith, next-most _ (b .before .before .before .before .before .before .pre .accepted) _ (b .offset-of .ensures .below))
+
 slice-read-if1 : tie.Need-slice-read-if1 Inv-loop μ-loop
-slice-read-if1 c = omega arith
+slice-read-if1 c =
+    let b = c .before .before in
+    let l = b .before .before .before in
+    byte-inside _ _ _ (l .before .before .before .pre) _ _ (l .loop .inv) (b .before .before .loop-test .taken) _ (b .offset-of .ensures) _ refl
 
 same-length : tie.Need-same-length Inv-loop μ-loop
-same-length c = c .before .before .before .before .before .loop .inv .long
+same-length c = c .before .before .before .before .before .before .loop .inv .long
 
 returns : tie.Need-returns Inv-loop μ-loop
 returns c =
-    let b = c .before .before in
+    let b = c .before .before .before in
     let l = b .before .before .before in
-    byte-clash _ _ _ (l .before .before .before .pre) _ _ (l .loop .inv) (b .before .before .loop-test .taken) _ (b .offset-of .ensures) (c .if1 .taken)
+    byte-clash _ _ _ (l .before .before .before .pre) _ _ (l .loop .inv) (b .before .before .loop-test .taken) _ (b .offset-of .ensures) _ refl (c .if1 .taken)
+
+slice-read-if2 : tie.Need-slice-read-if2 Inv-loop μ-loop
+slice-read-if2 c =
+    let b = c .before .before .before .before in
+    let l = b .before .before .before in
+    next-byte-inside _ _ _ (l .before .before .before .pre) _ _ (l .loop .inv) (b .before .before .loop-test .taken) _ (b .offset-of .ensures) _ refl
+
+same-length-2 : tie.Need-same-length-2 Inv-loop μ-loop
+same-length-2 c = c .before .before .before .before .before .before .before .before .loop .inv .long
+
+returns-2 : tie.Need-returns-2 Inv-loop μ-loop
+returns-2 c =
+    let b = c .before .before .before .before .before in
+    let l = b .before .before .before in
+    next-byte-clash _ _ _ (l .before .before .before .pre) _ _ (l .loop .inv) (b .before .before .loop-test .taken) _ (b .offset-of .ensures) _ refl (c .if2 .taken)
 
 slice-write-scratch : tie.Need-slice-write-scratch Inv-loop μ-loop
-slice-write-scratch c = omega arith
+slice-write-scratch c =
+    let b = c .before .before .before .before .before in
+    let l = b .before .before .before in
+    byte-inside _ _ _ (l .before .before .before .pre) _ _ (l .loop .inv) (b .before .before .loop-test .taken) _ (b .offset-of .ensures) _ refl
+
+slice-write-scratch-2 : tie.Need-slice-write-scratch-2 Inv-loop μ-loop
+slice-write-scratch-2 c =
+    let b = c .before .before .before .before .before in
+    let l = b .before .before .before in
+    simp length-set (next-byte-inside _ _ _ (l .before .before .before .pre) _ _ (l .loop .inv) (b .before .before .loop-test .taken) _ (b .offset-of .ensures) _ refl)
 
 add-i : tie.Need-add-i Inv-loop μ-loop
 add-i c = omega arith
@@ -58,15 +91,15 @@ loop-less c = omega arith
 
 loop-again : tie.Need-loop-again Inv-loop μ-loop
 loop-again c =
-    let b = c .before .before in
+    let b = c .before .before .before .before .before in
     let l = b .before .before .before in
-    byte-turn _ _ _ (l .before .before .before .pre) _ _ (l .loop .inv) (b .before .before .loop-test .taken) _ (b .offset-of .ensures) (c .if1 .left)
+    byte-turn _ _ _ (l .before .before .before .pre) _ _ (l .loop .inv) (b .before .before .loop-test .taken) _ (b .offset-of .ensures) _ refl (c .before .before .if1 .left) (c .if2 .left)
 
-same-length-2 : tie.Need-same-length-2 Inv-loop μ-loop
-same-length-2 c = c .before .loop .inv .long
+same-length-3 : tie.Need-same-length-3 Inv-loop μ-loop
+same-length-3 c = c .before .loop .inv .long
 
-returns-2 : tie.Need-returns-2 Inv-loop μ-loop
-returns-2 c = ended _ _ _ _ _ _ (c .before .loop .inv) (c .loop-test .left)
+returns-3 : tie.Need-returns-3 Inv-loop μ-loop
+returns-3 c = ended _ _ _ _ _ _ (c .before .loop .inv) (c .loop-test .left)
 
 pub mark-spec : {M : Type 1} → statement M
 mark-spec =
@@ -78,12 +111,17 @@ mark-spec =
     mul-claim
     shared-slice-read-claim
     offset-of-requires
+    add-u
     slice-read-if1
     same-length
     returns
+    slice-read-if2
+    same-length-2
+    returns-2
     slice-write-scratch
+    slice-write-scratch-2
     add-i
     loop-less
     loop-again
-    same-length-2
-    returns-2)
+    same-length-3
+    returns-3)

@@ -42,6 +42,9 @@ enum-known-x-2 c = search needs
 number-requires : tie.Need-number-requires
 number-requires c κs = search needs
 
+number-requires-2 : tie.Need-number-requires-2
+number-requires-2 c κs = search needs
+
 returns : tie.Need-returns
 returns c = same _ _ _ _ (c .no-reply .ensures) (c .before .enum-told .given .1)
 
@@ -55,7 +58,10 @@ returns-4 : tie.Need-returns-4
 returns-4 c = same _ _ _ _ (c .no-reply4 .ensures) (c .before .before .x .given .1)
 
 returns-5 : tie.Need-returns-5
-returns-5 c = rw (c .number .ensures) (sym (ap (λ (x : Answer). answerNumbers x (c .before .before .before .before .before .args .handset)) (c .before .before .before .x2 .given .1)))
+returns-5 c =
+    let answer = c .before .before .before .before .before in
+    rw (c .before .number .ensures, c .number2 .ensures)
+    (sym (ap (λ (x : Answer). answerNumbers x (answer .before .before .args .handset)) (answer .x2 .given .1)))
 
 pub answer-numbers-spec : {M : Type 1} → statement M
 answer-numbers-spec =
@@ -71,6 +77,7 @@ answer-numbers-spec =
     no-reply-requires-4
     enum-known-x-2
     number-requires
+    number-requires-2
     returns
     returns-2
     returns-3

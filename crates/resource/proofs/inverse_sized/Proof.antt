@@ -1,4 +1,4 @@
--- `resource::inverse_sized` meets its contract: 1 to 6, 17, 19 and 7 first, then the answer in a window of that size. Assumes nothing.
+-- `resource::inverse_sized` meets its contract: 1 to 6, 17, 19, 24 and 7 first, then the answer in a window of that size. Assumes nothing.
 use mathlib.Core.Path.{_∙_}
 use borrow.Author.Needs.{needs}
 use Rattle.frame.proofs.Causes.{decided}

@@ -1,4 +1,4 @@
--- `resource::resource_sized` meets its contract: 1 to 6, 17 and 19 first, then the answer of settings that were tested. Assumes nothing.
+-- `resource::resource_sized` meets its contract: 1 to 6, 17, 19 and 24 first, then the answer of settings that were tested. Assumes nothing.
 use mathlib.Core.Path.{sym, _∙_}
 use borrow.Author.Needs.{needs}
 use Rattle.resource.proofs.Sized.{settings-refused, within-sized}

@@ -1,4 +1,4 @@
--- `claims::bits::claims_in_bits` meets its contract: 1 to 6, 17, 19, 7, 15 and 16, with the scratch as it was, then the first clash, or clean.
+-- `claims::bits::claims_in_bits` meets its contract: 1 to 6, 17, 19, 24, 7, 15 and 16, with the scratch as it was, then the first clash, or clean.
 -- Assumes nothing.
 use mathlib.Core.Path.{_≡_, sym, _∙_}
 use native.Mathlib.Omega.{arith}

@@ -1,14 +1,14 @@
 -- `claims::bits::mark_bits` meets its contract. The loop's invariant: no claim before i clashes with an earlier one, and the scratch has
 -- the marks of the claims before i. The measure is the claims left. Assumes nothing.
-use Prim.Native.Nat.{_+_, _-_, _/_, _%_, _^_, _<_}
+use Prim.Native.Nat.{_-_, _%_, _<_}
 use mathlib.Core.Path.{refl}
 use native.Mathlib.Omega.{arith}
-use lib.ListN.{length, getD}
+use lib.ListN.{length, length-set}
 use borrow.Author.Needs.{needs}
 use Rattle.claims.specs.Bits.{bitMarkedUpTo}
-use Rattle.claims.proofs.BitMarks.{byte-in-room, none-marked}
-use Rattle.claims.proofs.Packed.{sum-below}
-use Rattle.claims.proofs.Turn.{Before, ended, weight, bit-clash, bit-turn}
+use Rattle.claims.proofs.BitMarks.{none-marked}
+use Rattle.claims.proofs.Read.{next-most}
+use Rattle.claims.proofs.Turn.{Before, ended, bit-inside, next-bit-inside, bit-clash, next-bit-clash, bit-turn}
 use Rattle.claims.proofs.bits.mark_bits.Statement.{statement}
 use Rattle.claims.proofs.bits.mark_bits.Tie as tie
 
@@ -36,8 +36,16 @@ shared-slice-read-claim c = omega arith
 offset-of-requires : tie.Need-offset-of-requires Inv-loop μ-loop
 offset-of-requires c κs = search needs
 
-slice-read-byte : tie.Need-slice-read-byte Inv-loop μ-loop
-slice-read-byte c = omega (arith, byte-in-room _ _ _ (c .before .offset-of .ensures .below))
+add-u : tie.Need-add-u Inv-loop μ-loop
+add-u c =
+    let b = c .before in
+    omega (arith, next-most _ (b .before .before .before .before .before .before .pre .accepted) _ (b .offset-of .ensures .below))
+
+slice-read-if1 : tie.Need-slice-read-if1 Inv-loop μ-loop
+slice-read-if1 c =
+    let b = c .before .before in
+    let l = b .before .before .before in
+    bit-inside _ _ _ (l .before .before .before .pre) _ _ (l .loop .inv) (b .before .before .loop-test .taken) _ (b .offset-of .ensures) _ refl
 
 cast-if1 : tie.Need-cast-if1 Inv-loop μ-loop
 cast-if1 c = search needs
@@ -46,29 +54,64 @@ shr-if1 : tie.Need-shr-if1 Inv-loop μ-loop
 shr-if1 c = search needs
 
 same-length : tie.Need-same-length Inv-loop μ-loop
-same-length c = c .before .before .before .before .before .loop .inv .long
+same-length c = c .before .before .before .before .before .before .loop .inv .long
 
 returns : tie.Need-returns Inv-loop μ-loop
 returns c =
-    let b = c .before .before in
+    let b = c .before .before .before in
     let l = b .before .before .before in
-    bit-clash _ _ _ (l .before .before .before .pre) _ _ (l .loop .inv) (b .before .before .loop-test .taken) _ (b .offset-of .ensures) (c .if1 .taken)
+    bit-clash _ _ _ (l .before .before .before .pre) _ _ (l .loop .inv) (b .before .before .loop-test .taken) _ (b .offset-of .ensures) _ refl (c .if1 .taken)
 
-cast-scratch : tie.Need-cast-scratch Inv-loop μ-loop
-cast-scratch c = search needs
+slice-read-if2 : tie.Need-slice-read-if2 Inv-loop μ-loop
+slice-read-if2 c =
+    let b = c .before .before .before .before in
+    let l = b .before .before .before in
+    next-bit-inside _ _ _ (l .before .before .before .pre) _ _ (l .loop .inv) (b .before .before .loop-test .taken) _ (b .offset-of .ensures) _ refl
 
-shl-scratch : tie.Need-shl-scratch Inv-loop μ-loop
-shl-scratch c = search needs
+cast-if2 : tie.Need-cast-if2 Inv-loop μ-loop
+cast-if2 c = search needs
 
-add-scratch : tie.Need-add-scratch Inv-loop μ-loop
-add-scratch c =
-    let t = c .before .before .offset-of .result in
-    let x = getD (c .before .before .before .before .before .loop .scratch) (t / 8) 0 in
-    let fits : x + 2 ^ (t % 8) < 256 = sum-below 8 x (t % 8) (omega arith) (omega (arith, c .before .slice-known2 .given (t / 8))) (c .if1 .left) in
-    omega (arith, weight (t % 8) (omega arith))
+shr-if2 : tie.Need-shr-if2 Inv-loop μ-loop
+shr-if2 c = search needs
+
+same-length-2 : tie.Need-same-length-2 Inv-loop μ-loop
+same-length-2 c = c .before .before .before .before .before .before .before .before .loop .inv .long
+
+returns-2 : tie.Need-returns-2 Inv-loop μ-loop
+returns-2 c =
+    let b = c .before .before .before .before .before in
+    let l = b .before .before .before in
+    next-bit-clash _ _ _ (l .before .before .before .pre) _ _ (l .loop .inv) (b .before .before .loop-test .taken) _ (b .offset-of .ensures) _ refl (c .if2 .taken)
+
+slice-read-with-bit : tie.Need-slice-read-with-bit Inv-loop μ-loop
+slice-read-with-bit c =
+    let b = c .before .before .before .before .before .before in
+    let l = b .before .before .before in
+    bit-inside _ _ _ (l .before .before .before .pre) _ _ (l .loop .inv) (b .before .before .loop-test .taken) _ (b .offset-of .ensures) _ refl
+
+with-bit-requires : tie.Need-with-bit-requires Inv-loop μ-loop
+with-bit-requires c κs = omega arith
 
 slice-write-scratch : tie.Need-slice-write-scratch Inv-loop μ-loop
-slice-write-scratch c = omega (arith, byte-in-room _ _ _ (c .before .before .offset-of .ensures .below))
+slice-write-scratch c =
+    let b = c .before .before .before .before .before .before .before in
+    let l = b .before .before .before in
+    bit-inside _ _ _ (l .before .before .before .pre) _ _ (l .loop .inv) (b .before .before .loop-test .taken) _ (b .offset-of .ensures) _ refl
+
+slice-read-with-bit-2 : tie.Need-slice-read-with-bit-2 Inv-loop μ-loop
+slice-read-with-bit-2 c =
+    let b = c .before .before .before .before .before .before .before .before in
+    let l = b .before .before .before in
+    simp length-set (next-bit-inside _ _ _ (l .before .before .before .pre) _ _ (l .loop .inv) (b .before .before .loop-test .taken) _ (b .offset-of .ensures) _ refl)
+
+with-bit-requires-2 : tie.Need-with-bit-requires-2 Inv-loop μ-loop
+with-bit-requires-2 c κs = omega arith
+
+slice-write-scratch-2 : tie.Need-slice-write-scratch-2 Inv-loop μ-loop
+slice-write-scratch-2 c =
+    let b = c .before .before .before .before .before .before .before .before .before in
+    let l = b .before .before .before in
+    simp length-set (next-bit-inside _ _ _ (l .before .before .before .pre) _ _ (l .loop .inv) (b .before .before .loop-test .taken) _ (b .offset-of .ensures) _ refl)
 
 add-i : tie.Need-add-i Inv-loop μ-loop
 add-i c = omega arith
@@ -78,15 +121,18 @@ loop-less c = omega arith
 
 loop-again : tie.Need-loop-again Inv-loop μ-loop
 loop-again c =
-    let b = c .before .before in
+    let two = c .before .before .before .before in
+    let one = two .before .before in
+    let b = one .before .before .before in
     let l = b .before .before .before in
-    bit-turn _ _ _ (l .before .before .before .pre) _ _ (l .loop .inv) (b .before .before .loop-test .taken) _ (b .offset-of .ensures) (c .if1 .left)
+    bit-turn _ _ _ (l .before .before .before .pre) _ _ (l .loop .inv) (b .before .before .loop-test .taken) _ (b .offset-of .ensures) _ refl (one .if1 .left) (two .if2 .left) _
+    (c .before .before .with-bit .ensures) _ (c .with-bit2 .ensures)
 
-same-length-2 : tie.Need-same-length-2 Inv-loop μ-loop
-same-length-2 c = c .before .loop .inv .long
+same-length-3 : tie.Need-same-length-3 Inv-loop μ-loop
+same-length-3 c = c .before .loop .inv .long
 
-returns-2 : tie.Need-returns-2 Inv-loop μ-loop
-returns-2 c = ended _ _ _ _ _ _ (c .before .loop .inv) (c .loop-test .left)
+returns-3 : tie.Need-returns-3 Inv-loop μ-loop
+returns-3 c = ended _ _ _ _ _ _ (c .before .loop .inv) (c .loop-test .left)
 
 pub mark-bits-spec : {M : Type 1} → statement M
 mark-bits-spec =
@@ -98,17 +144,25 @@ mark-bits-spec =
     mul-claim
     shared-slice-read-claim
     offset-of-requires
-    slice-read-byte
+    add-u
+    slice-read-if1
     cast-if1
     shr-if1
     same-length
     returns
-    cast-scratch
-    shl-scratch
-    add-scratch
+    slice-read-if2
+    cast-if2
+    shr-if2
+    same-length-2
+    returns-2
+    slice-read-with-bit
+    with-bit-requires
     slice-write-scratch
+    slice-read-with-bit-2
+    with-bit-requires-2
+    slice-write-scratch-2
     add-i
     loop-less
     loop-again
-    same-length-2
-    returns-2)
+    same-length-3
+    returns-3)

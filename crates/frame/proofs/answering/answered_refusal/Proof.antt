@@ -1,4 +1,4 @@
--- `frame::answering::answered_refusal` meets its contract: 1 to 6, 17 and 19 first, then 7 where the subframe is not downlink. Assumes nothing.
+-- `frame::answering::answered_refusal` meets its contract: 1 to 6, 17, 19 and 24 first, then 7 where the subframe is not downlink. Assumes nothing.
 use mathlib.Core.Path.{sym, _∙_}
 use borrow.Author.Needs.{needs}
 use Rattle.frame.specs.Distance.{answeredRefusal}

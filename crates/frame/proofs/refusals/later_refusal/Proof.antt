@@ -17,7 +17,26 @@ special-refusal-requires c κs = search needs
 
 returns-2 : tie.Need-returns-2
 unfolding laterRefusal
-returns-2 c = refused-next _ _ _ _ (c .before .before .scheduled-refusal .ensures) (c .before .if1 .left) (c .special-refusal .ensures)
+returns-2 c =
+    refused-next _ _ _ _ (c .before .before .before .scheduled-refusal .ensures) (c .before .before .if1 .left)
+    (refused-first _ _ _ (c .before .special-refusal .ensures) (c .if2 .taken))
+
+ports-refusal-requires : tie.Need-ports-refusal-requires
+ports-refusal-requires c κs = search needs
+
+returns-3 : tie.Need-returns-3
+unfolding laterRefusal
+returns-3 c =
+    refused-next _ _ _ _ (c .before .before .before .before .scheduled-refusal .ensures) (c .before .before .before .if1 .left)
+    (refused-next _ _ _ _ (c .before .before .special-refusal .ensures) (c .before .if2 .left) (c .ports-refusal .ensures))
 
 pub later-refusal-spec : {M : Type 1} → statement M
-later-refusal-spec = tie.close (tie.spec scheduled-refusal-requires returns special-refusal-requires returns-2)
+later-refusal-spec =
+    tie.close
+    (tie.spec
+    scheduled-refusal-requires
+    returns
+    special-refusal-requires
+    returns-2
+    ports-refusal-requires
+    returns-3)

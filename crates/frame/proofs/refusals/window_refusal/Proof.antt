@@ -1,4 +1,4 @@
--- `frame::refusals::window_refusal` meets its contract: 1 to 6, 17 and 19 first, then 7 where M is 0. Assumes nothing.
+-- `frame::refusals::window_refusal` meets its contract: 1 to 6, 17, 19 and 24 first, then 7 where M is 0. Assumes nothing.
 use borrow.Author.Needs.{needs}
 use Rattle.frame.specs.Settings.{windowRefusal}
 use Rattle.frame.proofs.Causes.{refused-first, without-window, with-window}

@@ -1,4 +1,4 @@
--- `handset::making::make` meets its contract: 1 to 6, 17 and 19, else a fresh handset. Assumes nothing.
+-- `handset::making::make` meets its contract: 1 to 6, 17, 19 and 24, else a fresh handset. Assumes nothing.
 use Prim.Native.Nat.{ℕ}
 use mathlib.Core.Path.{_≡_}
 use borrow.Author.Needs.{needs}

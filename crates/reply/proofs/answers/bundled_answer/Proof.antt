@@ -28,7 +28,7 @@ module _ (s : Settings) (n : ℕ) (seen : Seen) where
 
   sent : (seen .u ≡ 0 → ⊥) → missShown s seen ≡ false → (at : Mapped) → at ≡ resourceOf s n (seen .position) (seen .cce .0)
       → (b0 : ℕ) → b0 ≡ bit (seen .first) → (b1 : ℕ) → b1 ≡ secondBit s seen
-      → (a : Answer) → a ≡ replyOn 1 at b0 b1 → a ≡ bundledAnswer s n seen
+      → (a : Answer) → a ≡ replyOn s 1 at b0 b1 → a ≡ bundledAnswer s n seen
   unfolding bundledAnswer
   sent h e at mapped b0 first b1 second a made = rw (ne-eqb (seen .u) 0 h, e, ← mapped, ← first, ← second) made
 

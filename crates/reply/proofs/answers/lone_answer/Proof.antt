@@ -16,7 +16,7 @@ use Rattle.reply.proofs.answers.lone_answer.Tie as tie
 
 module _ (s : Settings) (seen : Seen) where
   sent : seen .scheduled ≡ true → (b0 : ℕ) → b0 ≡ bit (seen .first) → (b1 : ℕ) → b1 ≡ secondBit s seen
-      → (at : Mapped) → at ≡ onScheduled s → (a : Answer) → a ≡ replyOn 1 at b0 b1 → a ≡ loneAnswer s seen
+      → (at : Mapped) → at ≡ onScheduled s → (a : Answer) → a ≡ replyOn s 1 at b0 b1 → a ≡ loneAnswer s seen
   unfolding loneAnswer secondBit
   sent e b0 first b1 second at mapped a made = rw (e, made, mapped, first, second)
 
