@@ -836,7 +836,9 @@ struct feedback_claims_answer feedback_claims(struct feedback_settings settings,
  * room is below (M * N_4 + 7) / 8, with two ports (M * N_4 + 8) / 8, rounded down. If
  * refused, all of scratch is as it was.
  *
- * Of lengths of 0, NULL and memory that overlaps the same holds as for feedback_claims.
+ * Of lengths of 0, NULL and memory that overlaps the same holds as for feedback_claims,
+ * and of a cell where some handsets have one port and some two: there no bit below
+ * M * N_4 is 1 in both scratches.
  */
 FEEDBACK_MUST_USE
 struct feedback_claims_answer feedback_claims_bits(struct feedback_settings settings, uint16_t n,

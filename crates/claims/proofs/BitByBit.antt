@@ -23,7 +23,7 @@ use Rattle.claims.proofs.BitMarks as bits
 use Rattle.claims.proofs.Packed.{bits-below, bits-only, bytes-length, bytes-at}
 
 -- Where the answer is no refusal, the settings, the subframe and the scratch are not refused.
-accepted-with : (s : Settings) (n : ℕ) (claims : List ℕ) (room lent : ℕ) → Answered (checkedWith s n claims room lent)
+pub accepted-with : (s : Settings) (n : ℕ) (claims : List ℕ) (room lent : ℕ) → Answered (checkedWith s n claims room lent)
     → (windowRefusal s n ≡ 0) × (room ≤ lent)
 unfolding checkedWith scratchRefusal
 accepted-with s n claims room lent a = go (windowRefusal s n) (ltb lent room) refl refl a

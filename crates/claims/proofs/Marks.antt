@@ -1,7 +1,7 @@
 -- The scratch with the marks of the claims before index e: what its bytes are, and that marking both places of claim e leads to index
 -- e + 1.
 -- Assumes nothing.
-use Prim.Native.Nat.{ℕ, zero, suc, _+_, _<_}
+use Prim.Native.Nat.{ℕ, zero, suc, _+_, _<_, _≤_}
 use mathlib.Core.Bool.{Bool, true, false, cond, _&&_, _||_, or-true, or-false, or-self, or-self-left, or-assoc}
 use mathlib.Core.List.{List, _∷_, _++_}
 use mathlib.Core.Path.{_≡_, refl, sym, ap, ap₂, _∙_, fun-ext}
@@ -9,7 +9,7 @@ use native.Mathlib.Decide.{ℕ-discrete}
 use native.Mathlib.Nat.{add-zero, zero-add, add-suc, suc-add, not-suc-le-zero, le-of-suc-le-suc}
 use native.Mathlib.Omega.{arith}
 use lib.Dec.{eqb}
-use lib.ListN.{length, getD, take, drop, set, replicate, take-append-drop, length-set, List·getD-append}
+use lib.ListN.{length, getD, take, drop, set, replicate, take-append-drop, length-set, length-append, length-drop, List·getD-append}
 use lib.Seq.{drop-at, getD-set-same, getD-set-other, set-append-left, ext-getD}
 use borrow.Author.Tests.{eq-eqb, ne-eqb}
 use Rattle.frame.specs.declared.Settings.{Settings}
@@ -131,6 +131,10 @@ module _ (s : Settings) (n : ℕ) (claims : List ℕ) where
     pub tail-kept : (e : ℕ) → drop (roomOf s n) (markedUpTo s n claims old e) ≡ drop (roomOf s n) old
     unfolding markedUpTo
     tail-kept e = drop-at (marksFrom (marked s n claims e) (roomOf s n) 0) _ (roomOf s n) (marks-length (marked s n claims e) (roomOf s n) 0)
+
+    pub marked-length : (e : ℕ) → roomOf s n ≤ length old → length (markedUpTo s n claims old e) ≡ length old
+    unfolding markedUpTo
+    marked-length e enough = simp (length-append, marks-length, length-drop) (omega arith)
 
     pub byte-at : (e t : ℕ) → t < roomOf s n → getD (markedUpTo s n claims old e) t 0 ≡ cond (marked s n claims e t) 1 0
     unfolding markedUpTo

@@ -9,25 +9,26 @@ use native.Mathlib.Nat.{add-zero, not-suc-le-zero, le-of-suc-le-suc, eq-or-lt-of
 use native.Mathlib.Omega.{arith}
 use lib.Dec.{eqb, ltb}
 use lib.ListN.{length, getD, take, drop}
-use borrow.Author.Tests.{eq-eqb, ltb-false}
+use borrow.Author.Tests.{eq-eqb, eqb-true, ltb-false}
 use Rattle.frame.specs.declared.Settings.{Settings}
 use Rattle.frame.specs.Order.{member}
-use Rattle.frame.specs.Settings.{hasSecondPort, windowRefusal}
+use Rattle.frame.specs.Settings.{orElse, hasSecondPort, windowRefusal}
 use Rattle.resource.specs.declared.Mapped.{Mapped}
 use Rattle.resource.specs.declared.Mapped.the-variants as mapped
 use Rattle.resource.specs.declared.PortsMapped.{PortsMapped}
 use Rattle.resource.specs.declared.PortsMapped.the-variants as both
 use Rattle.resource.specs.Ports.{secondPort, onPorts, portsOf}
-use Rattle.resource.proofs.OneToOne.{resource-range}
+use Rattle.resource.proofs.OneToOne.{resource-call, resource-range}
 use Rattle.resource.proofs.SecondPort.{port-above, call-most}
+use Rattle.claims.specs.declared.Checked.{Checked}
 use Rattle.claims.specs.declared.Checked.the-variants.{Clean, Clash, Refused}
 use Rattle.claims.specs.Bits.{bitRoomOf}
-use Rattle.claims.specs.Claims.{claimPosition, claimCce, claimed, resourcesOf, roomOf, isBad, firstBad, takes, earlier, firstClash, scratchRefusal, checkedAt, checkedOn, refusedOr, checkedWith, checkedOf, marked, markedUpTo, scratchOf}
+use Rattle.claims.specs.Claims.{claimPosition, claimCce, claimed, resourcesOf, roomOf, isBad, firstBad, takes, clashes, earlier, firstClash, scratchRefusal, checkedAt, checkedOn, refusedOr, checkedWith, checkedOf, marked, markedUpTo, scratchOf}
 use Rattle.claims.specs.Clean.{HasOnPort}
 use Rattle.claims.specs.Forms.{Answered}
 use Rattle.claims.specs.Marking.{Has}
-use Rattle.claims.specs.OnPorts.{OnPorts, TwoPorts, firstEqual, OnePort, MixedCell, ClaimsOnPorts}
-use Rattle.claims.proofs.BitByBit.{answered-scratch}
+use Rattle.claims.specs.OnPorts.{OnPorts, TwoPorts, firstEqual, OnePort, SameCell, MixedCell, ClaimsOnPorts}
+use Rattle.claims.proofs.BitByBit.{accepted-with, answered-scratch}
 use Rattle.claims.proofs.First.{first-only, first-bad, first-clash}
 use Rattle.claims.proofs.Marks as bytes
 use Rattle.claims.proofs.Marks.{either-first}
@@ -120,7 +121,7 @@ two-ports s n two =
       clash = apart-exactly s n two;
     }
 
-module _ (s : Settings) (n : ℕ) (one : s .ports ≡ 1) (accepted : windowRefusal s n ≡ 0) where
+module _ (s : Settings) (n : ℕ) (one : s .ports ≡ 1) where
   no-second : hasSecondPort s ≡ false
   unfolding hasSecondPort
   no-second = ap (λ (ports : ℕ). eqb ports 2) one
@@ -129,42 +130,72 @@ module _ (s : Settings) (n : ℕ) (one : s .ports ≡ 1) (accepted : windowRefus
   unfolding roomOf
   same-room = rw no-second (add-zero (resourcesOf s n))
 
+  same-bit-room : bitRoomOf s n ≡ (resourcesOf s n + 7) / 8
+  unfolding bitRoomOf
+  same-bit-room = rw same-room
+
   -- A resource on a port is the first port's.
   first-port : (claim r : ℕ) → HasOnPort s n claim r → Has s n claim r
   first-port claim r (inl has) = has
   first-port claim r (inr on) = absurd (omega (arith, one, on .0))
 
-  module _ (claims : List ℕ) (good : (i : ℕ) → i < length claims → isBad s n (getD claims i 0) ≡ false) where
-    equal-earlier : (c : ℕ) → isBad s n c ≡ false → (e : ℕ) → e ≤ length claims → earlier s n claims e c ≡ member c (take e claims)
-    equal-earlier c fine zero h = refl
-    equal-earlier c fine (suc e) h =
-        ap₂ _||_ (equal-exactly s n no-second accepted (getD claims e 0) c (good e (omega arith)) fine) (equal-earlier c fine e (omega arith))
-        ∙ sym (member-next c claims e (omega arith))
+  first-marks : (claims : List ℕ) (e t : ℕ) → (marked s n claims e t ≡ true) ↔ ((i : ℕ) × (i < e) × Has s n (getD claims i 0) (t + s .n1))
+  first-marks claims e t = (
+    λ h. let f = marked-to s n claims e t h in (f .0, f .1, first-port (getD claims (f .0) 0) (t + s .n1) (f .2)),
+    λ f. marked-from s n claims e t (f .0) (f .1) (inl (f .2)),
+  )
 
-    same-test : (i : ℕ) → i < length claims → earlier s n claims i (getD claims i 0) ≡ member (getD claims i 0) (take i claims)
-    same-test i h = equal-earlier (getD claims i 0) (good i h) i (omega arith)
+  -- Where the settings and the subframe are accepted.
+  module _ (accepted : windowRefusal s n ≡ 0) where
+    at-most : (roomOf s n ≤ 1206) × (bitRoomOf s n ≤ 151)
+    at-most = (omega (arith, same-room, resources-most s n accepted), omega (arith, same-bit-room, resources-most s n accepted))
 
-    first-equal : firstClash s n claims ≡ firstEqual claims
-    first-equal =
-        let f = first-clash s n claims in
-        first-only _ (length claims) (firstClash s n claims)
-        (record {
-          least = f .least;
-          most = f .most;
-          before = λ i low below. sym (same-test i (omega (arith, f .most))) ∙ f .before i low below;
-          passes = λ h. sym (same-test (firstClash s n claims) h) ∙ f .passes h;
-        })
+    equal-clash : (a b : ℕ) → isBad s n a ≡ false → isBad s n b ≡ false → (clashes s n a b ≡ true) ↔ (a ≡ b)
+    equal-clash a b ga gb =
+        let same = equal-exactly s n no-second accepted a b ga gb in
+        (λ e. eqb-true a b (sym same ∙ e), λ e. same ∙ eq-eqb a b e)
 
-  -- The answer: where a claim is bad, 16 whatever the first clash is.
-  same-checked : (claims : List ℕ) → checkedOn s n claims ≡ checkedAt s n claims (firstEqual claims)
-  unfolding checkedOn
-  same-checked claims = go (ltb (firstBad s n claims) (length claims)) refl
+    module _ (claims : List ℕ) (good : (i : ℕ) → i < length claims → isBad s n (getD claims i 0) ≡ false) where
+      equal-earlier : (c : ℕ) → isBad s n c ≡ false → (e : ℕ) → e ≤ length claims → earlier s n claims e c ≡ member c (take e claims)
+      equal-earlier c fine zero h = refl
+      equal-earlier c fine (suc e) h =
+          ap₂ _||_ (equal-exactly s n no-second accepted (getD claims e 0) c (good e (omega arith)) fine) (equal-earlier c fine e (omega arith))
+          ∙ sym (member-next c claims e (omega arith))
+
+      same-test : (i : ℕ) → i < length claims → earlier s n claims i (getD claims i 0) ≡ member (getD claims i 0) (take i claims)
+      same-test i h = equal-earlier (getD claims i 0) (good i h) i (omega arith)
+
+      first-equal : firstClash s n claims ≡ firstEqual claims
+      first-equal =
+          let f = first-clash s n claims in
+          first-only _ (length claims) (firstClash s n claims)
+          (record {
+            least = f .least;
+            most = f .most;
+            before = λ i low below. sym (same-test i (omega (arith, f .most))) ∙ f .before i low below;
+            passes = λ h. sym (same-test (firstClash s n claims) h) ∙ f .passes h;
+          })
+
+    -- The answer: where a claim is bad, 16 whatever the first clash is.
+    same-checked : (claims : List ℕ) → checkedOn s n claims ≡ checkedAt s n claims (firstEqual claims)
+    unfolding checkedOn
+    same-checked claims = go (ltb (firstBad s n claims) (length claims)) refl
+      where
+        go : (b : Bool) → ltb (firstBad s n claims) (length claims) ≡ b → checkedAt s n claims (firstClash s n claims) ≡ checkedAt s n claims (firstEqual claims)
+        go true bad = rw bad
+        go false good =
+            let none = ltb-false (firstBad s n claims) (length claims) good in
+            rw (first-equal claims (λ i h. first-bad s n claims .before i (omega arith) (omega arith)))
+
+  -- The answer of either form; settings and subframe that are refused are answered alike.
+  same-answer : (claims : List ℕ) (room lent : ℕ) → checkedWith s n claims room lent ≡ refusedOr (scratchRefusal s n room lent) (checkedAt s n claims (firstEqual claims))
+  unfolding checkedWith scratchRefusal
+  same-answer claims room lent = go (windowRefusal s n) refl
     where
-      go : (b : Bool) → ltb (firstBad s n claims) (length claims) ≡ b → checkedAt s n claims (firstClash s n claims) ≡ checkedAt s n claims (firstEqual claims)
-      go true bad = rw bad
-      go false good =
-          let none = ltb-false (firstBad s n claims) (length claims) good in
-          rw (first-equal claims (λ i h. first-bad s n claims .before i (omega arith) (omega arith)))
+      go : (k : ℕ) → windowRefusal s n ≡ k
+          → refusedOr (orElse k (cond (ltb lent room) 15 0)) (checkedOn s n claims) ≡ refusedOr (orElse k (cond (ltb lent room) 15 0)) (checkedAt s n claims (firstEqual claims))
+      go zero e = rw (same-checked e claims)
+      go (suc k) e = refl
 
   -- Where the answer is no refusal, no claim is bad.
   no-bad : (claims : List ℕ) (lent : ℕ) → Answered (checkedOf s n claims lent) → (i : ℕ) → i < length claims → isBad s n (getD claims i 0) ≡ false
@@ -184,7 +215,7 @@ module _ (s : Settings) (n : ℕ) (one : s .ports ≡ 1) (accepted : windowRefus
     unfolding scratchOf
     as-marked =
         answered-scratch (checkedOf s n claims (length old)) (markedUpTo s n claims old (firstClash s n claims)) old a
-        ∙ ap (markedUpTo s n claims old) (first-equal claims (no-bad claims (length old) a))
+        ∙ ap (markedUpTo s n claims old) (first-equal (accepted-with s n claims (roomOf s n) (length old) a .0) claims (no-bad claims (length old) a))
 
     byte-here : (t : ℕ) → t < resourcesOf s n → getD (scratchOf s n claims old) t 0 ≡ cond (marked s n claims (firstEqual claims) t) 1 0
     byte-here t h =
@@ -193,43 +224,64 @@ module _ (s : Settings) (n : ℕ) (one : s .ports ≡ 1) (accepted : windowRefus
     kept-later : drop (resourcesOf s n) (scratchOf s n claims old) ≡ drop (resourcesOf s n) old
     kept-later = rw (as-marked, ← same-room) (bytes.tail-kept s n claims old (firstEqual claims))
 
-  first-marks : (claims : List ℕ) (e t : ℕ) → (marked s n claims e t ≡ true) ↔ ((i : ℕ) × (i < e) × Has s n (getD claims i 0) (t + s .n1))
-  first-marks claims e t = (
-    λ h. let f = marked-to s n claims e t h in (f .0, f .1, first-port (getD claims (f .0) 0) (t + s .n1) (f .2)),
-    λ f. marked-from s n claims e t (f .0) (f .1) (inl (f .2)),
-  )
+    as-long : length (scratchOf s n claims old) ≡ length old
+    as-long = ap length as-marked ∙ bytes.marked-length s n claims old (firstEqual claims) (accepted-with s n claims (roomOf s n) (length old) a .1)
 
-  same-bit-room : bitRoomOf s n ≡ (resourcesOf s n + 7) / 8
-  unfolding bitRoomOf
-  same-bit-room = rw same-room
+  -- On a refusal the scratch is as it was.
+  as-was : (claims old : List ℕ) (k i : ℕ) → checkedOf s n claims (length old) ≡ Refused k i → scratchOf s n claims old ≡ old
+  unfolding scratchOf
+  as-was claims old k i e = rw e
+
+  always-long : (claims old : List ℕ) → length (scratchOf s n claims old) ≡ length old
+  always-long claims old = go (checkedOf s n claims (length old)) refl
+    where
+      go : (v : Checked) → checkedOf s n claims (length old) ≡ v → length (scratchOf s n claims old) ≡ length old
+      go Clean e = as-long claims old (rw e tt)
+      go (Clash i) e = as-long claims old (rw e tt)
+      go (Refused k i) e = ap length (as-was claims old k i e)
 
   one-port : OnePort s n
-  unfolding checkedWith
   one-port =
       record {
         room = same-room;
         bitRoom = same-bit-room;
-        most = (omega (arith, same-room, resources-most s n accepted), omega (arith, same-bit-room, resources-most s n accepted));
-        answer = λ claims lent. rw (same-room, same-checked claims);
-        bitAnswer = λ claims lent. rw (same-bit-room, same-checked claims);
+        most = at-most;
+        clash = equal-clash;
+        answer = λ claims lent. same-answer claims (roomOf s n) lent ∙ rw same-room;
+        bitAnswer = λ claims lent. same-answer claims (bitRoomOf s n) lent ∙ rw same-bit-room;
         bytes = λ claims old a t h. (byte-here claims old a t h, first-marks claims (firstEqual claims) t);
         later = kept-later;
+        long = always-long;
       }
 
   -- Claims of one port beside claims of two.
-  mixed-cell : (u : Settings) → s .n1 ≡ u .n1 → MixedCell s u n
+  mixed-cell : (u : Settings) → SameCell s u → windowRefusal s n ≡ 0 → MixedCell s u n
   unfolding resourcesOf
-  mixed-cell u same ones twos = (
+  mixed-cell u same accepted ones twos = (
     λ apart i j r h k p q.
         let range = resource-range s n accepted (claimPosition (getD ones i 0)) (claimCce (getD ones i 0)) r (first-port (getD ones i 0) r p) in
         let here : r ≡ r - s .n1 + s .n1 = omega arith in
         apart (r - s .n1) (omega arith) (marked-from s n ones (length ones) (r - s .n1) i h (rw here at p))
-        (marked-from u n twos (length twos) (r - s .n1) j k (rw (here ∙ ap (λ (n1 : ℕ). r - s .n1 + n1) same) at q)),
+        (marked-from u n twos (length twos) (r - s .n1) j k (rw (here ∙ ap (λ (n1 : ℕ). r - s .n1 + n1) (same .n1)) at q)),
     λ apart t h p q.
         let f = marked-to s n ones (length ones) t p in
         let g = marked-to u n twos (length twos) t q in
-        apart (f .0) (g .0) (t + s .n1) (f .1) (g .1) (f .2) (subst (λ (n1 : ℕ). HasOnPort u n (getD twos (g .0) 0) (t + n1)) (sym same) (g .2)),
+        apart (f .0) (g .0) (t + s .n1) (f .1) (g .1) (f .2) (subst (λ (n1 : ℕ). HasOnPort u n (getD twos (g .0) 0) (t + n1)) (sym (same .n1)) (g .2)),
   )
 
+  -- The first port's resource is the cell's, whatever the ports.
+  first-safe : (u : Settings) → SameCell s u → windowRefusal s n ≡ 0 → windowRefusal u n ≡ 0 → (a r : ℕ) → HasOnPort s n a r → HasOnPort u n a r
+  first-safe u same accepted also a r on =
+      inl (
+      resource-call u n also (claimPosition a) (claimCce a)
+      ∙ rw (← same .config, ← same .nrb, ← same .n1) (sym (resource-call s n accepted (claimPosition a) (claimCce a)) ∙ first-port a r on))
+
 pub claims-on-ports : ClaimsOnPorts
-claims-on-ports = record { any = on-ports; two = two-ports; one = one-port; mixed = λ s u n one accepted. mixed-cell s n one accepted u }
+claims-on-ports =
+    record {
+      any = on-ports;
+      two = two-ports;
+      one = one-port;
+      mixed = λ s u n same one accepted. mixed-cell s n one u same accepted;
+      safe = λ s u n same one accepted also. first-safe s n one u same accepted also;
+    }

@@ -13,7 +13,7 @@ use Rattle.frame.specs.Settings.{windowRefusal}
 use Rattle.resource.specs.declared.PortsMapped.the-variants as ports
 use Rattle.resource.specs.Ports.{portsOf}
 use Rattle.claims.specs.Bits.{bitRoomOf, bitCheckedOf}
-use Rattle.claims.specs.Claims.{claimPosition, claimCce, resourcesOf, roomOf, firstIndex, clashes, scratchRefusal, checkedAt, refusedOr, checkedOf, marked, scratchOf}
+use Rattle.claims.specs.Claims.{claimPosition, claimCce, resourcesOf, roomOf, isBad, firstIndex, clashes, scratchRefusal, checkedAt, refusedOr, checkedOf, marked, scratchOf}
 use Rattle.claims.specs.Clean.{HasOnPort}
 use Rattle.claims.specs.Forms.{Answered}
 use Rattle.claims.specs.Marking.{Has}
@@ -41,12 +41,14 @@ pub record TwoPorts (s : Settings) (n : ℕ) : Type 0 where
 abbrev pub firstEqual : List ℕ → ℕ
 firstEqual claims = firstIndex (λ (i : ℕ). member (getD claims i 0) (take i claims)) (length claims) 0
 
--- One port.
+-- One port, whatever the other settings.
 pub record OnePort (s : Settings) (n : ℕ) : Type 0 where
   -- 15: "scratch shorter than M × N_4"; U6: "fewer than (M × N_4 + 7) / 8 bytes, rounded down"
   pub room : roomOf s n ≡ resourcesOf s n
   pub bitRoom : bitRoomOf s n ≡ (resourcesOf s n + 7) / 8
-  pub most : (roomOf s n ≤ 1206) × (bitRoomOf s n ≤ 151)
+  pub most : windowRefusal s n ≡ 0 → (roomOf s n ≤ 1206) × (bitRoomOf s n ≤ 151)
+  -- claims that are not bad clash exactly if they are equal
+  pub clash : windowRefusal s n ≡ 0 → (a b : ℕ) → isBad s n a ≡ false → isBad s n b ≡ false → (clashes s n a b ≡ true) ↔ (a ≡ b)
   -- the answer to every list, a bad claim in it or not
   pub answer : (claims : List ℕ) (lent : ℕ)
       → checkedOf s n claims lent ≡ refusedOr (scratchRefusal s n (resourcesOf s n) lent) (checkedAt s n claims (firstEqual claims))
@@ -58,9 +60,16 @@ pub record OnePort (s : Settings) (n : ℕ) : Type 0 where
       → (getD (scratchOf s n claims old) t 0 ≡ cond (marked s n claims (firstEqual claims) t) 1 0)
       × ((marked s n claims (firstEqual claims) t ≡ true) ↔ ((i : ℕ) × (i < firstEqual claims) × Has s n (getD claims i 0) (t + s .n1)))
   pub later : (claims old : List ℕ) → Answered (checkedOf s n claims (length old)) → drop (resourcesOf s n) (scratchOf s n claims old) ≡ drop (resourcesOf s n) old
+  pub long : (claims old : List ℕ) → length (scratchOf s n claims old) ≡ length old
 
--- A cell with handsets of both kinds: claims of one port, with the settings s, and claims of two, with the settings u of the same cell. No
--- resource of the ones is one of the others exactly if no t below M × N_4 is marked by both.
+-- Settings of handsets of one cell.
+pub record SameCell (s u : Settings) : Type 0 where
+  pub config : s .config ≡ u .config
+  pub nrb : s .nrb ≡ u .nrb
+  pub n1 : s .n1 ≡ u .n1
+
+-- A cell with handsets of both kinds: claims of one port, with the settings s, and claims of two, with the settings u. No resource of the
+-- ones is one of the others exactly if no t below M × N_4 is marked by both.
 abbrev pub MixedCell : Settings → Settings → ℕ → Type 0
 MixedCell s u n =
     (ones twos : List ℕ)
@@ -70,6 +79,9 @@ MixedCell s u n =
 pub record ClaimsOnPorts : Type 0 where
   pub any : (s : Settings) (n : ℕ) → OnPorts s n
   pub two : (s : Settings) (n : ℕ) → s .ports ≡ 2 → TwoPorts s n
-  -- accepted settings and a subframe with a window
-  pub one : (s : Settings) (n : ℕ) → s .ports ≡ 1 → windowRefusal s n ≡ 0 → OnePort s n
-  pub mixed : (s u : Settings) (n : ℕ) → s .ports ≡ 1 → windowRefusal s n ≡ 0 → s .n1 ≡ u .n1 → MixedCell s u n
+  pub one : (s : Settings) (n : ℕ) → s .ports ≡ 1 → OnePort s n
+  -- in a cell with handsets of both kinds: the exact way; and that with two ports a claim has all that it has with one, so that a list that
+  -- is clean with two ports is clean whichever handsets it is for
+  pub mixed : (s u : Settings) (n : ℕ) → SameCell s u → s .ports ≡ 1 → windowRefusal s n ≡ 0 → MixedCell s u n
+  pub safe : (s u : Settings) (n : ℕ) → SameCell s u → s .ports ≡ 1 → windowRefusal s n ≡ 0 → windowRefusal u n ≡ 0
+      → (a r : ℕ) → HasOnPort s n a r → HasOnPort u n a r

@@ -36,7 +36,7 @@
 --   changedExactly  5 is not known                                                         not-accepts-five
 --                   5 for 4                                                                not-five-for-four
 --                   8 while something heard is remembered                                  not-refuses-open
---                   24 is not known                                                        not-accepts-twenty-four
+--                   0 for 24                                                               not-accepts-twenty-four
 --                   24 before 5                                                            not-twenty-four-first
 --   changeLeaves    a refused change is kept                                               not-keeps-refused
 --                   one that is refused 24 is kept                                         not-keeps-twenty-four
@@ -252,7 +252,7 @@ abbrev pub MultiplexedIn : Engine → Run → ℕ → Type 0
 MultiplexedIn e r s = MultiplexedAt e r (r .set) s s
 
 module _ (e : Engine) (d : Demand3 e) where
-  bundled-in : (r : Run) → Worked r → (s : ℕ) → s < length (r .items) → itemAt (r .items) s ≡ feed Nothing → subframeAt (r .set) (r .items) s ≡ s
+  pub bundled-in : (r : Run) → Worked r → (s : ℕ) → s < length (r .items) → itemAt (r .items) s ≡ feed Nothing → subframeAt (r .set) (r .items) s ≡ s
       → AllFeeds (r .items) → 0 < length (windowAt (r .set) s) → r .set .mode ≡ 0 → BundledIn e r s
   bundled-in r w s inside brings counted feeds some mode =
       rw (made-settings (r .set) (r .items) feeds s) at

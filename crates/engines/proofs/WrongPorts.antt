@@ -3,12 +3,10 @@
 -- Assumes nothing.
 use Prim.Native.Nat.{ℕ, _+_}
 use mathlib.Core.Bool.{cond}
-use mathlib.Core.Logic.{inl}
 use mathlib.Core.Path.{_≡_, refl, ap}
 use native.Mathlib.Omega.{arith}
 use lib.Dec.{eqb}
 use Rattle.frame.specs.Settings.{hasSecondPort}
-use Rattle.heard.specs.declared.Heard.the-variants.{Nothing}
 use Rattle.reply.specs.declared.Answer.{Answer}
 use Rattle.reply.specs.declared.Answer.the-variants as answer
 use Rattle.reply.specs.declared.Reply.{Reply}
@@ -16,19 +14,17 @@ use Rattle.handset.specs.declared.Changed.{Changed}
 use Rattle.handset.specs.declared.Handset.{Handset}
 use Rattle.handset.specs.Change.{inNewMode, changeOf}
 use Rattle.agreement.specs.Demand3.{Engine, Demand3}
-use Rattle.agreement.specs.Run.{settingsIn}
 use Rattle.engines.proofs.Computing.{schedules, handsets}
-use Rattle.engines.proofs.PortRuns.{onTwoPorts, on-two-ports, fourLostOnTwo, four-lost-on-two}
-use Rattle.engines.proofs.Worked.{Run, fed-nothing-at}
+use Rattle.engines.proofs.PortRuns.{onTwoPorts, on-two-ports, fourLostOnTwo, four-lost-on-two, releaseOnTwo, release-on-two}
+use Rattle.engines.proofs.Worked.{answer-at, allHeard, all-heard, shared, symbol-shared}
 use Rattle.engines.proofs.WrongChanges.{saysInstead}
-use Rattle.engines.proofs.WrongEngines.{changedBy, answersBy, replying, replyingIn, holds-in, BundledAt, in-all-heard, in-shared}
+use Rattle.engines.proofs.WrongEngines.{changedBy, answersBy, replying, replyingIn, holds-in, BundledIn, bundled-in, in-all-heard, in-shared}
 
--- The window of subframe 7, which item 10 feeds with nothing: two grants are heard with two ports, and changes were refused between them.
+-- Answered at 12: a grant and then a release are heard by a handset with two ports.
 module _ (e : Engine) (d : Demand3 e) where
-  in-two-ports : BundledAt e onTwoPorts (settingsIn (onTwoPorts .set) (onTwoPorts .items) 7) 10 7
+  in-two-ports : BundledIn e releaseOnTwo 12
   unfolding schedules
-  in-two-ports =
-      holds-in e d onTwoPorts on-two-ports .bundled 10 7 Nothing (fed-nothing-at onTwoPorts 10 7 (omega arith) refl refl) (omega arith) (inl refl)
+  in-two-ports = bundled-in e d releaseOnTwo release-on-two 12 (omega arith) refl refl tt (omega arith) refl
 
 -- A reply with another resource of the second port.
 abbrev withSecond : ℕ → Reply → Answer
@@ -39,36 +35,41 @@ abbrev pub twoAbove : Answer → Answer
 twoAbove = replying (λ (r : Reply). withSecond (cond (eqb (r .second .0) 0) 0 (r .resource .0 + 2)) r)
 
 pub not-two-above : Demand3 (answersBy twoAbove) → ⊥
-unfolding handsets
-not-two-above d = omega (arith, in-two-ports (answersBy twoAbove) d .1 _ refl .ports .0 refl)
+unfolding schedules
+not-two-above d =
+    omega (arith, in-two-ports (answersBy twoAbove) d .1 _ (ap twoAbove (answer-at releaseOnTwo release-on-two 12)) .ports .0 refl)
 
 -- Both ports send on one resource.
 abbrev pub onFirstTwice : Answer → Answer
 onFirstTwice = replying (λ (r : Reply). withSecond (cond (eqb (r .second .0) 0) 0 (r .resource .0)) r)
 
 pub not-on-first-twice : Demand3 (answersBy onFirstTwice) → ⊥
-unfolding handsets
-not-on-first-twice d = omega (arith, in-two-ports (answersBy onFirstTwice) d .1 _ refl .ports .0 refl)
+unfolding schedules
+not-on-first-twice d =
+    omega (arith, in-two-ports (answersBy onFirstTwice) d .1 _ (ap onFirstTwice (answer-at releaseOnTwo release-on-two 12)) .ports .0 refl)
 
 -- The second port is silent.
 abbrev pub firstAlone : Answer → Answer
 firstAlone = replying (withSecond 0)
 
 pub not-first-alone : Demand3 (answersBy firstAlone) → ⊥
-unfolding handsets
-not-first-alone d = omega (arith, in-two-ports (answersBy firstAlone) d .1 _ refl .ports .0 refl)
+unfolding schedules
+not-first-alone d =
+    omega (arith, in-two-ports (answersBy firstAlone) d .1 _ (ap firstAlone (answer-at releaseOnTwo release-on-two 12)) .ports .0 refl)
 
 -- A handset of one port names a second resource, in a bundled reply or in a multiplexed one.
 abbrev pub alwaysTwo : ℕ → Answer → Answer
 alwaysTwo kind = replyingIn kind (λ (r : Reply). withSecond (r .resource .0 + 1) r)
 
 pub not-always-two : Demand3 (answersBy (alwaysTwo 1)) → ⊥
-unfolding handsets
-not-always-two d = omega (arith, in-all-heard (answersBy (alwaysTwo 1)) d .1 _ refl .ports .1 refl)
+unfolding schedules
+not-always-two d =
+    omega (arith, in-all-heard (answersBy (alwaysTwo 1)) d .1 _ (ap (alwaysTwo 1) (answer-at allHeard all-heard 7)) .ports .1 refl)
 
 pub not-always-two-multiplexed : Demand3 (answersBy (alwaysTwo 2)) → ⊥
-unfolding handsets
-not-always-two-multiplexed d = omega (arith, in-shared (answersBy (alwaysTwo 2)) d .1 _ refl .onePort)
+unfolding schedules
+not-always-two-multiplexed d =
+    omega (arith, in-shared (answersBy (alwaysTwo 2)) d .1 _ (ap (alwaysTwo 2) (answer-at shared symbol-shared 12)) .onePort)
 
 -- 24 is not answered: a change to mode 1 with two ports leaves the handset and answers 0.
 abbrev pub acceptsTwentyFour : Handset → ℕ → Changed
