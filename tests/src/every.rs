@@ -1,7 +1,7 @@
 //! Inputs in every combination of some values.
 
 use crate::model::{edge, Model, Window};
-use crate::{Handset, Settings, NONE};
+use crate::{Handset, Settings, Slot, NONE};
 
 /// The four ways to set mode and blocks; one of the modes is not for configuration 5.
 pub const MODE_AND_BLOCKS: [(u16, u16); 4] = [(0, 1), (0, 2), (1, 1), (1, 2)];
@@ -62,6 +62,19 @@ pub fn mixed_cells() -> Vec<Settings> {
     }
     assert_eq!(cells.len(), 13);
     cells
+}
+
+/// A handset that heard a grant in each subframe of the window of a subframe, decoded, by the
+/// DAI rule, and so is not silent in either mode.
+pub fn granted(model: &Model, settings: Settings, subframe: u16) -> Handset {
+    let window = model.window(settings.config, subframe).expect("a window");
+    let mut handset = Handset { next: subframe, ..Handset::fresh(settings) };
+    let mut ks = window.k.clone();
+    ks.sort();
+    for (j, k) in (0..).zip(ks.into_iter().rev()) {
+        handset.past[usize::from(k) - 1] = Slot::grant(k as u8, j % 4 + 1, 1);
+    }
+    handset
 }
 
 /// The handset with one field changed, for each field and each of its values: 0,

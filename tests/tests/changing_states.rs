@@ -260,20 +260,6 @@ const WINDOWS: [(u16, u16, u32, bool); 11] = [
     (6, 4, 5, false),
 ];
 
-/// A handset that heard a grant in each subframe of a window, decoded, by the DAI rule, and so
-/// is not silent in either mode.
-fn granted(settings: Settings, subframe: u16) -> Handset {
-    let model = Model::new();
-    let window = model.window(settings.config, subframe).expect("a window");
-    let mut handset = Handset { next: subframe, ..Handset::fresh(settings) };
-    let mut ks = window.k.clone();
-    ks.sort();
-    for (j, k) in (0..).zip(ks.into_iter().rev()) {
-        handset.past[usize::from(k) - 1] = Slot::grant(k as u8, j % 4 + 1, 1);
-    }
-    handset
-}
-
 /// Every number as the remembered modes. The bit of the largest k decides alone, whatever
 /// mode stands; a feed puts the standing mode behind twelve of the bits and drops the rest,
 /// and a change leaves all sixteen.
@@ -283,7 +269,7 @@ fn every_number_as_the_modes() {
     let mut comparison = Comparison::with(&model);
     for (config, subframe, largest, differ) in WINDOWS {
         for mode in [0, 1] {
-            let state = granted(Settings::plain(config, 50, 10, mode, 1), subframe);
+            let state = every::granted(&model, Settings::plain(config, 50, 10, mode, 1), subframe);
             let due = [0, Handset::ALL_MULTIPLEXING]
                 .map(|modes| answer(&feed_nothing(Handset { modes, ..state })));
             let kind = if differ { Fed::MULTIPLEXED } else { Fed::BUNDLED };
@@ -309,7 +295,7 @@ fn every_number_as_the_modes_of_configuration_5() {
     let model = Model::new();
     let mut comparison = Comparison::with(&model);
     for subframe in [2, 3] {
-        let mut state = granted(Settings::plain(5, 50, 10, 0, 1), 2);
+        let mut state = every::granted(&model, Settings::plain(5, 50, 10, 0, 1), 2);
         state.next = subframe;
         if subframe == 3 {
             state.past = [Slot::NOTHING; 13];
@@ -381,7 +367,8 @@ fn each_bit_of_every_window() {
     for window in windows {
         let largest = *window.k.iter().max().expect("a window has subframes");
         for mode in [0, 1] {
-            let state = granted(Settings::plain(window.config, 50, 10, mode, 2), window.n);
+            let state =
+                every::granted(&model, Settings::plain(window.config, 50, 10, mode, 2), window.n);
             let due = |modes| answer(&feed_nothing(Handset { modes, ..state }));
             let [bundled, other] = [0, Handset::ALL_MULTIPLEXING].map(due);
             assert_eq!(bundled != other, window.size() > 1, "{window:?}");

@@ -9,7 +9,7 @@ use feedback_tests::model::{is_uplink, Model};
 use feedback_tests::random::Random;
 use feedback_tests::{
     change_mode, feed, feed_nothing, make, Block, Changed, Fed, Grant, Handset, Heard, Release,
-    Settings, Slot, NONE,
+    Settings, NONE,
 };
 use std::mem::offset_of;
 
@@ -75,7 +75,7 @@ fn every_number_as_the_ports() {
     let model = Model::new();
     let mut comparison = Comparison::with(&model);
     let cell = Settings::plain(2, 50, 10, 0, 2);
-    let may_have_two = granted(&model, cell);
+    let may_have_two = every::granted(&model, cell, 2);
     let scheduled = Handset { settings: cell.with_scheduled(9), ..may_have_two };
     let multiplexing = may_have_two.in_mode(1);
     let remembering = Handset { modes: 1 << 5, ..may_have_two };
@@ -246,19 +246,6 @@ fn four_five_twenty_four_eight() {
     assert_eq!(counts.iter().sum::<u64>(), 7 * sets * 5);
 }
 
-/// A handset with two ports that heard a grant in each subframe of the window of 2, decoded, by
-/// the DAI rule, and so is not silent.
-fn granted(model: &Model, settings: Settings) -> Handset {
-    let window = model.window(settings.config, 2).expect("a window");
-    let mut handset = Handset { next: 2, ..Handset::fresh(settings) };
-    let mut ks = window.k.clone();
-    ks.sort();
-    for (j, k) in (0..).zip(ks.into_iter().rev()) {
-        handset.past[usize::from(k) - 1] = Slot::grant(k as u8, j % 4 + 1, 1);
-    }
-    handset
-}
-
 /// Every number as the remembered modes, in every configuration: one of the 13 bits makes a bad
 /// state, whatever window it is in, and the three above say nothing. So eight numbers are left;
 /// they are answered as 0 is, and a feed drops their bits.
@@ -268,7 +255,7 @@ fn every_number_as_the_modes() {
     let mut comparison = Comparison::with(&model);
     let mut good = 0;
     for config in 0..7 {
-        let state = granted(&model, Settings::plain(config, 50, 10, 0, 1).with_ports(2));
+        let state = every::granted(&model, Settings::plain(config, 50, 10, 0, 1).with_ports(2), 2);
         let due = feed_nothing(state);
         assert_eq!((due.kind, due.second), (Fed::BUNDLED, due.resource + 1), "{state:?}");
         let multiplexing = if config == 5 { 5 } else { 24 };

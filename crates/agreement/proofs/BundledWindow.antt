@@ -12,10 +12,11 @@ use lib.ListN.{getD}
 use borrow.Author.Tests.{eq-eqb, ne-eqb, le-ltb}
 use Rattle.frame.specs.declared.Settings.{Settings}
 use Rattle.frame.specs.Order.{member, positionOf, orderOf, timesOf}
-use Rattle.frame.specs.Settings.{hasScheduled, hasSecondPort, bundles, windowRefusal}
+use Rattle.frame.specs.Settings.{hasScheduled, bundles, windowRefusal}
 use Rattle.frame.specs.Table.{windowOf}
 use Rattle.frame.proofs.Accepted.{Accepted}
 use Rattle.frame.proofs.Bools.{bit-small}
+use Rattle.frame.proofs.Ports.{two-have-second}
 use Rattle.frame.proofs.Times.{in-time-order}
 use Rattle.frame.proofs.Windows.{window-size, zero-windows}
 use Rattle.resource.specs.declared.Mapped.the-variants as mapped
@@ -282,10 +283,6 @@ module _ (set : Settings) (n : ℕ) (good : windowRefusal set n ≡ 0) (ok : Acc
   unfolding es
   block-set e = let b = some-of S H isBlock (timesOf (windowOf (set .config) n)) e in reads-block (b .0) (in-time (set .config) n (b .0) (b .1)) (b .2) .4
 
-  two-ports : set .ports ≡ 2 → hasSecondPort set ≡ true
-  unfolding hasSecondPort
-  two-ports e = eq-eqb (set .ports) 2 e
-
   -- it goes on the resource of the last heard PDCCH
   goes-on : (m c r : ℕ) → seen .position ≡ m → seen .cce .0 ≡ c → resourceOf set n m c ≡ mapped.At (record { 0 = r })
       → replyOn set 1 (resourceOf set n (seen .position) (seen .cce .0)) (bit (seen .first)) (secondBit set seen)
@@ -369,7 +366,7 @@ module _ (set : Settings) (n : ℕ) (good : windowRefusal set n ≡ 0) (ok : Acc
         let w = heard-block k h in
         let b = reads-block k (w .0) (w .1) in
         (b .0, b .1, b .2, refl, b .3 (bit (seen .first)) (secondBit set seen) ∙ reads (place.Block (b .0))))
-        (λ two. absurd (false≢true (sym (ok .twoPorts (two-ports two) .1) ∙ block-set some))),
+        (λ two. absurd (false≢true (sym (ok .twoPorts (two-have-second set two) .1) ∙ block-set some))),
   )
 
   pub bundled-window : Bundled set (resourceOf set n) read (windowOf (set .config) n) (map (entry S H) (timesOf (windowOf (set .config) n))) (bundledAnswer set n (seenOf F (windowOf (set .config) n)))

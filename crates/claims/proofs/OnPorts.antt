@@ -13,6 +13,7 @@ use borrow.Author.Tests.{eq-eqb, eqb-true, ltb-false}
 use Rattle.frame.specs.declared.Settings.{Settings}
 use Rattle.frame.specs.Order.{member}
 use Rattle.frame.specs.Settings.{orElse, hasSecondPort, windowRefusal}
+use Rattle.frame.proofs.Ports.{two-have-second, one-has-none}
 use Rattle.resource.specs.declared.Mapped.{Mapped}
 use Rattle.resource.specs.declared.Mapped.the-variants as mapped
 use Rattle.resource.specs.declared.PortsMapped.{PortsMapped}
@@ -23,7 +24,7 @@ use Rattle.resource.proofs.SecondPort.{port-above, call-most}
 use Rattle.claims.specs.declared.Checked.{Checked}
 use Rattle.claims.specs.declared.Checked.the-variants.{Clean, Clash, Refused}
 use Rattle.claims.specs.Bits.{bitRoomOf}
-use Rattle.claims.specs.Claims.{claimPosition, claimCce, claimed, resourcesOf, roomOf, isBad, firstBad, takes, clashes, earlier, firstClash, scratchRefusal, checkedAt, checkedOn, refusedOr, checkedWith, checkedOf, marked, markedUpTo, scratchOf}
+use Rattle.claims.specs.Claims.{claimPosition, claimCce, claimed, resourcesOf, portsMore, roomOf, isBad, firstBad, takes, clashes, earlier, firstClash, scratchRefusal, checkedAt, checkedOn, refusedOr, checkedWith, checkedOf, marked, markedUpTo, scratchOf}
 use Rattle.claims.specs.Clean.{HasOnPort}
 use Rattle.claims.specs.Forms.{Answered}
 use Rattle.claims.specs.Marking.{Has}
@@ -112,9 +113,9 @@ on-ports s n =
     }
 
 two-ports : (s : Settings) (n : ℕ) → s .ports ≡ 2 → TwoPorts s n
-unfolding roomOf bitRoomOf hasSecondPort
+unfolding roomOf bitRoomOf
 two-ports s n two =
-    let more : resourcesOf s n + cond (eqb (s .ports) 2) 1 0 ≡ resourcesOf s n + 1 = rw (eq-eqb (s .ports) 2 two) in
+    let more : resourcesOf s n + portsMore s ≡ resourcesOf s n + 1 = rw (two-have-second s two) in
     record {
       room = more;
       bitRoom = rw more (omega arith);
@@ -123,8 +124,7 @@ two-ports s n two =
 
 module _ (s : Settings) (n : ℕ) (one : s .ports ≡ 1) where
   no-second : hasSecondPort s ≡ false
-  unfolding hasSecondPort
-  no-second = ap (λ (ports : ℕ). eqb ports 2) one
+  no-second = one-has-none s one
 
   same-room : roomOf s n ≡ resourcesOf s n
   unfolding roomOf

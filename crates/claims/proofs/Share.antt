@@ -11,7 +11,8 @@ use lib.Dec.{ltb, eqb}
 use borrow.Author.Tests.{ltb-true, eqb-true, eq-eqb, ne-eqb}
 use Rattle.frame.specs.declared.Settings.{Settings}
 use Rattle.frame.specs.Settings.{hasSecondPort, windowRefusal}
-use Rattle.frame.proofs.Bools.{both, never-true}
+use Rattle.frame.proofs.Bools.{both}
+use Rattle.frame.proofs.Ports.{second-of-two, two-have-second}
 use Rattle.resource.specs.declared.Mapped.{Mapped}
 use Rattle.resource.specs.declared.Mapped.the-variants as mapped
 use Rattle.resource.specs.declared.Resource.{Resource}
@@ -47,14 +48,6 @@ one-of true b e = inl refl
 one-of false b e = inr e
 
 module _ (s : Settings) (n : ℕ) where
-  two-ports : hasSecondPort s ≡ true → s .ports ≡ 2
-  unfolding hasSecondPort
-  two-ports e = eqb-true (s .ports) 2 e
-
-  second-port : s .ports ≡ 2 → hasSecondPort s ≡ true
-  unfolding hasSecondPort
-  second-port e = eq-eqb (s .ports) 2 e
-
   -- A claim takes a resource exactly if it has it on one of the ports.
   pub takes-to : (claim r : ℕ) → takes s (claimed s n claim) r ≡ true → HasOnPort s n claim r
   takes-to claim r h = go (claimed s n claim) refl h
@@ -63,14 +56,14 @@ module _ (s : Settings) (n : ℕ) where
       go (mapped.At x) e h =
           ⊎-elim
           (λ same. inl (subst (λ (q : ℕ). claimed s n claim ≡ mapped.At (record { 0 = q })) (eqb-true (x .0) r same) e))
-          (λ next. let f = both (hasSecondPort s) (eqb (x .0 + 1) r) next in inr (two-ports (f .0), x .0, e, sym (eqb-true (x .0 + 1) r (f .1))))
+          (λ next. let f = both (hasSecondPort s) (eqb (x .0 + 1) r) next in inr (second-of-two s (f .0), x .0, e, sym (eqb-true (x .0 + 1) r (f .1))))
           (one-of (eqb (x .0) r) (hasSecondPort s && eqb (x .0 + 1) r) h)
       go (mapped.Refused k) e h = absurd (false≢true h)
 
   pub takes-from : (claim r : ℕ) → HasOnPort s n claim r → takes s (claimed s n claim) r ≡ true
   takes-from claim r (inl has) = rw (has, eq-eqb r r refl)
   takes-from claim r (inr on) =
-      rw (on .2, second-port (on .0), eq-eqb (on .1 + 1) r (sym (on .3))) (or-true (eqb (on .1) r))
+      rw (on .2, two-have-second s (on .0), eq-eqb (on .1 + 1) r (sym (on .3))) (or-true (eqb (on .1) r))
 
   -- Two claims clash exactly if they share a resource.
   pub share-exactly : (a b : ℕ) → (clashes s n a b ≡ true) ↔ ((r : ℕ) × HasOnPort s n a r × HasOnPort s n b r)
@@ -83,14 +76,14 @@ module _ (s : Settings) (n : ℕ) where
           (λ first. (y .0, takes-to a (y .0) first, inl e))
           (λ next.
           let f = both (hasSecondPort s) (takes s (claimed s n a) (y .0 + 1)) next in
-          (y .0 + 1, takes-to a (y .0 + 1) (f .1), inr (two-ports (f .0), y .0, e, refl)))
+          (y .0 + 1, takes-to a (y .0 + 1) (f .1), inr (second-of-two s (f .0), y .0, e, refl)))
           (one-of (takes s (claimed s n a) (y .0)) (hasSecondPort s && takes s (claimed s n a) (y .0 + 1)) h)
       to (mapped.Refused k) e h = absurd (false≢true h)
 
       on : (r : ℕ) → HasOnPort s n a r → HasOnPort s n b r → meets s (claimed s n a) (claimed s n b) ≡ true
       on r has (inl there) = rw (there, takes-from a r has)
       on r has (inr there) =
-          rw (there .2, second-port (there .0), sym (ap (takes s (claimed s n a)) (there .3)) ∙ takes-from a r has)
+          rw (there .2, two-have-second s (there .0), sym (ap (takes s (claimed s n a)) (there .3)) ∙ takes-from a r has)
           (or-true (takes s (claimed s n a) (there .1)))
 
       from : (r : ℕ) × HasOnPort s n a r × HasOnPort s n b r → meets s (claimed s n a) (claimed s n b) ≡ true

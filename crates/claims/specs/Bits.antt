@@ -13,7 +13,7 @@ use Rattle.claims.specs.Claims.{roomOf, firstClash, checkedWith, marked,
 unfoldable pub bitRoomOf : Settings → ℕ → ℕ
 bitRoomOf s n = (roomOf s n + 7) / 8
 
--- The answer to a list of claims with a scratch of `lent` bytes: 15 is a scratch shorter than that.
+-- The answer to a list of claims with a scratch of `lent` bytes: 15 is a scratch shorter than bitRoomOf.
 abbrev pub bitCheckedOf : Settings → ℕ → List ℕ → ℕ → Checked
 bitCheckedOf s n claims lent = checkedWith s n claims (bitRoomOf s n) lent
 
@@ -27,7 +27,8 @@ abbrev pub bytesFrom : (ℕ → Bool) → ℕ → ℕ → List ℕ
 bytesFrom test zero j = []
 bytesFrom test (suc count) j = bitsFrom test 8 (8 * j) ∷ bytesFrom test count (suc j)
 
--- The scratch with the marks of the claims before index e; the bytes behind it keep their values.
+-- The scratch with the marks of the claims before index e; bytes from (M × N_4 + 7) / 8 on, with two ports from (M × N_4 + 8) / 8 on,
+-- keep their values.
 unfoldable pub bitMarkedUpTo : Settings → ℕ → List ℕ → List ℕ → ℕ → List ℕ
 bitMarkedUpTo s n claims old e = bytesFrom (marked s n claims e) (bitRoomOf s n) 0 ++ drop (bitRoomOf s n) old
 

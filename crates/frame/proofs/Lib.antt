@@ -13,6 +13,7 @@ pub mod Lists
 pub mod OnePort
 pub mod Orders
 pub mod Padded
+pub mod Ports
 pub mod Shares
 pub mod Times
 pub mod Windows

@@ -1,5 +1,6 @@
--- The modes that a handset remembers: document 02, U8 and U9. They stand in one number: bit i, counted from the lowest, which is 0, is the mode
--- that stood when the subframe i + 1 ago was fed. There are 13, one for each remembered subframe; the bits above them have no meaning.
+-- The modes that a handset remembers: document 02, U8 and U9. They stand in one number: bit i, counted from the lowest, which is 0, is
+-- the mode that stood when the subframe i + 1 ago was fed. There are 13, one for each remembered subframe; the bits above them have no
+-- meaning.
 -- Assumes nothing.
 use Prim.Native.Nat.{ℕ, _+_, _-_, _*_, _/_, _%_, _^_, _≤_}
 use mathlib.Core.Bool.{Bool, cond, _||_}

@@ -78,8 +78,8 @@ pub struct ReadingAnswer {
     pub scheduled: u16,
 }
 
-// Kind 1 is clean, 2 a clash with the index of the first claim that clashes with an earlier one; 0 where refused, and 16 has the index of the
-// first bad claim.
+// Kind 1 is clean, 2 a clash with the index of the first claim that clashes with an earlier one; 0 where refused, and 16 has the
+// index of the first bad claim.
 #[repr(C)]
 pub struct ClaimsAnswer {
     pub refusal: u16,
@@ -112,10 +112,10 @@ pub fn resource_numbers(x: PortsMapped) -> ResourceAnswer
     ensures { λ r. ⌜ r ≡ resourceAnswer x ⌝ }
 {
     match x {
-        PortsMapped::At(r, next) => ResourceAnswer {
+        PortsMapped::At(r, second) => ResourceAnswer {
             refusal: 0,
             resource: r.number(),
-            second: next.number(),
+            second: second.number(),
         },
         PortsMapped::Refused(k) => ResourceAnswer {
             refusal: k,

@@ -4,10 +4,11 @@ use Prim.Native.Nat.{ℕ, _+_, _≤_, _<_}
 use mathlib.Core.Bool.{true, false}
 use mathlib.Core.Path.{_≡_, refl}
 use native.Mathlib.Omega.{arith}
-use borrow.Author.Tests.{lt-ltb, eq-eqb}
+use borrow.Author.Tests.{lt-ltb}
 use Rattle.frame.specs.declared.Settings.{Settings}
 use Rattle.frame.specs.Settings.{hasSecondPort}
 use Rattle.frame.proofs.Accepted.{answered}
+use Rattle.frame.proofs.Ports.{two-have-second, one-has-none}
 use Rattle.resource.specs.declared.Mapped.the-variants as mapped
 use Rattle.resource.specs.declared.PortsMapped.the-variants as ports
 use Rattle.resource.specs.Calls.{resourceOf}
@@ -27,12 +28,10 @@ two-ports s r two low = rw (two, lt-ltb r 65535 low)
 
 -- By the number of ports.
 pub port-above : (s : Settings) (r : ℕ) → s .ports ≡ 2 → r < 65535 → secondPort s r ≡ r + 1
-unfolding hasSecondPort
-port-above s r two low = two-ports s r (eq-eqb (s .ports) 2 two) low
+port-above s r two low = two-ports s r (two-have-second s two) low
 
 pub port-none : (s : Settings) (r : ℕ) → s .ports ≡ 1 → secondPort s r ≡ 0
-unfolding hasSecondPort
-port-none s r one = one-port s r (rw one)
+port-none s r one = one-port s r (one-has-none s one)
 
 module _ (s : Settings) (n m c : ℕ) where
   -- A resource that the call gives.
