@@ -31,7 +31,7 @@ use Rattle.station.specs.declared.Reading.the-variants as reading
 use Rattle.confirmation.specs.declared.Send.{Send}
 use Rattle.confirmation.specs.declared.Send.the-variants as send
 use Rattle.confirmation.specs.Confirmed.{namedSent, speaksFor, holdsFor, acknowledged, saysAck, confirmed}
-use Rattle.confirmation.specs.Sent.{isPdcch as isSentPdcch, blocksOf}
+use Rattle.confirmation.specs.Sent.{isPdcch as isSentPdcch, blocksOf, asHeard}
 use Rattle.confirmation.proofs.Confirmed.{acknowledged-says, carried}
 use Rattle.confirmation.proofs.Received.{lostUpTo, none-before, speaks-received}
 use Rattle.heard.specs.declared.Heard.{Heard}
@@ -42,7 +42,7 @@ use Rattle.reply.specs.declared.Answer.{Answer}
 use Rattle.reply.specs.declared.Answer.the-variants as answer
 use Rattle.reply.specs.declared.Reply.{Reply}
 use Rattle.agreement.specs.Confirmation.{decodedBlock}
-use Rattle.agreement.specs.Run.{sentOf, asHeard, sentAgo, windowAt, Schedule, Brings}
+use Rattle.agreement.specs.Run.{sentOf, sentAgo, windowAt, Schedule, Brings}
 use Rattle.agreement.specs.Window.{isHeard, isPdcch, anyOf, BlockAt, lostBefore, heardAt, asLast, later, lastHeard, decodedFirst, decodedSecond, EveryHeard, stateIn, Bundled, Multiplexed}
 use Rattle.agreement.proofs.Entries.{AllOf, of-all, entry, member-at, in-window, own-k, last-of, some-last, none-last, block-at, none-of}
 use Rattle.agreement.proofs.Folded.{sent-heard}

@@ -23,7 +23,7 @@ use Rattle.frame.proofs.Earliest.{earliest-most, earliest-least}
 use Rattle.frame.proofs.Windows.{window-uplink, multiplexed-size}
 use Rattle.confirmation.specs.declared.Send.{Send}
 use Rattle.confirmation.specs.declared.Send.the-variants as send
-use Rattle.confirmation.specs.Sent.{isBlock as isSentBlock, toldOf}
+use Rattle.confirmation.specs.Sent.{isBlock as isSentBlock, asHeard, toldOf}
 use Rattle.resource.specs.Calls.{resourceOf}
 use Rattle.reply.specs.declared.Answer.{Answer}
 use Rattle.reply.specs.declared.Answer.the-variants as answer
@@ -49,7 +49,7 @@ use Rattle.station.specs.declared.Told.{Told}
 use Rattle.station.specs.declared.Told.the-variants as told
 use Rattle.station.specs.Readings.{toldRefusal, readOf}
 use Rattle.station.proofs.Back.{told-fine, read-there, read-block}
-use Rattle.agreement.specs.Run.{asHeard, sentAgo, agoIn, heardAgo, causeAfter, stoodAgo, largest, Schedule, Brings, windowAt}
+use Rattle.agreement.specs.Run.{sentAgo, agoIn, heardAgo, causeAfter, stoodAgo, largest, Schedule, Brings, windowAt}
 use Rattle.agreement.specs.Window.{inTime, Bundled, Multiplexed}
 use Rattle.agreement.proofs.BundledWindow.{LowCce, ReadsPdcch, ReadsBlock, bundled-window}
 use Rattle.agreement.proofs.Entries.{member-at}

@@ -19,12 +19,13 @@ use Rattle.frame.proofs.Accepted.{mode-allowed, accepted-in, allowed-most}
 use Rattle.frame.proofs.Bools.{either}
 use Rattle.frame.proofs.Windows.{everyRow, window-passes}
 use Rattle.confirmation.specs.declared.Send.{Send}
+use Rattle.confirmation.specs.Sent.{asHeard}
 use Rattle.heard.specs.declared.Heard.{Heard}
 use Rattle.heard.specs.declared.Heard.the-variants.{Nothing, Granted, Scheduled, Released}
 use Rattle.heard.specs.Heard.{uplinkRefusal, shortRefusal, dataRefusal, carriedRefusal, pdcchRefusal, unsetRefusal, heardRefusal, secondRefusal, causeOf}
 use Rattle.handset.specs.Modes.{modeAgo, modesBefore, modesPushed, modesSound}
 use Rattle.handset.proofs.ModeBits.{newest-mode, older-mode, made-mode, modes-exactly}
-use Rattle.agreement.specs.Run.{Item, feed, change, asHeard, causeAfter, standing, modesFrom, modesInRun, stoodAgo, largest, windowAt, windowMode, settingsIn, Schedule}
+use Rattle.agreement.specs.Run.{Item, feed, change, causeAfter, standing, modesFrom, modesInRun, stoodAgo, largest, windowAt, windowMode, settingsIn, Schedule}
 
 -- What is brought is refused alike in every mode: no cause of a feed looks at it.
 heard-in : (s : Settings) (m n : ℕ) (x : Heard) → heardRefusal (inMode s m) n x ≡ heardRefusal s n x

@@ -25,6 +25,7 @@ use Rattle.symbols.specs.declared.Symbol.{Symbol}
 use Rattle.symbols.specs.declared.Symbol.the-variants as symbol
 use Rattle.symbols.specs.Selection.{symbolOf}
 use Rattle.confirmation.specs.declared.Send.{Send}
+use Rattle.confirmation.specs.Sent.{asHeard}
 use Rattle.heard.specs.declared.Heard.{Heard}
 use Rattle.heard.specs.declared.Heard.the-variants.{Nothing, Granted, Scheduled, Released}
 use Rattle.heard.specs.declared.Slot.{Slot}
@@ -43,7 +44,7 @@ use Rattle.station.specs.declared.Place.the-variants as place
 use Rattle.station.specs.declared.Told.{Told}
 use Rattle.station.specs.declared.Told.the-variants.{NotTold, At}
 use Rattle.station.specs.Readings.{badBits, bundledReading, readAt, readInverted, dynamicReading, toldRefusal, readOn, readOf}
-use Rattle.agreement.specs.Run.{asHeard, Schedule}
+use Rattle.agreement.specs.Run.{Schedule}
 
 -- Two settings that differ in prefix and special configuration only.
 pub record SameButSpecial (s t : Settings) : Type 0 where

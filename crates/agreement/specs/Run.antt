@@ -14,7 +14,7 @@ use Rattle.frame.specs.Settings.{newModeRefusal, inMode}
 use Rattle.frame.specs.Table.{windowOf}
 use Rattle.confirmation.specs.declared.Send.{Send}
 use Rattle.confirmation.specs.declared.Send.the-variants as send
-use Rattle.confirmation.specs.Sent.{isPdcch, isBlock, daiOf}
+use Rattle.confirmation.specs.Sent.{isPdcch, isBlock, daiOf, asHeard}
 use Rattle.heard.specs.declared.Heard.{Heard}
 use Rattle.heard.specs.declared.Heard.the-variants.{Nothing, Granted, Scheduled, Released}
 use Rattle.heard.specs.Heard.{isBlock as isHeardBlock, heardRefusal, causeOf}
@@ -65,13 +65,6 @@ sentOf Nothing = send.Nothing
 sentOf (Granted g) = send.Granted (record { blocks = g .blocks; cce = g .cce; dai = g .dai })
 sentOf (Scheduled b) = send.Scheduled (record { blocks = b .blocks })
 sentOf (Released p) = send.Released (record { cce = p .cce; dai = p .dai })
-
--- What was sent as 9 to 12, 18 and 20 look at it; they don't look at its decoding.
-abbrev pub asHeard : Send → Heard
-asHeard send.Nothing = Nothing
-asHeard (send.Granted g) = Granted (record { blocks = g .blocks; first = false; second = false; cce = g .cce; dai = g .dai })
-asHeard (send.Scheduled b) = Scheduled (record { blocks = b .blocks; first = false; second = false })
-asHeard (send.Released p) = Released (record { cce = p .cce; dai = p .dai })
 
 -- What a list, one entry for each of the run's subframes, has k before subframe s; before the start `none`.
 abbrev pub agoIn : {A : Type 0} → A → List A → ℕ → ℕ → A

@@ -6,6 +6,8 @@ use mathlib.Core.List.{List, [], _∷_}
 use lib.Dec.{eqb}
 use Rattle.confirmation.specs.declared.Send.{Send}
 use Rattle.confirmation.specs.declared.Send.the-variants.{Nothing, Granted, Scheduled, Released}
+use Rattle.heard.specs.declared.Heard.{Heard}
+use Rattle.heard.specs.declared.Heard.the-variants as heard
 use Rattle.station.specs.declared.Told.{Told}
 use Rattle.station.specs.declared.Told.the-variants as told
 
@@ -47,6 +49,13 @@ hasCce Nothing c = false
 hasCce (Granted g) c = eqb (g .cce .0) c
 hasCce (Scheduled b) c = false
 hasCce (Released p) c = eqb (p .cce .0) c
+
+-- What was sent as 9 to 12, 18 and 20 look at it; they don't look at its decoding.
+abbrev pub asHeard : Send → Heard
+asHeard Nothing = heard.Nothing
+asHeard (Granted g) = heard.Granted (record { blocks = g .blocks; first = false; second = false; cce = g .cce; dai = g .dai })
+asHeard (Scheduled b) = heard.Scheduled (record { blocks = b .blocks; first = false; second = false })
+asHeard (Released p) = heard.Released (record { cce = p .cce; dai = p .dai })
 
 -- The position of the first scheduled block sent in the subframes of `ks`, counted from m; not told where there is none.
 abbrev pub toldFrom : ℕ → List ℕ → (ℕ → Send) → Told

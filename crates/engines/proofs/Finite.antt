@@ -17,11 +17,11 @@ use Rattle.frame.specs.Table.{windowOf}
 use Rattle.frame.proofs.Below.{below, below-at}
 use Rattle.confirmation.specs.declared.Send.{Send}
 use Rattle.confirmation.specs.declared.Send.the-variants.{Nothing, Granted, Scheduled, Released}
-use Rattle.confirmation.specs.Sent.{isPdcch, isBlock, daiOf}
+use Rattle.confirmation.specs.Sent.{isPdcch, isBlock, daiOf, asHeard}
 use Rattle.heard.specs.declared.Heard.{Heard}
 use Rattle.heard.specs.declared.Heard.the-variants as heard
 use Rattle.heard.specs.Heard.{heardRefusal}
-use Rattle.agreement.specs.Run.{sentOf, asHeard, sentAgo, heardInRun, Item, RuleFrom, Schedule, Brings, BringsSent}
+use Rattle.agreement.specs.Run.{sentOf, sentAgo, heardInRun, Item, RuleFrom, Schedule, Brings, BringsSent}
 use Rattle.agreement.proofs.Entries.{AllOf, all-of, of-window, in-time}
 
 -- what a finite list sends

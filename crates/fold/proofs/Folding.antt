@@ -2,7 +2,7 @@
 -- Assumes nothing.
 use Prim.Native.Nat.{ℕ, _+_, _-_, _<_, _≤_}
 use mathlib.Core.List.{List}
-use mathlib.Core.Path.{_≡_, sym, ap, _∙_}
+use mathlib.Core.Path.{_≡_, sym}
 use native.Mathlib.Numerals.{add-one}
 use native.Mathlib.Omega.{arith}
 use lib.ListN.{length, getD, drop, drop-of-length-le}
@@ -11,9 +11,7 @@ use Rattle.frame.specs.declared.Window.{Window}
 use Rattle.frame.specs.Coded.{codedWindow}
 use Rattle.frame.specs.Order.{orderOf}
 use Rattle.frame.specs.Table.{windowOf}
-use Rattle.frame.proofs.Padded.{padded-at}
-use Rattle.frame.proofs.Times.{order-size, order-below}
-use Rattle.frame.proofs.Windows.{window-size, window-k}
+use Rattle.frame.proofs.Read.{order-length, position-read, k-read}
 use Rattle.fold.specs.declared.Seen.{Seen}
 use Rattle.heard.specs.declared.Slot.{Slot}
 use Rattle.heard.specs.declared.View.{View}
@@ -47,38 +45,12 @@ pub view-read : (past : List Slot) (k : ℕ) (x : View) → x ≡ viewIn (getD p
 unfolding viewAgo
 view-read past k x e = e
 
--- The window that was read, at its j-th position in time order.
+-- The window that was read, as the code goes through it.
 module _ (c n : ℕ) (w : Window) (read : w ≡ codedWindow (windowOf c n)) where
-  pub size-read : w .size ≡ length (windowOf c n)
-  size-read = ap (λ (w : Window). w .size) read
-
-  -- its time order has as many positions
-  pub order-length : length (orderOf (windowOf c n)) ≡ w .size
-  order-length = order-size c n ∙ sym size-read
-
-  pub position-read : (j : ℕ) → getD (w .order) j 0 ≡ getD (orderOf (windowOf c n)) j 0
-  position-read j =
-      ap (λ (w : Window). getD (w .order) j 0) read
-      ∙ padded-at 9 (orderOf (windowOf c n)) j (omega (arith, order-size c n, window-size c n))
-
-  pub k-read : (m : ℕ) → getD (w .k) m 0 ≡ getD (windowOf c n) m 0
-  k-read m = ap (λ (w : Window). getD (w .k) m 0) read ∙ padded-at 9 (windowOf c n) m (window-size c n)
-
-  pub position-small : (j : ℕ) → j < w .size → getD (w .order) j 0 < w .size
-  position-small j h = omega (arith, position-read j, order-below c n j (rw size-read at h), size-read)
-
-  pub size-small : w .size ≤ 9
-  size-small = omega (arith, size-read, window-size c n)
-
-  pub k-small : (j : ℕ) → j < w .size → (1 ≤ getD (w .k) (getD (w .order) j 0) 0) × (getD (w .k) (getD (w .order) j 0) 0 ≤ 13)
-  k-small j h =
-      let m : ℕ = getD (w .order) j 0 in
-      omega (arith, k-read m, window-k c n m (rw size-read at (position-small j h)))
-
   -- No position left, as the code reads it.
   pub seen-end : (F : ℕ → View) (j : ℕ) (seen : Seen) → w .size ≤ j
       → seen ≡ seenFrom F (windowOf c n) (drop j (orderOf (windowOf c n))) seen
-  seen-end F j seen h = sym (seen-all F (windowOf c n) (orderOf (windowOf c n)) j seen (rw order-length h))
+  seen-end F j seen h = sym (seen-all F (windowOf c n) (orderOf (windowOf c n)) j seen (rw (order-length c n w read) h))
 
   -- One position more, as the code reads it.
   pub seen-next : (F : ℕ → View) (j : ℕ) (seen : Seen) → j < w .size
@@ -86,5 +58,5 @@ module _ (c n : ℕ) (w : Window) (read : w ≡ codedWindow (windowOf c n)) wher
       → seenFrom F (windowOf c n) (drop (j + 1) (orderOf (windowOf c n))) next
       ≡ seenFrom F (windowOf c n) (drop j (orderOf (windowOf c n))) seen
   seen-next F j seen h x ex next en =
-      rw (en, ex, k-read (getD (w .order) j 0), position-read j)
-      (sym (seen-more F (windowOf c n) (orderOf (windowOf c n)) j seen (rw order-length h)))
+      rw (en, ex, k-read c n w read (getD (w .order) j 0), position-read c n w read j)
+      (sym (seen-more F (windowOf c n) (orderOf (windowOf c n)) j seen (rw (order-length c n w read) h)))

@@ -14,6 +14,7 @@ pub mod OnePort
 pub mod Orders
 pub mod Padded
 pub mod Ports
+pub mod Read
 pub mod Shares
 pub mod Times
 pub mod Windows

@@ -18,6 +18,7 @@ pub use special::is_too_short;
 pub use special::position_too_short;
 pub use table::earliest_k_of;
 pub use table::is_downlink;
+pub use table::is_special;
 pub use table::size_of;
 pub use table::window_of;
 

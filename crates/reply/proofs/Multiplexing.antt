@@ -26,7 +26,7 @@ use Rattle.reply.specs.declared.Answer.{Answer}
 use Rattle.reply.specs.declared.Answer.the-variants as answer
 use Rattle.heard.specs.declared.View.{View}
 use Rattle.reply.specs.Replies.{replyOn, stateOf, carrierOf, windowState, symbolAnswer, multiplexedAnswer}
-use Rattle.fold.proofs.Folding.{size-read, size-small, k-read}
+use Rattle.frame.proofs.Read.{size-read, size-small, k-read}
 
 -- One position more is one digit more.
 pub code-more : (ss : List State) (s : State) → codeOf (ss ++ (s ∷ [])) ≡ codeOf ss * 3 + stateDigit s

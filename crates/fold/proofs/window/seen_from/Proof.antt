@@ -11,7 +11,8 @@ use Rattle.frame.specs.Order.{orderOf}
 use Rattle.frame.specs.Table.{windowOf}
 use Rattle.heard.specs.Memory.{viewAgo}
 use Rattle.fold.specs.Fold.{seenFrom}
-use Rattle.fold.proofs.Folding.{seen-end, seen-next, step-left, position-small, size-small, k-small, view-read}
+use Rattle.frame.proofs.Read.{position-small, size-small, k-small}
+use Rattle.fold.proofs.Folding.{seen-end, seen-next, step-left, view-read}
 use Rattle.fold.proofs.window.seen_from.Statement.{statement}
 use Rattle.fold.proofs.window.seen_from.Tie as tie
 

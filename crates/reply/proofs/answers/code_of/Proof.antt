@@ -6,7 +6,8 @@ use native.Mathlib.Omega.{arith}
 use Rattle.frame.specs.Table.{windowOf}
 use Rattle.heard.specs.Memory.{viewAgo}
 use Rattle.reply.specs.Replies.{stateOf, windowState}
-use Rattle.fold.proofs.Folding.{size-small, view-read}
+use Rattle.fold.proofs.Folding.{view-read}
+use Rattle.frame.proofs.Read.{size-small}
 use Rattle.reply.proofs.Multiplexing.{codeTo, digit-most, k-range, code-small, code-next, code-end}
 use Rattle.reply.proofs.answers.code_of.Statement.{statement}
 use Rattle.reply.proofs.answers.code_of.Tie as tie

@@ -2,7 +2,8 @@
 use Prim.Native.Nat.{_<_}
 use native.Mathlib.Omega.{arith}
 use borrow.Author.Needs.{needs}
-use Rattle.fold.proofs.Folding.{size-read, size-small, view-read}
+use Rattle.fold.proofs.Folding.{view-read}
+use Rattle.frame.proofs.Read.{size-read, size-small}
 use Rattle.reply.proofs.Multiplexing.{k-range, index-small, symbol-silent, symbol-sent}
 use Rattle.reply.proofs.answers.multiplexed_answer.Statement.{statement}
 use Rattle.reply.proofs.answers.multiplexed_answer.Tie as tie

@@ -1,0 +1,2 @@
+-- What is refused, and which blocks are confirmed, in words.
+-- Assumes nothing.

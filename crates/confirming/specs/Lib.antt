@@ -1,0 +1,5 @@
+pub mod Blocks
+pub mod Coded
+pub mod Exactly
+pub mod Records
+pub mod Refusals
