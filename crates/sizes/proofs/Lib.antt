@@ -1,0 +1,3 @@
+pub mod Columns
+pub mod Entries
+pub mod Sizes
