@@ -13,7 +13,10 @@ const SYMBOLS: [(usize, &str); 3] = [
     (4, include_str!("../data/table-10.1-4.csv")),
 ];
 
-/// The four printed tables; an empty line stands between two.
+const SIZES: &str = include_str!("../data/table-7.1.7.2.1-1.csv");
+
+/// Tables 10.1-1 to 10.1-4, then the eleven blocks of Table 7.1.7.2.1-1; an
+/// empty line stands between two.
 fn tables() -> Vec<Vec<&'static str>> {
     PRINTED.split("\n\n").map(|table| table.lines().collect()).collect()
 }
@@ -24,13 +27,14 @@ fn cells(line: &str) -> Vec<&str> {
 }
 
 #[test]
-fn four_tables_under_their_titles() {
-    let titles: Vec<&str> = tables().iter().map(|table| table[0]).collect();
-    let numbers = ["Table 10.1-1: ", "Table 10.1-2: ", "Table 10.1-3: ", "Table 10.1-4: "];
-    assert_eq!(titles.len(), numbers.len());
-    for (title, number) in titles.iter().zip(numbers) {
-        assert!(title.starts_with(number), "{title}");
+fn five_tables_under_their_titles() {
+    let tables = tables();
+    let numbers = ["10.1-1", "10.1-2", "10.1-3", "10.1-4", "7.1.7.2.1-1"];
+    assert_eq!(tables.len(), 4 + 11);
+    for (table, number) in tables.iter().zip(numbers) {
+        assert!(table[0].starts_with(&format!("Table {number}: ")), "{}", table[0]);
     }
+    assert_eq!(PRINTED.matches("Table ").count(), numbers.len());
 }
 
 #[test]
@@ -65,4 +69,30 @@ fn symbols_as_in_tables_10_1_2_to_10_1_4() {
             std::iter::once("states,index,b0b1".to_string()).chain(printed).collect();
         assert_eq!(rows, csv.lines().collect::<Vec<_>>());
     }
+}
+
+/// A block of Table 7.1.7.2.1-1 below its title: the line of its ten N_PRB,
+/// then a row for each I_TBS.
+fn block_rows<'a>(lines: &[&'a str]) -> Vec<Vec<&'a str>> {
+    let lines = if lines[0].starts_with("Table ") { &lines[1..] } else { lines };
+    assert_eq!(cells(lines[0]), ["I_TBS", "N_PRB"]);
+    lines[1..].iter().map(|line| cells(line)).collect()
+}
+
+#[test]
+fn sizes_as_in_table_7_1_7_2_1_1() {
+    let mut rows = vec!["I_TBS".to_string()];
+    rows.extend((0..27).map(|i| i.to_string()));
+    for lines in &tables()[4..] {
+        let block = block_rows(lines);
+        assert_eq!(block.len(), 1 + 27);
+        assert_eq!(block[0].len(), 10);
+        rows[0] += &format!(",{}", block[0].join(","));
+        for (i, row) in block[1..].iter().enumerate() {
+            assert_eq!(row.len(), 1 + 10, "{row:?}");
+            assert_eq!(row[0], i.to_string());
+            rows[i + 1] += &format!(",{}", row[1..].join(","));
+        }
+    }
+    assert_eq!(rows, SIZES.lines().collect::<Vec<_>>());
 }
