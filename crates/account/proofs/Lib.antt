@@ -1,0 +1,5 @@
+pub mod Credits
+pub mod Equation
+pub mod Products
+pub mod Totals
+pub mod Worked
