@@ -1,5 +1,10 @@
 // The engine's C interface: one static library, libfeedback.a, with the header include/feedback.h. The papers' numbers are sixteen
 // bits wide. An answer is a struct of numbers (`numbers`): the refusal, 0 for none, and the values, which are 0 where they say nothing.
+use account::Account;
+use account::Opened;
+use confirming::Confirmed;
+use confirming::SentWindow;
+use credit::Credited;
 use frame::Answered;
 use frame::Settings;
 use handset::Changed;
@@ -21,6 +26,9 @@ use resource::Cce;
 use resource::Resource;
 use spelling::Written;
 ghost use mathlib.Core.Path.{_≡_};
+ghost use Rattle.account.specs.Account.{openOf};
+ghost use Rattle.confirming.specs.Blocks.{confirmedOf};
+ghost use Rattle.credit.specs.Credit.{creditOf};
 ghost use Rattle.frame.specs.Distance.{answeredOf};
 ghost use Rattle.resource.specs.Calls.{inverseOf};
 ghost use Rattle.resource.specs.Ports.{portsOf};
@@ -109,6 +117,42 @@ pub extern "C" fn feedback_reading(
 {
     let told = numbers::told_position(position);
     numbers::reading_numbers(station::read(settings, n, told, Resource::new(resource), b0, b1))
+}
+
+#[no_mangle]
+pub extern "C" fn feedback_confirmed(
+    settings: Settings,
+    n: u16,
+    sent: SentWindow,
+    resource: u16,
+    b0: u16,
+    b1: u16,
+) -> Confirmed
+    ensures { λ r. ⌜ r ≡ confirmedOf settings n sent resource b0 b1 ⌝ }
+{
+    confirming::confirm(settings, n, sent, Resource::new(resource), b0, b1)
+}
+
+#[no_mangle]
+pub extern "C" fn feedback_open_account(price: u32) -> Opened
+    ensures { λ r. ⌜ r ≡ openOf price ⌝ }
+{
+    account::open(price)
+}
+
+#[no_mangle]
+pub extern "C" fn feedback_credit(
+    settings: Settings,
+    n: u16,
+    sent: SentWindow,
+    resource: u16,
+    b0: u16,
+    b1: u16,
+    account: Account,
+) -> Credited
+    ensures { λ r. ⌜ r ≡ creditOf settings n sent resource b0 b1 account ⌝ }
+{
+    credit::credit(settings, n, sent, Resource::new(resource), b0, b1, account)
 }
 
 #[no_mangle]

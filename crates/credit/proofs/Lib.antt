@@ -1,0 +1,5 @@
+pub mod Crediting
+pub mod Exactly
+pub mod Lists
+pub mod Refusing
+pub mod Sums
