@@ -5,14 +5,16 @@ use crate::form::Form;
 use crate::guarded::{Flush, Guarded, BOTH};
 use crate::model::Model;
 use crate::plain::{
-    plain_answered, plain_change_mode, plain_feed_grant, plain_feed_nothing, plain_feed_release,
-    plain_feed_scheduled, plain_inverse, plain_make, plain_reading, plain_record, plain_replay,
-    plain_resource, plain_trace_write, plain_window,
+    plain_answered, plain_change_mode, plain_confirmed, plain_credit, plain_feed_grant,
+    plain_feed_nothing, plain_feed_release, plain_feed_scheduled, plain_inverse, plain_make,
+    plain_open_account, plain_reading, plain_record, plain_replay, plain_resource,
+    plain_trace_write, plain_window,
 };
 use crate::random::Random;
 use crate::{
-    answered, change_mode, feed, inverse, make, reading, record, replay, resource, trace_write,
-    window, Block, Changed, ClaimsAnswer, Fed, Grant, Handset, Heard, ReadingAnswer, RecordAnswer,
+    answered, change_mode, confirmed, credit, feed, inverse, make, open_account, reading, record,
+    replay, resource, trace_write, window, Account, Block, Changed, ClaimsAnswer, ConfirmedAnswer,
+    CreditAnswer, Exchange, Fed, Grant, Handset, Heard, Opened, ReadingAnswer, RecordAnswer,
     Release, ReplayAnswer, Settings, WriteAnswer,
 };
 use std::fmt;
@@ -35,7 +37,7 @@ pub const BANDWIDTHS: u64 = 105;
 pub const CCES: u64 = 7397;
 
 /// The highest refusal number.
-const LAST_REFUSAL: usize = 24;
+const LAST_REFUSAL: usize = 26;
 
 /// The highest kind of an answer.
 const LAST_KIND: usize = 5;
@@ -259,6 +261,45 @@ impl<'a> Comparison<'a> {
             self.kinds[usize::from(due.kind)] += 1;
         }
         due
+    }
+
+    pub fn confirmed(&mut self, exchange: Exchange) -> ConfirmedAnswer {
+        let due = self.model.confirmed(&exchange);
+        let given = confirmed(exchange);
+        let plain = plain_confirmed_of(exchange);
+        assert!(
+            given == due && plain == due,
+            "feedback_confirmed({exchange:?}): the engine gives {given:?}, the model {due:?}, the \
+             plain implementation {plain:?}"
+        );
+        self.counts[usize::from(due.refusal)] += 1;
+        given
+    }
+
+    pub fn open_account(&mut self, price: u32) -> Opened {
+        let due = self.model.open_account(price);
+        let given = open_account(price);
+        let plain = plain_open_account(price);
+        assert!(
+            given == due && plain == due,
+            "feedback_open_account({price}): the engine gives {given:?}, the model {due:?}, the \
+             plain implementation {plain:?}"
+        );
+        self.counts[usize::from(due.refusal)] += 1;
+        given
+    }
+
+    pub fn credit(&mut self, exchange: Exchange, account: Account) -> CreditAnswer {
+        let due = self.model.credit(&exchange, account);
+        let given = credit(exchange, account);
+        let plain = plain_credit_of(exchange, account);
+        assert!(
+            given == due && plain == due,
+            "feedback_credit({exchange:?}, {account:?}): the engine gives {given:?}, the model \
+             {due:?}, the plain implementation {plain:?}"
+        );
+        self.counts[usize::from(due.refusal)] += 1;
+        given
     }
 
     /// Ends a test: as many answers were compared as there should be, and as
@@ -514,6 +555,18 @@ pub fn plain_feed(handset: Handset, heard: impl Into<Heard>) -> Fed {
         }
         Heard::Release(Release { cce, dai }) => plain_feed_release(handset, cce, dai),
     }
+}
+
+/// The confirmed blocks by the plain implementation.
+pub fn plain_confirmed_of(exchange: Exchange) -> ConfirmedAnswer {
+    let Exchange { settings, n, sent, resource, b0, b1 } = exchange;
+    plain_confirmed(settings, n, sent, resource, b0, b1)
+}
+
+/// A credit by the plain implementation.
+pub fn plain_credit_of(exchange: Exchange, account: Account) -> CreditAnswer {
+    let Exchange { settings, n, sent, resource, b0, b1 } = exchange;
+    plain_credit(settings, n, sent, resource, b0, b1, account)
 }
 
 /// The numbers of a list in a message: all of a short one, the first of a long one.

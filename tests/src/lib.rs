@@ -7,10 +7,14 @@
 //! [`compare`] holds the engine to the model, answer by answer, on inputs in every
 //! combination ([`every`]) or at random ([`random`]), and on memory that is lent
 //! from [`guarded`]. [`form`] has the two forms in which claims are checked. [`trace`]
-//! builds recorded drives as bytes. [`vectors`] reads the cases that come with the requests.
+//! builds recorded drives as bytes. [`fates`] sends, loses and decodes what a window brings,
+//! and [`charging`] builds what a credit is given. [`vectors`] reads the cases that come with
+//! the requests.
 
+pub mod charging;
 pub mod compare;
 pub mod every;
+pub mod fates;
 pub mod form;
 pub mod guarded;
 pub mod model;
@@ -21,16 +25,18 @@ pub mod types;
 pub mod vectors;
 
 pub use types::{
-    AnsweredAnswer, Block, Changed, ClaimsAnswer, Fed, Grant, Handset, Heard, InverseAnswer, Made,
-    ReadingAnswer, RecordAnswer, Release, ReplayAnswer, ResourceAnswer, Settings, Slot, Step,
-    WindowAnswer, WriteAnswer, NONE, NOT_TOLD,
+    Account, AnsweredAnswer, Block, Changed, ClaimsAnswer, ConfirmedAnswer, CreditAnswer, Exchange,
+    Fed, Grant, Handset, Heard, InverseAnswer, Made, Opened, ReadingAnswer, RecordAnswer, Release,
+    ReplayAnswer, ResourceAnswer, Sent, SentWindow, Settings, Sizes, Slot, Step, WindowAnswer,
+    WriteAnswer, NONE, NOT_TOLD,
 };
 
 /// The engine's calls under their C names.
 pub mod c {
     use super::{
-        AnsweredAnswer, Changed, ClaimsAnswer, Fed, Handset, InverseAnswer, Made, ReadingAnswer,
-        RecordAnswer, ReplayAnswer, ResourceAnswer, Settings, WindowAnswer, WriteAnswer,
+        Account, AnsweredAnswer, Changed, ClaimsAnswer, ConfirmedAnswer, CreditAnswer, Fed,
+        Handset, InverseAnswer, Made, Opened, ReadingAnswer, RecordAnswer, ReplayAnswer,
+        ResourceAnswer, SentWindow, Settings, WindowAnswer, WriteAnswer,
     };
 
     extern "C" {
@@ -115,6 +121,27 @@ pub mod c {
             out: *mut u8,
             room: usize,
         ) -> WriteAnswer;
+
+        pub fn feedback_confirmed(
+            settings: Settings,
+            n: u16,
+            sent: SentWindow,
+            resource: u16,
+            b0: u16,
+            b1: u16,
+        ) -> ConfirmedAnswer;
+
+        pub fn feedback_open_account(price: u32) -> Opened;
+
+        pub fn feedback_credit(
+            settings: Settings,
+            n: u16,
+            sent: SentWindow,
+            resource: u16,
+            b0: u16,
+            b1: u16,
+            account: Account,
+        ) -> CreditAnswer;
     }
 }
 
@@ -254,4 +281,24 @@ pub fn trace_write(trace: &[u8], output: &mut [u8]) -> WriteAnswer {
     // SAFETY: each slice is lent with its own length, the trace to be read and the
     // output to be written, and by their types the two do not overlap.
     unsafe { c::feedback_trace_write(file, length, out, room) }
+}
+
+/// The engine's confirmed blocks of what was sent in a window and the reply.
+pub fn confirmed(exchange: Exchange) -> ConfirmedAnswer {
+    let Exchange { settings, n, sent, resource, b0, b1 } = exchange;
+    // SAFETY: the call takes numbers and gives numbers, and is lent no memory.
+    unsafe { c::feedback_confirmed(settings, n, sent, resource, b0, b1) }
+}
+
+/// The engine's new account of a price.
+pub fn open_account(price: u32) -> Opened {
+    // SAFETY: the call takes a number and gives numbers, and is lent no memory.
+    unsafe { c::feedback_open_account(price) }
+}
+
+/// The engine's credit of what was sent in a window and the reply, on an account.
+pub fn credit(exchange: Exchange, account: Account) -> CreditAnswer {
+    let Exchange { settings, n, sent, resource, b0, b1 } = exchange;
+    // SAFETY: the call takes numbers and gives numbers, and is lent no memory.
+    unsafe { c::feedback_credit(settings, n, sent, resource, b0, b1, account) }
 }

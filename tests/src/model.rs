@@ -7,6 +7,8 @@
 //! place behind that. The multiplexed replies are laid out likewise: every state of a
 //! window, with its symbol.
 
+mod charging;
+mod confirmation;
 mod handset;
 mod programs;
 mod replay;
@@ -14,9 +16,13 @@ mod replies;
 mod spelling;
 mod station;
 
+pub use confirmation::{
+    blocks_at, positions_of, told, Blocks, Rule, Sole, Transmission, CONFIRMED, CREDITED,
+};
 pub use replies::{Row, Symbol};
 
 use crate::{AnsweredAnswer, InverseAnswer, ResourceAnswer, Settings, WindowAnswer, NONE};
+use charging::SizeTable;
 use replies::States;
 use std::cmp::Reverse;
 use std::ops::Range;
@@ -45,11 +51,12 @@ const SPECIALS: [(u16, [u16; 2]); 2] = [(8, [0, 5]), (6, [0, 4])];
 
 /// The order in which the causes of a refusal are tried. 01's numbers rise, and a
 /// number that came later stands directly behind the one that it is said to be
-/// after: 17 after 6, 18 after 12, 19 after 17, 20 after 9, 24 after 19. Those of a trace
+/// after: 17 after 6, 18 after 12, 19 after 17, 20 after 9, 24 after 19, 25 after 18, 26 after
+/// 25. What 26 needs is known only where neither 13 nor 14 is met. Those of a trace
 /// are tried where it is opened: 21 and 22 before all of these, 23 behind those of the
 /// settings; where it is written 23 is tried last.
-const ORDER: [u16; 21] =
-    [1, 2, 3, 4, 5, 6, 17, 19, 24, 7, 8, 9, 20, 10, 11, 12, 18, 13, 14, 15, 16];
+const ORDER: [u16; 23] =
+    [1, 2, 3, 4, 5, 6, 17, 19, 24, 7, 8, 9, 20, 10, 11, 12, 18, 25, 26, 13, 14, 15, 16];
 
 /// The window of one uplink subframe of one configuration.
 #[derive(Clone, Debug, PartialEq, Eq)]
@@ -64,17 +71,30 @@ impl Window {
     pub fn size(&self) -> u16 {
         self.k.len() as u16
     }
+
+    /// Its positions in time order, earliest first.
+    pub fn in_time(&self) -> Vec<u16> {
+        let mut order: Vec<u16> = (0..self.size()).collect();
+        order.sort_by_key(|position| Reverse(self.k[usize::from(*position)]));
+        order
+    }
+
+    /// The subframe, 0 to 9, at a position.
+    pub fn subframe(&self, position: usize) -> u16 {
+        (self.n + 20 - self.k[position]) % 10
+    }
 }
 
 /// The pairs (position, CCE) of one window in the order of their resources:
 /// the first has resource N1, the next N1 + 1, and so on.
 struct Layout(Vec<(u16, u16)>);
 
-/// The windows, the layouts and the states, made once and then searched.
+/// The windows, the layouts, the states and the sizes, made once and then searched.
 pub struct Model {
     windows: Vec<Window>,
     layouts: Vec<Vec<Layout>>,
     states: Vec<States>,
+    sizes: SizeTable,
 }
 
 impl Default for Model {
@@ -90,6 +110,7 @@ impl Model {
             windows: (0..7).flat_map(windows_of).collect(),
             layouts: (1..=LONGEST).map(layouts_of_size).collect(),
             states: replies::all(),
+            sizes: SizeTable::new(),
         }
     }
 
@@ -104,11 +125,7 @@ impl Model {
         }
         match self.window(settings.config, n) {
             None => WindowAnswer::refused(7),
-            Some(Window { k, .. }) => {
-                let mut order: Vec<u16> = (0..k.len() as u16).collect();
-                order.sort_by_key(|position| Reverse(k[usize::from(*position)]));
-                WindowAnswer::of(k, &order)
-            }
+            Some(window) => WindowAnswer::of(&window.k, &window.in_time()),
         }
     }
 
@@ -212,11 +229,16 @@ pub fn is_uplink(config: u16, subframe: u16) -> bool {
     frame(config).chars().nth(usize::from(subframe)) == Some('U')
 }
 
+/// Whether a subframe, 0 to 9, is a special one.
+pub fn is_special(config: u16, subframe: u16) -> bool {
+    frame(config).chars().nth(usize::from(subframe)) == Some('S')
+}
+
 /// Whether a subframe, 0 to 9, is a special one that is too short for data.
 pub fn is_short(settings: Settings, subframe: u16) -> bool {
-    let is_special = frame(settings.config).chars().nth(usize::from(subframe)) == Some('S');
     let of_prefix = SPECIALS.get(usize::from(settings.prefix));
-    is_special && of_prefix.is_some_and(|(_, without)| without.contains(&settings.special))
+    is_special(settings.config, subframe)
+        && of_prefix.is_some_and(|(_, without)| without.contains(&settings.special))
 }
 
 /// Whether the reply for a window of `size` subframes is bundled.
@@ -258,7 +280,7 @@ fn mode_causes(config: u16, ports: u16, mode: u16) -> [(u16, bool); 3] {
 }
 
 /// The first in order among the causes that are met.
-fn first_met<const C: usize>(causes: [(u16, bool); C]) -> Option<u16> {
+fn first_met(causes: impl IntoIterator<Item = (u16, bool)>) -> Option<u16> {
     let met = causes.into_iter().filter(|(_, met)| *met).map(|(number, _)| number);
     met.min_by_key(|number| ORDER.iter().position(|each| each == number))
 }

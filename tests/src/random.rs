@@ -1,9 +1,12 @@
 //! Pseudo-random inputs from fixed seeds, the same in every run.
 
 use crate::every::{mixed_cells, SPECIALS};
-use crate::model::{edge, Model, Window, NRB};
+use crate::model::{edge, is_short, Model, Window, NRB};
 use crate::trace::{put_number, record_of, Trace, FIRST_AT};
-use crate::{Block, Grant, Handset, Heard, Release, Settings, Slot, NONE};
+use crate::{
+    Account, Block, Exchange, Grant, Handset, Heard, Release, Sent, SentWindow, Settings, Slot,
+    NONE,
+};
 
 /// Numbers that are a limit somewhere, lie beside one, or would be allowed if
 /// only their low eight bits were read.
@@ -392,6 +395,120 @@ impl Random {
             7 => slot.dai = self.below(7) as u8,
             _ => slot.results = self.any_byte(),
         }
+    }
+
+    /// What a station sent in a window and the reply that it heard, mostly for something that
+    /// was sent. Each number is once in `times` any, and what an entry does not use has any
+    /// value always, as have the entries behind the window.
+    pub fn exchange(&mut self, model: &Model, times: usize) -> Exchange {
+        let settings = self.wild_settings(times);
+        let n = self.wild_n(model, settings.config);
+        let window = model.window(settings.config, n);
+        let size = window.map_or(1, Window::size);
+        let cces = edge(settings.nrb.clamp(*NRB.start(), *NRB.end()), 4);
+        let is_short = |at: usize| {
+            let k = window.map_or(1, |window| window.k[at]);
+            settings.config < 7 && is_short(settings, (n % 10 + 20 - k) % 10)
+        };
+        let mut sent = SentWindow::NOTHING;
+        let mut blocks_sent = settings.scheduled == NONE;
+        for (at, entry) in sent.at.iter_mut().enumerate() {
+            let no_data = at < size.into() && is_short(at) && !self.once_in(times);
+            let drawn = self.sent(settings, cces, times);
+            let is_block = drawn.signalled == 0 && drawn.blocks > 0;
+            let is_second = is_block && blocks_sent && !self.once_in(2 * times);
+            *entry = match no_data || is_second {
+                true => Sent { blocks: 0, ..drawn },
+                false => drawn,
+            };
+            blocks_sent |= is_block;
+        }
+        let order = window.map_or(Vec::new(), Window::in_time);
+        if !self.once_in(4) {
+            let pdcchs = order.iter().filter(|at| sent.at[usize::from(**at)].signalled != 0);
+            let pdcchs: Vec<usize> = pdcchs.map(|at| usize::from(*at)).collect();
+            for (j, at) in (0..).zip(pdcchs) {
+                sent.at[at].dai = self.unless_once_in(8 * times, j % 4 + 1);
+            }
+        }
+        let named = self.below16(size);
+        let Sent { signalled, blocks, cce, .. } = sent.at[usize::from(named)];
+        let cce = if self.once_in(16) { self.below16(cces) } else { cce };
+        let resource = match (signalled, blocks) {
+            _ if self.once_in(times) => self.any(),
+            (0, 1..) => settings.scheduled,
+            _ if self.once_in(32) => settings.scheduled,
+            _ => model.resource(settings, n, named, cce).resource,
+        };
+        let [b0, b1] = [1, settings.blocks.wrapping_sub(1) | settings.mode].map(|most| {
+            let bit = self.below16(2).max(self.below16(2)) & most;
+            self.unless_once_in(2 * times, bit)
+        });
+        Exchange { settings, n, sent, resource, b0, b1 }
+    }
+
+    /// What was sent at a position, of one kind or of none. Of what it uses each number is once
+    /// in `times` any, and the rest has any value.
+    fn sent(&mut self, settings: Settings, cces: u16, times: usize) -> Sent {
+        let blocks = 1 + self.below16(settings.blocks.clamp(1, 2));
+        let blocks = self.unless_once_in(times, blocks);
+        let (signalled, blocks) = match self.below(8) {
+            0 => (0, 0),
+            1 => (self.flag().max(1), 0),
+            2 => (0, blocks),
+            _ => (self.flag().max(1), blocks),
+        };
+        let cce = self.below16(cces);
+        let cce = if signalled != 0 { self.unless_once_in(times, cce) } else { self.any() };
+        let dai = 1 + self.below16(4);
+        let dai = if signalled != 0 { self.unless_once_in(times, dai) } else { self.any() };
+        let (itbs0, nprb0) = self.size(blocks > 0, times);
+        let (itbs1, nprb1) = self.size(blocks > 1, times);
+        Sent { signalled, blocks, cce, dai, itbs0, nprb0, itbs1, nprb1 }
+    }
+
+    /// I_TBS and N_PRB of a block: of the table, but each once in `times` any, and always
+    /// where it is not used.
+    fn size(&mut self, used: bool, times: usize) -> (u16, u16) {
+        if !used {
+            return (self.any(), self.any());
+        }
+        let (itbs, nprb) = (self.below16(27), 1 + self.below16(110));
+        (self.unless_once_in(2 * times, itbs), self.unless_once_in(2 * times, nprb))
+    }
+
+    /// An account: by the equation, at a price that is allowed and with any octets up to the
+    /// most, near the most, or far beyond; once in `times` with another number in one field.
+    pub fn account(&mut self, times: usize) -> Account {
+        let price = match self.below(4) {
+            0 => self.one_of(&[0, 1, 999_999, 1_000_000]),
+            _ => self.below(1_000_001) as u32,
+        };
+        let near = Account::MOST - 200_000 + self.below(250_000) as u64;
+        let octets = match self.below(8) {
+            0 => near,
+            1 => self.number() >> self.below(64),
+            2 => 0,
+            _ => (self.number() >> self.below(40)) % (Account::MOST + 1),
+        };
+        let mut account = Account::with(price, octets);
+        if self.once_in(times) {
+            let any = self.number();
+            let step = self.one_of(&[1, u64::MAX, 1_000_000, any]);
+            match self.below(6) {
+                0 => account.octets = account.octets.wrapping_add(step),
+                1 => account.charged = account.charged.wrapping_add(step),
+                2 => account.price = account.price.wrapping_add(step as u32),
+                3 => account.carry = account.carry.wrapping_add(step as u32),
+                4 => account.price = (self.number() >> 32) as u32,
+                // The same sum with a whole coin in the carry.
+                _ => {
+                    account.charged = account.charged.wrapping_sub(1);
+                    account.carry += Account::WHOLE;
+                }
+            }
+        }
+        account
     }
 
     /// A handset of any numbers.

@@ -244,6 +244,84 @@ pub struct RecordAnswer {
     pub slot: Slot,
 }
 
+/// What was sent at a position of a window: a grant (signalled, with blocks), a release
+/// (signalled, without), a scheduled block (not signalled, with blocks) or nothing. Signalled
+/// is every number but 0. First CCE and DAI are those of a PDCCH, and each block carried has
+/// its I_TBS and N_PRB; what a kind has not is not looked at.
+#[repr(C)]
+#[derive(Clone, Copy, Debug, PartialEq, Eq)]
+pub struct Sent {
+    pub signalled: u16,
+    pub blocks: u16,
+    pub cce: u16,
+    pub dai: u16,
+    pub itbs0: u16,
+    pub nprb0: u16,
+    pub itbs1: u16,
+    pub nprb1: u16,
+}
+
+/// What was sent in a window, by position. Entries that the window has no position for are
+/// not looked at.
+#[repr(C)]
+#[derive(Clone, Copy, Debug, PartialEq, Eq)]
+pub struct SentWindow {
+    pub at: [Sent; 9],
+}
+
+/// An account: the octets credited and what was charged for them, in smallest coins; the
+/// price of a million octets, and what is carried on to the next coin, in millionths.
+#[repr(C)]
+#[derive(Clone, Copy, Debug, PartialEq, Eq)]
+pub struct Account {
+    pub octets: u64,
+    pub charged: u64,
+    pub price: u32,
+    pub carry: u32,
+}
+
+/// The answer of opening an account: a refusal, or 0; and the account, new and at this price.
+#[repr(C)]
+#[derive(Clone, Copy, Debug, PartialEq, Eq)]
+pub struct Opened {
+    pub refusal: u16,
+    pub account: Account,
+}
+
+/// The answer about confirmed blocks: a refusal, or 0 and the positions at which the first
+/// block, or the only one, is confirmed, and those at which the second is; bit p for
+/// position p.
+#[repr(C)]
+#[derive(Clone, Copy, Debug, PartialEq, Eq)]
+pub struct ConfirmedAnswer {
+    pub refusal: u16,
+    pub first: u16,
+    pub second: u16,
+}
+
+/// The answer of a credit: a refusal, or 0 and the octets credited; and the account
+/// afterwards, which a refusal leaves as it was.
+#[repr(C)]
+#[derive(Clone, Copy, Debug, PartialEq, Eq)]
+pub struct CreditAnswer {
+    pub refusal: u16,
+    pub octets: u32,
+    pub account: Account,
+}
+
+/// What went both ways in a window, as a station knows it: what it sent, and the reply that it
+/// heard. These are the arguments of the call for confirmed blocks, and with an account those
+/// of a credit.
+#[derive(Clone, Copy, Debug, PartialEq, Eq)]
+pub struct Exchange {
+    pub settings: Settings,
+    pub n: u16,
+    pub sent: SentWindow,
+    pub resource: u16,
+    pub b0: u16,
+    pub b1: u16,
+}
+
 /// A grant as the arguments of a feed name it: raw numbers, of which the feed
 /// refuses what is not allowed. A block was decoded unless its number is 0.
 #[derive(Clone, Copy, Debug, PartialEq, Eq)]
@@ -410,6 +488,80 @@ impl WriteAnswer {
 
     pub fn stopped(refusal: u16, record: usize) -> Self {
         Self { refusal, kind: Self::STOPPED, record: record as u16, bytes: 0 }
+    }
+}
+
+/// I_TBS and N_PRB of the first and of the second block that is sent.
+pub type Sizes = [(u16, u16); 2];
+
+impl Sent {
+    pub const NOTHING: Self =
+        Self { signalled: 0, blocks: 0, cce: 0, dai: 0, itbs0: 0, nprb0: 0, itbs1: 0, nprb1: 0 };
+
+    pub const fn grant(blocks: u16, cce: u16, dai: u16, sizes: Sizes) -> Self {
+        Self { signalled: 1, cce, dai, ..Self::block(blocks, sizes) }
+    }
+
+    pub const fn block(blocks: u16, sizes: Sizes) -> Self {
+        let [(itbs0, nprb0), (itbs1, nprb1)] = sizes;
+        Self { blocks, itbs0, nprb0, itbs1, nprb1, ..Self::NOTHING }
+    }
+
+    pub const fn release(cce: u16, dai: u16) -> Self {
+        Self { signalled: 1, cce, dai, ..Self::NOTHING }
+    }
+}
+
+impl SentWindow {
+    pub const NOTHING: Self = Self { at: [Sent::NOTHING; 9] };
+
+    /// These at the first positions, and nothing behind them.
+    pub fn of(sent: &[Sent]) -> Self {
+        let mut window = Self::NOTHING;
+        window.at[..sent.len()].copy_from_slice(sent);
+        window
+    }
+}
+
+impl Account {
+    /// The most octets of an account.
+    pub const MOST: u64 = 1_000_000_000_000;
+
+    /// The highest price, and how many parts of a coin are carried on as a whole one.
+    pub const DEAREST: u32 = 1_000_000;
+    pub const WHOLE: u32 = 1_000_000;
+
+    /// One on which nothing was credited.
+    pub const fn new(price: u32) -> Self {
+        Self { octets: 0, charged: 0, price, carry: 0 }
+    }
+
+    /// One with as many octets, by the equation; its price is at most the highest.
+    pub fn with(price: u32, octets: u64) -> Self {
+        let product = u128::from(octets) * u128::from(price);
+        let whole = u128::from(Self::WHOLE);
+        let (charged, carry) = ((product / whole) as u64, (product % whole) as u32);
+        Self { octets, charged, price, carry }
+    }
+}
+
+impl ConfirmedAnswer {
+    pub const fn refused(refusal: u16) -> Self {
+        Self { refusal, first: 0, second: 0 }
+    }
+
+    pub const fn of(first: u16, second: u16) -> Self {
+        Self { refusal: 0, first, second }
+    }
+}
+
+impl CreditAnswer {
+    pub const fn refused(refusal: u16, account: Account) -> Self {
+        Self { refusal, octets: 0, account }
+    }
+
+    pub const fn of(octets: u32, account: Account) -> Self {
+        Self { refusal: 0, octets, account }
     }
 }
 

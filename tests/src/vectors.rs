@@ -7,8 +7,11 @@
 //! hexadecimal digits each. A file that has settings has all of them, of which those
 //! that a later request brought have the value that changes nothing.
 
-use crate::{Block, Grant, Handset, Heard, Release, Settings, Slot, Step};
+use crate::{
+    Account, Block, Grant, Handset, Heard, Release, Sent, SentWindow, Settings, Slot, Step,
+};
 use std::fmt;
+use std::str::FromStr;
 
 /// The columns of the settings, in this order and side by side.
 const SETTINGS: [&str; 9] =
@@ -58,8 +61,18 @@ impl<'a> Case<'a> {
         self.parse(self.text(name))
     }
 
+    /// A number that may be wider.
+    pub fn wide<T: FromStr>(&self, name: &str) -> T {
+        self.parse(self.text(name))
+    }
+
     /// The entries of a list.
     pub fn numbers(&self, name: &str) -> Vec<u16> {
+        self.wide_numbers(name)
+    }
+
+    /// The entries of a list, which may be wider.
+    pub fn wide_numbers<T: FromStr>(&self, name: &str) -> Vec<T> {
         match self.text(name) {
             "-" => Vec::new(),
             list => list.split(' ').map(|entry| self.parse(entry)).collect(),
@@ -89,6 +102,18 @@ impl<'a> Case<'a> {
         Settings { config, nrb, n1, mode, blocks, scheduled, prefix, special, ports }
     }
 
+    /// What was sent in a window, with nothing behind it.
+    pub fn sent(&self) -> SentWindow {
+        let sent: Vec<Sent> = self.numbers("sent").chunks(8).map(sent).collect();
+        SentWindow::of(&sent)
+    }
+
+    /// An account of the price of the line, with the numbers of these columns.
+    pub fn account(&self, names: [&str; 3]) -> Account {
+        let [octets, charged] = [names[0], names[1]].map(|name| self.wide(name));
+        Account { octets, charged, price: self.wide("price"), carry: self.wide(names[2]) }
+    }
+
     /// The lent handset: its settings, the subframe expected, and seven numbers for
     /// each subframe in which something was heard, first how long ago that was. Or
     /// nothing, where this layout cannot hold it. In a file without the modes at the
@@ -106,7 +131,7 @@ impl<'a> Case<'a> {
         Some(handset)
     }
 
-    fn parse(&self, text: &str) -> u16 {
+    fn parse<T: FromStr>(&self, text: &str) -> T {
         text.parse().unwrap_or_else(|_| panic!("{}, line {}: {text}", self.file, self.line))
     }
 
@@ -143,6 +168,19 @@ pub fn heard(numbers: &[u16]) -> Heard {
         3 => Heard::Release(Release { cce, dai }),
         _ => panic!("a kind of heard thing: {kind}"),
     }
+}
+
+/// What was sent at a position from its eight numbers: kind (0 nothing, 1 grant, 2 scheduled
+/// block, 3 release), blocks carried, first CCE, DAI, I_TBS and N_PRB of the first block, I_TBS
+/// and N_PRB of the second.
+fn sent(numbers: &[u16]) -> Sent {
+    let [kind, blocks, cce, dai, itbs0, nprb0, itbs1, nprb1] = *numbers else {
+        panic!("eight numbers: {numbers:?}")
+    };
+    let carries = kind == 1 || kind == 2;
+    assert!(kind < 4 && carries == (blocks > 0), "a kind of sent thing: {numbers:?}");
+    let signalled = u16::from(kind == 1 || kind == 3);
+    Sent { signalled, blocks, cce, dai, itbs0, nprb0, itbs1, nprb1 }
 }
 
 /// A step from its seven numbers: 0 for a feed, then what it brings, or 1 for a mode

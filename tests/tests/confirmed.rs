@@ -4,18 +4,22 @@
 //! lost, heard and decoded, and a handset answers through the C calls. Each block
 //! that the station's rule confirms must have been heard and decoded; and the rule
 //! must confirm no less than what was decoded in all the ways that look alike to
-//! the station. Rules that differ in one point are shown to confirm a block that
-//! never arrived.
+//! the station. The call for confirmed blocks is held to the rule on the way, with sizes that
+//! no block has, since it does not look at them. Rules that differ in one point are shown to
+//! confirm a block that never arrived, or fewer blocks than they could.
 
 use feedback_tests::compare::WINDOWS;
 use feedback_tests::every;
-use feedback_tests::model::{bundles, edge, is_short, Model, Window};
-use feedback_tests::random::Random;
-use feedback_tests::{
-    feed, make, reading, resource, Block, Fed, Grant, Handset, Heard, ReadingAnswer, Release,
-    Settings, NONE, NOT_TOLD,
+use feedback_tests::fates::{
+    every_pattern, every_pattern_with_a_block, fates, fates_with_releases, heard_two, Cell, Fate,
+    Outcome, BLOCKS_OF_ONE, BLOCKS_OF_TWO, DECODED, FATES_OF_TWO, LOST, LOST_TWO,
 };
-use std::cmp::Reverse;
+use feedback_tests::model::{
+    blocks_at, bundles, is_short, positions_of, told, Blocks, Model, Rule, Sole, Transmission,
+    Window, CONFIRMED,
+};
+use feedback_tests::random::Random;
+use feedback_tests::{confirmed, ConfirmedAnswer, Exchange, Fed, ReadingAnswer, NONE, NOT_TOLD};
 use std::collections::HashMap;
 
 /// N_RB of the cells, their N1, and the scheduled resource where one is set.
@@ -23,386 +27,11 @@ const NRB: [u16; 3] = [6, 50, 110];
 const N1: [u16; 1] = [10];
 const SCHEDULED: u16 = 9;
 
-/// A set of blocks: bit 2 × m for the first block at position m, or the only
-/// one, and the next bit for the second.
-type Blocks = u32;
-
-fn blocks_at(position: usize, first: bool, second: bool) -> Blocks {
-    (Blocks::from(first) | Blocks::from(second) << 1) << (2 * position)
-}
-
-/// What was sent at a position, as the station knows it.
-#[derive(Clone, Copy, Debug, PartialEq, Eq, Hash)]
-enum Sent {
-    Grant { blocks: u16, cce: u16 },
-    Release { cce: u16 },
-    Block { blocks: u16 },
-}
-
-impl Sent {
-    /// The transport blocks that it carries.
-    fn blocks(self) -> u16 {
-        match self {
-            Self::Grant { blocks, .. } | Self::Block { blocks } => blocks,
-            Self::Release { .. } => 0,
-        }
-    }
-
-    /// The first CCE of a PDCCH.
-    fn cce(self) -> Option<u16> {
-        match self {
-            Self::Grant { cce, .. } | Self::Release { cce } => Some(cce),
-            Self::Block { .. } => None,
-        }
-    }
-}
-
-/// The position of the scheduled block that was sent, which the reading is told.
-fn told(sent: &[Option<Sent>]) -> u16 {
-    let is_block = |sent: &Option<Sent>| matches!(sent, Some(Sent::Block { .. }));
-    sent.iter().position(is_block).map_or(NOT_TOLD, |position| position as u16)
-}
-
-/// What a station takes as confirmed, with the points in which a wrong rule differs.
-#[derive(Clone, Copy)]
-struct Rule {
-    /// So many PDCCHs sent up to and with the named one are all confirmed by an ACK.
-    most: usize,
-    /// "Up to" is by time, that is k falling, and not by position.
-    by_time: bool,
-    /// What the reading names must have been sent there with that first CCE, or be
-    /// the scheduled block there.
-    named_compared: bool,
-    /// A release is one of the PDCCHs that are counted.
-    releases_counted: bool,
-    /// The scheduled block is confirmed only where the reading names it.
-    blocks_apart: bool,
-}
-
-const RULE: Rule = Rule {
-    most: 4,
-    by_time: true,
-    named_compared: true,
-    releases_counted: true,
-    blocks_apart: true,
-};
-
-impl Rule {
-    /// Nothing is confirmed where what the reading names was not sent. Multiplexed:
-    /// all that was sent at a delivered position. Bundled: a sole block by either bit,
-    /// and of two the first by the first bit and the second by the second; a release
-    /// has none.
-    fn confirms(self, window: &Window, sent: &[Option<Sent>], read: ReadingAnswer) -> Blocks {
-        let named = usize::from(read.position);
-        if read.refusal != 0 || !sent[named].is_some_and(|sent| self.is_named(sent, read)) {
-            return 0;
-        }
-        if read.kind == Fed::MULTIPLEXED {
-            let delivered = |m: usize| read.delivered >> m & 1 == 1;
-            return together(sent, delivered, |sent| (sent.blocks() > 0, sent.blocks() == 2));
-        }
-        let (ack0, ack1) = (read.b0 == 1, read.b1 == 1);
-        let acked = |sent: Sent| match sent.blocks() {
-            0 => (false, false),
-            1 => (ack0 || ack1, false),
-            _ => (ack0, ack1),
-        };
-        match read.scheduled {
-            1 => together(sent, |m| m == named, acked),
-            _ => together(sent, self.spoken_of(window, sent, named), acked),
-        }
-    }
-
-    /// The positions that a bundled reply for a PDCCH speaks of: if at most four PDCCHs
-    /// of the window were sent up to and with the named one, all of these, and if more
-    /// were, the named one alone. It does not speak of the scheduled block.
-    fn spoken_of<'a>(
-        self,
-        window: &'a Window,
-        sent: &'a [Option<Sent>],
-        named: usize,
-    ) -> impl Fn(usize) -> bool + 'a {
-        let not_after = move |m: usize| match self.by_time {
-            true => window.k[m] >= window.k[named],
-            false => m <= named,
-        };
-        let counted = |m: &usize| sent[*m].is_some_and(|sent| self.is_counted(sent));
-        let all = (0..sent.len()).filter(|m| not_after(*m)).filter(counted).count() <= self.most;
-        move |m| match sent[m] {
-            Some(Sent::Block { .. }) => !self.blocks_apart,
-            _ => m == named || (all && not_after(m)),
-        }
-    }
-
-    fn is_named(self, sent: Sent, read: ReadingAnswer) -> bool {
-        let is_block = read.scheduled == 1;
-        !self.named_compared || sent.cce() == (!is_block).then_some(read.cce)
-    }
-
-    fn is_counted(self, sent: Sent) -> bool {
-        match sent {
-            Sent::Grant { .. } => true,
-            Sent::Release { .. } => self.releases_counted,
-            Sent::Block { .. } => false,
-        }
-    }
-}
-
-/// Of the positions chosen, the blocks of what was sent there.
-fn together(
-    sent: &[Option<Sent>],
-    chosen: impl Fn(usize) -> bool,
-    blocks: impl Fn(Sent) -> (bool, bool),
-) -> Blocks {
-    let mut all = 0;
-    for (m, sent) in sent.iter().enumerate().filter(|(m, _)| chosen(*m)) {
-        if let Some((first, second)) = sent.map(&blocks) {
-            all |= blocks_at(m, first, second);
-        }
-    }
-    all
-}
-
-/// What becomes of a position. Lost and heard speak of a grant.
-#[derive(Clone, Copy, Debug)]
-enum Fate {
-    Nothing,
-    Lost { blocks: u16 },
-    Heard { blocks: u16, first: bool, second: bool },
-    LostRelease,
-    HeardRelease,
-    LostBlock { blocks: u16 },
-    HeardBlock { blocks: u16, first: bool, second: bool },
-}
-
-impl Fate {
-    /// What was sent, a PDCCH with this first CCE.
-    fn sent(self, cce: u16) -> Option<Sent> {
-        match self {
-            Self::Nothing => None,
-            Self::Lost { blocks } | Self::Heard { blocks, .. } => Some(Sent::Grant { blocks, cce }),
-            Self::LostRelease | Self::HeardRelease => Some(Sent::Release { cce }),
-            Self::LostBlock { blocks } | Self::HeardBlock { blocks, .. } => {
-                Some(Sent::Block { blocks })
-            }
-        }
-    }
-
-    /// What was heard, a PDCCH with this first CCE and DAI. The second result of a
-    /// sole block says nothing, and is here the contrary of the first.
-    fn heard(self, cce: u16, dai: u16) -> Heard {
-        let numbers = |blocks: u16, first: bool, second: bool| {
-            let second = if blocks == 1 { !first } else { second };
-            (u16::from(first), u16::from(second))
-        };
-        match self {
-            Self::Heard { blocks, first, second } => {
-                let (first, second) = numbers(blocks, first, second);
-                Heard::Grant(Grant { blocks, first, second, cce, dai })
-            }
-            Self::HeardBlock { blocks, first, second } => {
-                let (first, second) = numbers(blocks, first, second);
-                Heard::Block(Block { blocks, first, second })
-            }
-            Self::HeardRelease => Heard::Release(Release { cce, dai }),
-            _ => Heard::Nothing,
-        }
-    }
-
-    /// Which blocks were decoded.
-    fn decoded(self) -> (bool, bool) {
-        match self {
-            Self::Heard { first, second, .. } | Self::HeardBlock { first, second, .. } => {
-                (first, second)
-            }
-            _ => (false, false),
-        }
-    }
-}
-
-const LOST: Fate = Fate::Lost { blocks: 1 };
-const DECODED: Fate = Fate::Heard { blocks: 1, first: true, second: false };
-const FAILED: Fate = Fate::Heard { blocks: 1, first: false, second: false };
-
-const LOST_TWO: Fate = Fate::Lost { blocks: 2 };
-
-const fn heard_two(first: bool, second: bool) -> Fate {
-    Fate::Heard { blocks: 2, first, second }
-}
-
-/// The fates of a position in a cell of one block, and in one of two.
-const FATES_OF_ONE: [Fate; 4] = [Fate::Nothing, LOST, DECODED, FAILED];
-const FATES_OF_TWO: [Fate; 9] = [
-    Fate::Nothing,
-    LOST,
-    DECODED,
-    FAILED,
-    LOST_TWO,
-    heard_two(true, true),
-    heard_two(true, false),
-    heard_two(false, true),
-    heard_two(false, false),
-];
-
-fn fates(settings: Settings) -> &'static [Fate] {
-    match settings.blocks {
-        1 => &FATES_OF_ONE,
-        _ => &FATES_OF_TWO,
-    }
-}
-
-/// The fates of releases, and those of a scheduled block, in a cell of one block and
-/// in one of two.
-const RELEASES: [Fate; 2] = [Fate::LostRelease, Fate::HeardRelease];
-const BLOCKS_OF_ONE: [Fate; 3] =
-    [Fate::LostBlock { blocks: 1 }, block(1, true, false), block(1, false, false)];
-const BLOCKS_OF_TWO: [Fate; 8] = [
-    Fate::LostBlock { blocks: 1 },
-    block(1, true, false),
-    block(1, false, false),
-    Fate::LostBlock { blocks: 2 },
-    block(2, true, true),
-    block(2, true, false),
-    block(2, false, true),
-    block(2, false, false),
-];
-
-const fn block(blocks: u16, first: bool, second: bool) -> Fate {
-    Fate::HeardBlock { blocks, first, second }
-}
-
-/// Every pattern of these fates over as many positions in which one position has a
-/// scheduled block, of one of these fates.
-fn every_pattern_with_a_block(
-    fates: &[Fate],
-    blocks: &[Fate],
-    size: u16,
-    mut each: impl FnMut(&[Fate]),
-) {
-    every_pattern(fates, size - 1, |others| {
-        for place in 0..usize::from(size) {
-            for block in blocks {
-                let mut pattern = others.to_vec();
-                pattern.insert(place, *block);
-                each(&pattern);
-            }
-        }
-    });
-}
-
-/// Every pattern of these fates over as many positions.
-fn every_pattern(fates: &[Fate], size: u16, mut each: impl FnMut(&[Fate])) {
-    let mut pattern = vec![fates[0]; size.into()];
-    for number in 0..fates.len().pow(size.into()) {
-        let mut rest = number;
-        for fate in &mut pattern {
-            *fate = fates[rest % fates.len()];
-            rest /= fates.len();
-        }
-        each(&pattern);
-    }
-}
-
-/// One window of a cell, and the handset as it is before the window.
-struct Cell<'a> {
-    settings: Settings,
-    window: &'a Window,
-    in_time: Vec<usize>,
-    handset: Handset,
-}
-
-/// What a pattern leads to: what the station knows, and what it does not know.
-#[derive(Debug)]
-struct Outcome {
-    sent: Vec<Option<Sent>>,
-    fed: Fed,
-    read: Option<ReadingAnswer>,
-    decoded: Blocks,
-}
-
-impl<'a> Cell<'a> {
-    /// The window lies whole after the start: its reply goes out in the third frame.
-    fn new(settings: Settings, window: &'a Window) -> Self {
-        let made = make(settings);
-        assert_eq!(made.refusal, 0, "{settings:?}");
-        let mut in_time: Vec<usize> = (0..window.k.len()).collect();
-        in_time.sort_by_key(|m| Reverse(window.k[*m]));
-        let mut handset = made.handset;
-        for _ in 0..20 + window.n - window.k[in_time[0]] {
-            handset = feed(handset, None).handset;
-        }
-        Self { settings, window, in_time, handset }
-    }
-
-    /// Some first CCE for each position.
-    fn cce(&self, position: usize) -> u16 {
-        (17 * position as u16 + 2) % edge(self.settings.nrb, 4)
-    }
-
-    /// Sends what the pattern says, the j-th PDCCH in time with DAI
-    /// ((j − 1) mod 4) + 1, feeds what is heard, and reads what is replied.
-    fn run(&self, pattern: &[Fate]) -> Outcome {
-        let Self { settings, window, .. } = *self;
-        let sent: Vec<Option<Sent>> =
-            pattern.iter().enumerate().map(|(m, fate)| fate.sent(self.cce(m))).collect();
-        let mut heard = [Heard::Nothing; 14];
-        let (mut j, mut decoded) = (0, 0);
-        for m in self.in_time.iter().copied() {
-            heard[usize::from(window.k[m])] = pattern[m].heard(self.cce(m), j % 4 + 1);
-            j += u16::from(sent[m].is_some_and(|sent| sent.cce().is_some()));
-            let (first, second) = pattern[m].decoded();
-            decoded |= blocks_at(m, first, second);
-        }
-        let mut handset = self.handset;
-        let first_k = usize::from(window.k[self.in_time[0]]);
-        for k in (1..=first_k).rev() {
-            let fed = feed(handset, heard[k]);
-            assert_eq!(fed.refusal, 0, "{settings:?}, {window:?}, {pattern:?}, k {k}");
-            handset = fed.handset;
-        }
-        let fed = feed(handset, None);
-        let is_reply = [Fed::BUNDLED, Fed::MULTIPLEXED].contains(&fed.kind);
-        assert!(is_reply || fed.kind == Fed::SILENT, "{settings:?}, {window:?}: {fed:?}");
-        let (Fed { resource, b0, b1, .. }, told) = (fed, told(&sent));
-        let read = is_reply.then(|| reading(settings, window.n, told, resource, b0, b1));
-        Outcome { sent, fed, read, decoded }
-    }
-
-    /// How the station reads every resource of some other first CCE than was sent
-    /// at its position, with any bits that are not refused.
-    fn readings_of_others(&self, sent: &[Option<Sent>]) -> Vec<ReadingAnswer> {
-        let Self { settings, window, .. } = *self;
-        let cces = edge(settings.nrb, 4);
-        let mut all = Vec::new();
-        for (m, there) in sent.iter().enumerate() {
-            let own = self.cce(m);
-            for cce in [0, own, (own + 1) % cces, cces - 1] {
-                if there.is_some_and(|sent| sent.cce() == Some(cce)) {
-                    continue;
-                }
-                let there = resource(settings, window.n, m as u16, cce);
-                assert_eq!(there.refusal, 0, "{settings:?}, {window:?}, {m}, {cce}");
-                for read in self.readings_on(there.resource, told(sent)) {
-                    assert_eq!((read.position, read.cce), (m as u16, cce));
-                    all.push(read);
-                }
-            }
-        }
-        all
-    }
-
-    /// How the station reads the scheduled resource, with any bits that are not
-    /// refused, told of each position at which no scheduled block was sent.
-    fn readings_of_no_block(&self, sent: &[Option<Sent>]) -> Vec<ReadingAnswer> {
-        let others = (0..self.window.size()).filter(|position| *position != told(sent));
-        others.flat_map(|position| self.readings_on(self.settings.scheduled, position)).collect()
-    }
-
-    fn readings_on(&self, resource: u16, told: u16) -> impl Iterator<Item = ReadingAnswer> + '_ {
-        let bits = [(0, 0), (0, 1), (1, 0), (1, 1)].into_iter();
-        let read = move |(b0, b1)| reading(self.settings, self.window.n, told, resource, b0, b1);
-        bits.map(read).filter(|read| read.refusal == 0)
-    }
+/// The call confirms these blocks, and no other.
+fn assert_confirmed(exchange: Exchange, blocks: Blocks) {
+    let (first, second) = positions_of(blocks);
+    let (given, due) = (confirmed(exchange), ConfirmedAnswer::of(first, second));
+    assert_eq!(given, due, "feedback_confirmed({exchange:?}): the engine gives the first of these");
 }
 
 /// What was found in one window.
@@ -421,18 +50,21 @@ struct Found {
 /// What the station knows: what it sent, and what came in.
 #[derive(Debug, PartialEq, Eq, Hash)]
 struct Known {
-    sent: Vec<Option<Sent>>,
+    sent: Vec<Option<Transmission>>,
     resource: u16,
     bits: (u16, u16),
 }
 
 impl Found {
     fn try_pattern(&mut self, cell: &Cell, rule: Rule, pattern: &[Fate]) {
-        let Outcome { sent, fed, read, decoded } = cell.run(pattern);
+        let Outcome { sent, exchange, fed, read, decoded } = cell.run(pattern);
         self.patterns += 1;
         let Some(read) = read else { return };
         self.replies += 1;
         let confirmed = rule.confirms(cell.window, &sent, read);
+        if rule == CONFIRMED {
+            assert_confirmed(exchange, confirmed);
+        }
         self.confirmed += u64::from(confirmed.count_ones());
         if confirmed & !decoded != 0 {
             self.wrong += 1;
@@ -520,7 +152,7 @@ fn is_in_time_order(window: &Window) -> bool {
 fn hold(cells: &[Cell], confirmed: impl Fn(&Cell) -> u64) {
     for cell in cells {
         let Cell { settings, window, .. } = cell;
-        let found = Found::of(cell, RULE);
+        let found = Found::of(cell, CONFIRMED);
         found.assert_exact(cell);
         let patterns = (fates(*settings).len() as u64).pow(window.size().into());
         assert_eq!(found.patterns, patterns, "{settings:?}, {window:?}");
@@ -599,7 +231,7 @@ fn patterns_of_two_blocks_in_configuration_5() {
         for number in 0..100_000 {
             let from = if number % 2 == 0 { &FATES_OF_TWO[..] } else { &mostly_decoded };
             let pattern = [(); 9].map(|()| random.one_of(from));
-            found.try_pattern(cell, RULE, &pattern);
+            found.try_pattern(cell, CONFIRMED, &pattern);
         }
         println!("{} of 100000 reply, {} blocks confirmed", found.replies, found.confirmed);
         assert_eq!(found.wrong, 0, "{}", found.example.unwrap_or_default());
@@ -614,7 +246,7 @@ fn patterns_of_two_blocks_in_configuration_5() {
 fn five_are_too_many() {
     let model = Model::new();
     for cell in windows(&model, 1, 9).iter().filter(|cell| cell.window.size() == 9) {
-        let found = Found::of(cell, Rule { most: 5, ..RULE });
+        let found = Found::of(cell, Rule { most: 5, ..CONFIRMED });
         println!("{} wrong, such as {}", found.wrong, found.example.unwrap_or_default());
         assert_eq!(found.wrong, 16 + 5 * 8 + 15 * 4 + 35 * 2 + 70);
     }
@@ -627,7 +259,7 @@ fn positions_are_not_in_time_order() {
     let model = Model::new();
     let mut wrong_windows = 0;
     for cell in windows(&model, 1, 9).iter().filter(|cell| is_bundled(cell)) {
-        let found = Found::of(cell, Rule { by_time: false, ..RULE });
+        let found = Found::of(cell, Rule { by_time: false, ..CONFIRMED });
         assert_eq!(found.wrong == 0, is_in_time_order(cell.window), "{:?}", cell.window);
         if cell.settings.nrb == 50 && found.wrong > 0 {
             println!("{} wrong, such as {}", found.wrong, found.example.unwrap_or_default());
@@ -637,20 +269,39 @@ fn positions_are_not_in_time_order() {
     assert_eq!(wrong_windows, 2 + 1 + 2 + 1);
 }
 
+/// A sole block is confirmed by either bit: in a cell of two blocks its ACK stands for both,
+/// and beside a grant whose first or second block failed one of them is NACK. By one bit alone
+/// the rule confirms no block that was not decoded, but fewer than the station knows of.
+#[test]
+fn a_sole_block_is_confirmed_by_either_bit() {
+    let model = Model::new();
+    for sole in [Sole::FirstBit, Sole::SecondBit] {
+        let rule = Rule { sole, ..CONFIRMED };
+        for cell in windows(&model, 2, 2).iter().filter(|cell| is_bundled(cell)) {
+            let found = Found::of(cell, rule);
+            assert_eq!(found.wrong, 0, "{sole:?}: {}", found.example.unwrap_or_default());
+            let all = found.alike.values();
+            let fewer = all.filter(|(confirmed, decoded)| confirmed != decoded).count();
+            assert_eq!(fewer > 0, cell.window.size() > 1, "{sole:?}, {:?}", cell.window);
+        }
+    }
+}
+
 /// What comes in on a resource that no grant of this handset has, another's reply
 /// or noise, confirms nothing. Where the first CCE is not compared with what was
 /// sent there, it confirms blocks that were lost or failed.
 #[test]
 fn a_resource_of_another_grant_confirms_nothing() {
     let model = Model::new();
-    let blind = Rule { named_compared: false, ..RULE };
+    let blind = Rule { named_compared: false, ..CONFIRMED };
     for cell in windows(&model, 1, 4).iter().chain(&windows(&model, 2, 2)) {
         let Cell { settings, window, .. } = cell;
         let (mut read_wrongly, mut example) = (0, None);
         every_pattern(fates(*settings), window.size(), |pattern| {
-            let Outcome { sent, decoded, .. } = cell.run(pattern);
-            for read in cell.readings_of_others(&sent) {
-                assert_eq!(RULE.confirms(window, &sent, read), 0, "{sent:?}, {read:?}");
+            let Outcome { sent, exchange, decoded, .. } = cell.run(pattern);
+            for (heard, read) in cell.readings_of_others(&exchange) {
+                assert_eq!(CONFIRMED.confirms(window, &sent, read), 0, "{sent:?}, {read:?}");
+                assert_confirmed(heard, 0);
                 if blind.confirms(window, &sent, read) & !decoded != 0 {
                     read_wrongly += 1;
                     example.get_or_insert_with(|| format!("{pattern:?}: {read:?}"));
@@ -681,7 +332,7 @@ fn what_arrives_is_confirmed() {
                 return;
             }
             let read = read.expect("a reply");
-            let confirmed = RULE.confirms(cell.window, &sent, read);
+            let confirmed = CONFIRMED.confirms(cell.window, &sent, read);
             if !is_bundled(cell) && cell.window.size() == 4 && count == 3 {
                 let grants = (0..4).filter(|m| confirmed >> (2 * m) & 1 == 1).count();
                 assert!(grants == 2 && confirmed & !decoded == 0, "{sent:?}, {read:?}");
@@ -694,11 +345,6 @@ fn what_arrives_is_confirmed() {
     // Over the windows, the ways to choose one to four positions of M, with grants
     // of one block or, in a cell of two, of one or two at each.
     assert_eq!(whole, 3 * (419 + 3522));
-}
-
-/// The fates of a position with grants and releases.
-fn fates_with_releases(settings: Settings) -> Vec<Fate> {
-    [fates(settings), &RELEASES].concat()
 }
 
 /// A bundled window of one block, over all patterns of grants and releases, counted
@@ -745,7 +391,8 @@ fn every_pattern_of_one_block_with_a_schedule() {
     assert_eq!(all.len() as u64, 3 * (2 * WINDOWS - 2));
     for cell in &all {
         let Cell { settings, window, .. } = cell;
-        let found = Found::of_fates(cell, RULE, &fates_with_releases(*settings), &BLOCKS_OF_ONE);
+        let found =
+            Found::of_fates(cell, CONFIRMED, &fates_with_releases(*settings), &BLOCKS_OF_ONE);
         found.assert_exact(cell);
         let size = u32::from(window.size());
         assert_eq!(found.patterns, 6u64.pow(size - 1) * u64::from(6 + 3 * size));
@@ -766,7 +413,8 @@ fn every_pattern_of_two_blocks_with_a_schedule() {
     assert_eq!(all.len() as u64, 2 * WINDOWS - 2);
     for cell in &all {
         let Cell { settings, window, .. } = cell;
-        let found = Found::of_fates(cell, RULE, &fates_with_releases(*settings), &BLOCKS_OF_TWO);
+        let found =
+            Found::of_fates(cell, CONFIRMED, &fates_with_releases(*settings), &BLOCKS_OF_TWO);
         found.assert_exact(cell);
         let size = u32::from(window.size());
         assert_eq!(found.patterns, 11u64.pow(size - 1) * u64::from(11 + 8 * size));
@@ -813,7 +461,7 @@ fn every_pattern_of_nine_with_releases() {
     let model = Model::new();
     let fates = [Fate::Nothing, LOST, DECODED, Fate::LostRelease, Fate::HeardRelease];
     for cell in cells_of_nine(&model) {
-        let found = Found::of_fates(&cell, RULE, &fates, &[]);
+        let found = Found::of_fates(&cell, CONFIRMED, &fates, &[]);
         found.assert_exact(&cell);
         assert_eq!((found.patterns, found.confirmed), (5u64.pow(9), confirmed_of_nine(9, 2)));
     }
@@ -828,7 +476,7 @@ fn every_pattern_of_nine_with_a_block() {
     for cell in cells_of_nine(&model) {
         let mut found = Found::default();
         every_pattern_with_a_block(&grants, blocks, 9, |pattern| {
-            found.try_pattern(&cell, RULE, pattern);
+            found.try_pattern(&cell, CONFIRMED, pattern);
         });
         found.assert_exact(&cell);
         assert_eq!(found.patterns, 9 * 2 * 3u64.pow(8));
@@ -853,7 +501,7 @@ fn patterns_of_two_blocks_with_a_schedule_in_configuration_5() {
             let from = if number % 2 == 0 { &any[..] } else { &mostly_decoded };
             let mut pattern = [(); 9].map(|()| random.one_of(from));
             pattern[random.below(9)] = random.one_of(&BLOCKS_OF_TWO);
-            found.try_pattern(cell, RULE, &pattern);
+            found.try_pattern(cell, CONFIRMED, &pattern);
         }
         println!("{} of 100000 reply, {} blocks confirmed", found.replies, found.confirmed);
         assert_eq!(found.wrong, 0, "{}", found.example.unwrap_or_default());
@@ -869,7 +517,7 @@ fn releases_are_counted() {
     let model = Model::new();
     let fates = [Fate::Nothing, LOST, DECODED, Fate::HeardRelease];
     for cell in cells_of_nine(&model) {
-        let rule = Rule { releases_counted: false, ..RULE };
+        let rule = Rule { releases_counted: false, ..CONFIRMED };
         let found = Found::of_fates(&cell, rule, &fates, &[]);
         println!("{} wrong, such as {}", found.wrong, found.example.unwrap_or_default());
         let at = |i: u64| choose(i, 4) * 2u64.pow(i as u32 - 4) * 2u64.pow(8 - i as u32);
@@ -882,7 +530,7 @@ fn releases_are_counted() {
 #[test]
 fn a_block_is_confirmed_apart() {
     let model = Model::new();
-    let rule = Rule { blocks_apart: false, ..RULE };
+    let rule = Rule { blocks_apart: false, ..CONFIRMED };
     for cell in cells(&model, &[50], SCHEDULED, 1, 4).iter().filter(|cell| is_bundled(cell)) {
         let found = Found::of_fates(cell, rule, fates(cell.settings), &BLOCKS_OF_ONE);
         assert_eq!(found.wrong > 0, cell.window.size() > 1, "{:?}", cell.window);
@@ -894,17 +542,20 @@ fn a_block_is_confirmed_apart() {
 #[test]
 fn what_was_not_sent_confirms_nothing() {
     let model = Model::new();
-    let blind = Rule { named_compared: false, ..RULE };
+    let blind = Rule { named_compared: false, ..CONFIRMED };
     for cell in cells(&model, &[50], SCHEDULED, 1, 4) {
         let Cell { settings, window, .. } = &cell;
         let fates = fates_with_releases(*settings);
         let mut wrong = [0; 2];
         let mut each = |pattern: &[Fate]| {
-            let Outcome { sent, decoded, .. } = cell.run(pattern);
-            let readings = [cell.readings_of_others(&sent), cell.readings_of_no_block(&sent)];
+            let Outcome { sent, exchange, decoded, .. } = cell.run(pattern);
+            let others = cell.readings_of_others(&exchange);
+            others.iter().for_each(|(heard, _)| assert_confirmed(*heard, 0));
+            let others: Vec<ReadingAnswer> = others.into_iter().map(|(_, read)| read).collect();
+            let readings = [others, cell.readings_of_no_block(&exchange)];
             for (readings, wrong) in readings.into_iter().zip(&mut wrong) {
                 for read in readings {
-                    assert_eq!(RULE.confirms(window, &sent, read), 0, "{sent:?}, {read:?}");
+                    assert_eq!(CONFIRMED.confirms(window, &sent, read), 0, "{sent:?}, {read:?}");
                     let confirmed = blind.confirms(window, &sent, read);
                     *wrong += u64::from(confirmed & !decoded != 0);
                 }
@@ -946,7 +597,7 @@ impl<'a> Shortened<'a> {
         let context = || format!("{:?}, {pattern:?}: {short:?}, {long:?}", self.cell.settings);
         assert_eq!(answer(short.fed), answer(long.fed), "{}", context());
         assert_eq!((&short.sent, short.read), (&long.sent, long.read), "{}", context());
-        found.try_pattern(&self.cell, RULE, pattern);
+        found.try_pattern(&self.cell, CONFIRMED, pattern);
     }
 }
 

@@ -2,17 +2,23 @@
 //! model and the plain implementation are held to them too. Each test knows how
 //! many lines its file has, and how many of them this layout cannot hold.
 
-use feedback_tests::compare::{plain_feed, plain_record_of, plain_replay_on, plain_trace_write_on};
+use feedback_tests::charging::Windows;
+use feedback_tests::compare::{
+    plain_confirmed_of, plain_credit_of, plain_feed, plain_record_of, plain_replay_on,
+    plain_trace_write_on,
+};
 use feedback_tests::form::Form;
 use feedback_tests::model::Model;
 use feedback_tests::plain::{
-    plain_change_mode, plain_inverse, plain_make, plain_reading, plain_resource,
+    plain_add, plain_change_mode, plain_inverse, plain_make, plain_open_account, plain_reading,
+    plain_resource,
 };
 use feedback_tests::vectors::{cases, heard, step, Case};
 use feedback_tests::{
-    change_mode, feed, inverse, make, reading, record, replay, resource, trace_write, window,
-    Changed, ClaimsAnswer, Fed, Handset, Heard, InverseAnswer, ReadingAnswer, RecordAnswer,
-    ReplayAnswer, ResourceAnswer, Settings, Slot, Step, WriteAnswer, NOT_TOLD,
+    change_mode, confirmed, credit, feed, inverse, make, open_account, reading, record, replay,
+    resource, trace_write, window, Account, Changed, ClaimsAnswer, ConfirmedAnswer, CreditAnswer,
+    Exchange, Fed, Handset, Heard, InverseAnswer, Opened, ReadingAnswer, RecordAnswer,
+    ReplayAnswer, ResourceAnswer, Sent, SentWindow, Settings, Slot, Step, WriteAnswer, NOT_TOLD,
 };
 use std::fmt::Debug;
 
@@ -142,6 +148,39 @@ impl Who<'_> {
             Self::Engine => (trace_write(trace, &mut output), output),
             Self::Model(model) => model.trace_write(trace, lent),
             Self::Plain => (plain_trace_write_on(trace, &mut output), output),
+        }
+    }
+
+    fn confirmed(&self, exchange: Exchange) -> ConfirmedAnswer {
+        match self {
+            Self::Engine => confirmed(exchange),
+            Self::Model(model) => model.confirmed(&exchange),
+            Self::Plain => plain_confirmed_of(exchange),
+        }
+    }
+
+    fn open_account(&self, price: u32) -> Opened {
+        match self {
+            Self::Engine => open_account(price),
+            Self::Model(model) => model.open_account(price),
+            Self::Plain => plain_open_account(price),
+        }
+    }
+
+    fn credit(&self, exchange: Exchange, account: Account) -> CreditAnswer {
+        match self {
+            Self::Engine => credit(exchange, account),
+            Self::Model(model) => model.credit(&exchange, account),
+            Self::Plain => plain_credit_of(exchange, account),
+        }
+    }
+
+    /// An account alone, which the engine has no call for.
+    fn add(&self, account: Account, octets: u32) -> Option<CreditAnswer> {
+        match self {
+            Self::Engine => None,
+            Self::Model(model) => Some(model.add(account, octets)),
+            Self::Plain => Some(plain_add(account, octets)),
         }
     }
 }
@@ -537,6 +576,99 @@ fn rule_line(case: &Case, who: &Who) -> (Vec<[u16; 5]>, Vec<[u16; 5]>) {
     (given, due)
 }
 
+/// What was sent in a window of a line, and the reply.
+fn exchange_of(case: &Case) -> Exchange {
+    let [resource, b0, b1] = ["resource", "b0", "b1"].map(|name| case.number(name));
+    Exchange { settings: case.settings(), n: case.number("n"), sent: case.sent(), resource, b0, b1 }
+}
+
+/// The account before, and the account after.
+const BEFORE: [&str; 3] = ["octets", "charged", "carry"];
+const AFTER: [&str; 3] = ["octets_after", "charged_after", "carry_after"];
+
+/// The answer of the credit that a line has.
+fn credit_due(case: &Case) -> CreditAnswer {
+    let (refusal, octets) = (case.number("refusal"), case.wide("credited"));
+    CreditAnswer { refusal, octets, account: case.account(AFTER) }
+}
+
+/// One credit, unless its told position is another than that of the block that was sent: a
+/// call takes it from what was sent. What is confirmed is refused alike, but for 25 and 26,
+/// which speak of sizes and accounts; and beside a refusal no block is confirmed.
+fn credit_line(case: &Case, who: &Who) -> Option<(CreditAnswer, CreditAnswer)> {
+    if case.number("agrees") == 0 {
+        return None;
+    }
+    let (exchange, due) = (exchange_of(case), credit_due(case));
+    let confirmed = who.confirmed(exchange);
+    let refusal_alike = match due.refusal {
+        25 => [0, 13, 14].contains(&confirmed.refusal),
+        26 => confirmed.refusal == 0,
+        refusal => confirmed.refusal == refusal,
+    };
+    assert!(refusal_alike, "{case}: {} confirms {confirmed:?}", who.name());
+    let is_right =
+        confirmed.refusal == 0 || confirmed == ConfirmedAnswer::refused(confirmed.refusal);
+    assert!(is_right, "{case}: {} confirms {confirmed:?}", who.name());
+    Some((who.credit(exchange, case.account(BEFORE)), due))
+}
+
+/// A size, by the credit of one block: in configuration 1 the window of 2 has 5 and 6, which
+/// is a special subframe.
+fn size_line(case: &Case, who: &Who) -> (CreditAnswer, CreditAnswer) {
+    let special = case.number("special") == 1;
+    let size = (case.number("I_TBS"), case.number("N_PRB"));
+    let grant = Sent::grant(1, 0, 1, [size, (0, 0)]);
+    let (at, resource) = if special { (1, 21) } else { (0, 10) };
+    let mut sent = SentWindow::NOTHING;
+    sent.at[at] = grant;
+    let settings = Settings::plain(1, 50, 10, 0, 1);
+    let exchange = Exchange { settings, n: 2, sent, resource, b0: 1, b1: 0 };
+    let account = Account::new(1_000_000);
+    let octets: u32 = case.wide("octets");
+    let (refusal, bits): (u16, u32) = (case.number("refusal"), case.wide("size"));
+    assert_eq!(bits, 8 * octets, "{case}: octets are size / 8");
+    let account_due = Account { octets: octets.into(), charged: octets.into(), ..account };
+    let due = match refusal {
+        0 => CreditAnswer::of(octets, account_due),
+        refusal => CreditAnswer::refused(refusal, account),
+    };
+    (who.credit(exchange, account), due)
+}
+
+/// The answers of the credits of a line, each with its number from 0.
+type Credits = Vec<(usize, CreditAnswer)>;
+
+/// An account alone, and the same through windows that credit so many octets; where there is
+/// no such window, the account goes on as the line says. An account without octets is also
+/// opened.
+fn account_line(case: &Case, who: &Who, windows: &Windows) -> (Credits, Credits) {
+    let before = case.account(BEFORE);
+    let credits: Vec<u32> = case.wide_numbers("credits");
+    let results: Vec<u64> = case.wide_numbers("results");
+    assert_eq!(results.len(), 4 * credits.len(), "{case}: a result for each credit");
+    if before == Account::new(before.price) {
+        let refusal = if before.price > 1_000_000 { 25 } else { 0 };
+        let opened = who.open_account(before.price);
+        assert_eq!(opened, Opened { refusal, account: before }, "{case}: {} opens", who.name());
+    }
+    let (mut given, mut due) = (Vec::new(), Vec::new());
+    let mut account = before;
+    for (at, (octets, result)) in credits.into_iter().zip(results.chunks(4)).enumerate() {
+        let [refusal, total, charged, carry] = *result else { panic!("{case}: four numbers") };
+        let after = Account { octets: total, charged, price: before.price, carry: carry as u32 };
+        let octets_due = if refusal == 0 { octets } else { 0 };
+        let answer = CreditAnswer { refusal: refusal as u16, octets: octets_due, account: after };
+        let in_window = windows.crediting(octets).map(|exchange| who.credit(exchange, account));
+        for credited in [who.add(account, octets), in_window].into_iter().flatten() {
+            given.push((at, credited));
+            due.push((at, answer));
+        }
+        account = after;
+    }
+    (given, due)
+}
+
 #[test]
 fn u01_settings() {
     let text = include_str!("../data/u01-settings.csv");
@@ -699,4 +831,60 @@ fn u09_runs() {
     let text = include_str!("../data/u09-runs.csv");
     let tally = Tally::of("u09-runs.csv", text, |case, who| Some(mode_run_line(case, who, 7)));
     tally.finish(63, 0);
+}
+
+#[test]
+fn u10_sizes() {
+    let text = include_str!("../data/u10-sizes.csv");
+    let tally = Tally::of("u10-sizes.csv", text, |case, who| Some(size_line(case, who)));
+    tally.finish(1694, 0);
+}
+
+/// Left out are the lines whose told position is not that of the block that was sent.
+#[test]
+fn u10_credits() {
+    let text = include_str!("../data/u10-credits.csv");
+    Tally::of("u10-credits.csv", text, credit_line).finish(1630 - 649, 649);
+}
+
+/// Each line by itself, and each list with the account that the answers before left.
+#[test]
+fn u10_sequences() {
+    let text = include_str!("../data/u10-sequences.csv");
+    Tally::of("u10-sequences.csv", text, credit_line).finish(224, 0);
+    let model = Model::new();
+    let mut lists = 0;
+    for who in [Who::Engine, Who::Model(&model), Who::Plain] {
+        let mut account = Account::new(0);
+        for case in cases("u10-sequences.csv", text) {
+            if case.number("step") == 0 {
+                account = case.account(BEFORE);
+                lists += 1;
+            }
+            assert_eq!(account, case.account(BEFORE), "{case}: what the line before left");
+            let given = who.credit(exchange_of(&case), account);
+            assert_eq!(given, credit_due(&case), "{case}: {} gives the first", who.name());
+            account = given.account;
+        }
+    }
+    assert_eq!(lists, 3 * 14);
+}
+
+/// Credits are given as octets alone, for which there is no call. All are run by the model and
+/// the plain implementation; through the call all but those of one octet, which no block has,
+/// and seven of so many octets that no eight blocks have them together.
+#[test]
+fn u10_accounts() {
+    let text = include_str!("../data/u10-accounts.csv");
+    let model = Model::new();
+    let windows = Windows::new(&model);
+    let line = |case: &Case, who: &Who| Some(account_line(case, who, &windows));
+    Tally::of("u10-accounts.csv", text, line).finish(94, 0);
+    let cases = cases("u10-accounts.csv", text);
+    let credits = cases.iter().flat_map(|case| case.wide_numbers::<u32>("credits"));
+    let (with, without): (Vec<u32>, Vec<u32>) =
+        credits.partition(|octets| windows.crediting(*octets).is_some());
+    println!("{} credits have a window, {} have none", with.len(), without.len());
+    let of_one = without.iter().filter(|octets| **octets == 1).count();
+    assert_eq!((with.len(), of_one, without.len() - of_one), (667 - 110, 103, 7), "{without:?}");
 }

@@ -6,7 +6,7 @@ use std::slice;
 
 /// The positions with a special subframe, bit m for position m, by configuration and
 /// uplink subframe.
-const SPECIAL_POSITIONS: [[u16; 10]; 7] = special_positions();
+pub(super) const SPECIAL_POSITIONS: [[u16; 10]; 7] = special_positions();
 
 const fn special_positions() -> [[u16; 10]; 7] {
     let mut positions = [[0; 10]; 7];
@@ -139,7 +139,7 @@ fn check_told(settings: &Settings, n: u16, size: u16, told: u16) -> Result<(), u
 }
 
 /// What two bits say at a position of a window of `size` subframes.
-fn meaning(
+pub(super) fn meaning(
     settings: &Settings,
     size: u16,
     (position, cce): (u16, u16),
