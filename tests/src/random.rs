@@ -433,7 +433,8 @@ impl Random {
         }
         let named = self.below16(size);
         let Sent { signalled, blocks, cce, .. } = sent.at[usize::from(named)];
-        let cce = if self.once_in(16) { self.below16(cces) } else { cce };
+        let other_cce = signalled == 0 || self.once_in(16);
+        let cce = if other_cce { self.below16(cces) } else { cce };
         let resource = match (signalled, blocks) {
             _ if self.once_in(times) => self.any(),
             (0, 1..) => settings.scheduled,

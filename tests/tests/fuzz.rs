@@ -7,23 +7,23 @@
 //! a number, as many times more are made, from further seeds.
 
 use feedback_tests::compare::{
-    plain_feed, plain_record_of, plain_replay_on, plain_trace_write_on, Comparison, Lent,
-    LentTrace, Shown,
+    plain_confirmed_of, plain_credit_of, plain_feed, plain_record_of, plain_replay_on,
+    plain_trace_write_on, Comparison, Lent, LentTrace, Shown,
 };
 use feedback_tests::form::Form;
 use feedback_tests::guarded::BOTH;
 use feedback_tests::model::{edge, is_short, is_uplink, Model, NRB};
 use feedback_tests::plain::{
-    plain_answered, plain_change_mode, plain_inverse, plain_make, plain_reading, plain_resource,
-    plain_window,
+    plain_answered, plain_change_mode, plain_inverse, plain_make, plain_open_account,
+    plain_reading, plain_resource, plain_window,
 };
 use feedback_tests::random::Random;
 use feedback_tests::trace::{
     number_at, record_of, spelled_length, Trace, RECORDS_AT, SETTINGS_AT, WINDOW,
 };
 use feedback_tests::{
-    answered, change_mode, feed, inverse, make, reading, resource, window, Changed, Fed, Handset,
-    Heard, Settings, Slot, WriteAnswer, NOT_TOLD,
+    answered, change_mode, confirmed, credit, feed, inverse, make, open_account, reading, resource,
+    window, Account, Changed, Fed, Handset, Heard, Settings, Slot, WriteAnswer, NOT_TOLD,
 };
 use std::env;
 
@@ -41,6 +41,9 @@ const BIT_CLAIMS_CALLS: u64 = 1_024_000;
 const REPLAY_CALLS: u64 = 1_024_000;
 const RECORD_CALLS: u64 = 1_024_000;
 const WRITE_CALLS: u64 = 512_000;
+const CONFIRMED_CALLS: u64 = 1_024_000;
+const CREDIT_CALLS: u64 = 1_024_000;
+const OPEN_CALLS: u64 = 256_000;
 
 const _: () = assert!(
     WINDOW_CALLS
@@ -57,6 +60,9 @@ const _: () = assert!(
         + REPLAY_CALLS
         + RECORD_CALLS
         + WRITE_CALLS
+        + CONFIRMED_CALLS
+        + CREDIT_CALLS
+        + OPEN_CALLS
         >= 10_000_000
 );
 
@@ -707,4 +713,96 @@ fn writings_of_traces() {
     let refusals = [0, 1, 2, 3, 4, 5, 6, 9, 10, 11, 12, 17, 18, 19, 20, 21, 22, 23];
     comparison.finish_with(calls / 2 / SAMPLE * 2, &refusals, &[0, 1, 2]);
     assert!(done > 50_000 && bytes > 1_000_000);
+}
+
+/// What was sent in windows of all kinds and replies of all kinds, mostly allowed ones.
+#[test]
+fn confirmed_blocks() {
+    let model = Model::new();
+    let mut comparison = Comparison::with(&model);
+    let mut by_blocks = [0; 3];
+    let calls = fuzz(15, CONFIRMED_CALLS, |random, ask_model| {
+        let times = random.one_of(&[8, 100, 1000]);
+        let exchange = random.exchange(&model, times);
+        let (given, plain) = (confirmed(exchange), plain_confirmed_of(exchange));
+        assert!(
+            given == plain,
+            "feedback_confirmed({exchange:?}): the engine gives {given:?}, the plain \
+             implementation {plain:?}"
+        );
+        let blocks = given.first.count_ones() + given.second.count_ones();
+        by_blocks[blocks.min(2) as usize] += 1;
+        if ask_model {
+            comparison.confirmed(exchange);
+        }
+        1
+    });
+    assert_eq!(calls, CONFIRMED_CALLS * times());
+    let refusals = [0, 1, 2, 3, 4, 5, 6, 7, 10, 11, 12, 13, 14, 17, 18, 19, 20, 24];
+    comparison.finish_with(calls / SAMPLE, &refusals, &[]);
+    println!("none, one or more blocks confirmed: {by_blocks:?}");
+    assert!(by_blocks.iter().all(|number| *number > 100_000));
+}
+
+/// The same with accounts: one that goes on from credit to credit, or another, on the equation
+/// or off it.
+#[test]
+fn credits() {
+    let model = Model::new();
+    let mut comparison = Comparison::with(&model);
+    let (mut credited, mut several, mut at_the_end) = (0, 0, 0);
+    let mut account = Account::new(999_999);
+    let calls = fuzz(16, CREDIT_CALLS, |random, ask_model| {
+        let times = random.one_of(&[8, 100, 1000]);
+        let exchange = random.exchange(&model, times);
+        let lent = if random.once_in(4) { account } else { random.account(16) };
+        let (given, plain) = (credit(exchange, lent), plain_credit_of(exchange, lent));
+        assert!(
+            given == plain,
+            "feedback_credit({exchange:?}, {lent:?}): the engine gives {given:?}, the plain \
+             implementation {plain:?}"
+        );
+        credited += u64::from(given.octets > 0);
+        several += u64::from(given.octets > 9422);
+        at_the_end += u64::from(given.refusal == 26);
+        if ask_model {
+            comparison.credit(exchange, lent);
+        }
+        account = match given.refusal {
+            0 => given.account,
+            26 => random.account(1_000_000),
+            _ => account,
+        };
+        1
+    });
+    assert_eq!(calls, CREDIT_CALLS * times());
+    let refusals = [0, 1, 2, 3, 4, 5, 6, 7, 10, 11, 12, 13, 14, 17, 18, 19, 20, 24, 25, 26];
+    comparison.finish_with(calls / SAMPLE, &refusals, &[]);
+    println!("{credited} credits, {several} of more than one block, {at_the_end} at the end");
+    assert!(credited > 200_000 && several > 10_000 && at_the_end > 10_000);
+}
+
+#[test]
+fn new_accounts() {
+    let model = Model::new();
+    let mut comparison = Comparison::with(&model);
+    let calls = fuzz(17, OPEN_CALLS, |random, ask_model| {
+        let price = match random.below(4) {
+            0 => random.number() as u32,
+            1 => (random.number() >> 32) as u32 >> random.below(20),
+            _ => 999_990 + random.below(20) as u32,
+        };
+        let (given, plain) = (open_account(price), plain_open_account(price));
+        assert!(
+            given == plain,
+            "feedback_open_account({price}): the engine gives {given:?}, the plain \
+             implementation {plain:?}"
+        );
+        if ask_model {
+            comparison.open_account(price);
+        }
+        1
+    });
+    assert_eq!(calls, OPEN_CALLS * times());
+    comparison.finish_with(calls / SAMPLE, &[0, 25], &[]);
 }

@@ -3,10 +3,11 @@
 use feedback_tests::form::Form;
 use feedback_tests::trace::Trace;
 use feedback_tests::{
-    answered, change_mode, claims, claims_bits, feed, inverse, layout_5, make, reading, record,
-    replay, resource, trace_write, window, AnsweredAnswer, Block, Changed, ClaimsAnswer, Fed,
-    Grant, Handset, Heard, InverseAnswer, Made, ReadingAnswer, RecordAnswer, Release, ReplayAnswer,
-    ResourceAnswer, Settings, Slot, WindowAnswer, WriteAnswer, NOT_TOLD,
+    answered, change_mode, claims, claims_bits, confirmed, credit, feed, inverse, layout_5, make,
+    open_account, reading, record, replay, resource, trace_write, window, Account, AnsweredAnswer,
+    Block, Changed, ClaimsAnswer, ConfirmedAnswer, CreditAnswer, Exchange, Fed, Grant, Handset,
+    Heard, InverseAnswer, Made, Opened, ReadingAnswer, RecordAnswer, Release, ReplayAnswer,
+    ResourceAnswer, Sent, SentWindow, Settings, Slot, WindowAnswer, WriteAnswer, NOT_TOLD,
 };
 use std::mem::{align_of, offset_of, size_of};
 
@@ -146,6 +147,133 @@ fn a_write_answer_is_four_16_bit_numbers() {
     assert_eq!(offset_of!(WriteAnswer, kind), 2);
     assert_eq!(offset_of!(WriteAnswer, record), 4);
     assert_eq!(offset_of!(WriteAnswer, bytes), 6);
+}
+
+#[test]
+fn a_sent_entry_is_eight_16_bit_numbers() {
+    assert_eq!((size_of::<Sent>(), align_of::<Sent>()), (16, 2));
+    assert_eq!(offset_of!(Sent, signalled), 0);
+    assert_eq!(offset_of!(Sent, blocks), 2);
+    assert_eq!(offset_of!(Sent, cce), 4);
+    assert_eq!(offset_of!(Sent, dai), 6);
+    assert_eq!(offset_of!(Sent, itbs0), 8);
+    assert_eq!(offset_of!(Sent, nprb0), 10);
+    assert_eq!(offset_of!(Sent, itbs1), 12);
+    assert_eq!(offset_of!(Sent, nprb1), 14);
+
+    assert_eq!((size_of::<SentWindow>(), align_of::<SentWindow>()), (144, 2));
+    assert_eq!(offset_of!(SentWindow, at), 0);
+}
+
+#[test]
+fn an_account_is_24_bytes() {
+    assert_eq!((size_of::<Account>(), align_of::<Account>()), (24, 8));
+    assert_eq!(offset_of!(Account, octets), 0);
+    assert_eq!(offset_of!(Account, charged), 8);
+    assert_eq!(offset_of!(Account, price), 16);
+    assert_eq!(offset_of!(Account, carry), 20);
+}
+
+#[test]
+fn answers_with_an_account_have_it_last() {
+    assert_eq!((size_of::<Opened>(), align_of::<Opened>()), (32, 8));
+    assert_eq!(offset_of!(Opened, refusal), 0);
+    assert_eq!(offset_of!(Opened, account), 8);
+
+    assert_eq!((size_of::<CreditAnswer>(), align_of::<CreditAnswer>()), (32, 8));
+    assert_eq!(offset_of!(CreditAnswer, refusal), 0);
+    assert_eq!(offset_of!(CreditAnswer, octets), 4);
+    assert_eq!(offset_of!(CreditAnswer, account), 8);
+}
+
+#[test]
+fn a_confirmed_answer_is_three_16_bit_numbers() {
+    assert_eq!((size_of::<ConfirmedAnswer>(), align_of::<ConfirmedAnswer>()), (6, 2));
+    assert_eq!(offset_of!(ConfirmedAnswer, refusal), 0);
+    assert_eq!(offset_of!(ConfirmedAnswer, first), 2);
+    assert_eq!(offset_of!(ConfirmedAnswer, second), 4);
+}
+
+/// What is sent in the window of nine: at each position a grant of two blocks, each number with
+/// a value of its own. The DAIs go on 1, 2, 3, 4, 1 in time, and the last position in time is 6,
+/// where first CCE 126 lies in the fourth region: (9 − 6 − 1) × 97 + 6 × 134 + 126 above N1.
+fn nine() -> Exchange {
+    let settings = Settings::plain(5, 110, 2000, 0, 2);
+    let mut sent = SentWindow::NOTHING;
+    let in_time = [0, 1, 7, 2, 3, 4, 8, 5, 6];
+    for (j, m) in (0..).zip(in_time) {
+        let sizes = [(10 + m, 100 + m), (m, 1 + m)];
+        sent.at[usize::from(m)] = Sent::grant(2, 120 + m, j % 4 + 1, sizes);
+    }
+    Exchange { settings, n: 2, sent, resource: 2000 + 2 * 97 + 6 * 134 + 126, b0: 1, b1: 1 }
+}
+
+/// Of a window of nine that passes in memory every field arrives in its place: at each position
+/// a number out of its range is refused by the cause that is its own.
+#[test]
+fn every_number_of_a_sent_window_arrives() {
+    let good = nine();
+    assert_eq!(confirmed(good), ConfirmedAnswer::of(1 << 6, 1 << 6));
+    for m in 0..9 {
+        let with = |change: &dyn Fn(&mut Sent)| {
+            let mut exchange = good;
+            change(&mut exchange.sent.at[m]);
+            (confirmed(exchange).refusal, credit(exchange, Account::new(1)).refusal)
+        };
+        assert_eq!(with(&|sent| sent.signalled = 0), (18, 18), "{m}");
+        assert_eq!(with(&|sent| sent.signalled = 256), (0, 0), "{m}");
+        assert_eq!(with(&|sent| sent.blocks = 258), (10, 10), "{m}");
+        assert_eq!(with(&|sent| sent.cce = 134), (11, 11), "{m}");
+        assert_eq!(with(&|sent| sent.dai = 257), (12, 12), "{m}");
+        assert_eq!(with(&|sent| sent.itbs0 = 27), (0, 25), "{m}");
+        assert_eq!(with(&|sent| sent.nprb0 = 256), (0, 25), "{m}");
+        assert_eq!(with(&|sent| sent.itbs1 = 256), (0, 25), "{m}");
+        assert_eq!(with(&|sent| sent.nprb1 = 0), (0, 25), "{m}");
+    }
+}
+
+/// The other arguments arrive in their places too, and every field of the answers comes back,
+/// each with a value of its own. At position 6 the first block, of I_TBS 16 and N_PRB 106, has
+/// 34,008 bits, and the second, of 6 and 7, has 712.
+#[test]
+fn every_field_of_a_credit_comes_back() {
+    let exchange = nine();
+    let account =
+        Account { octets: 5_000_000_000, charged: 4_999_995_000, price: 999_999, carry: 0 };
+    let first: u32 = 34_008 / 8;
+    let second: u32 = 712 / 8;
+    let after = |octets: u32| {
+        let total = 5_000_000_000 + u64::from(octets);
+        let product = total * 999_999;
+        let (charged, carry) = (product / 1_000_000, (product % 1_000_000) as u32);
+        CreditAnswer {
+            refusal: 0,
+            octets,
+            account: Account { octets: total, charged, price: 999_999, carry },
+        }
+    };
+    assert_eq!(credit(exchange, account), after(first + second));
+    assert_eq!(credit(Exchange { b1: 0, ..exchange }, account), after(first));
+    assert_eq!(credit(Exchange { b0: 0, ..exchange }, account), after(second));
+    assert_eq!(credit(Exchange { b0: 0, b1: 0, ..exchange }, account), after(0));
+    let refused = |refusal| CreditAnswer { refusal, octets: 0, account };
+    assert_eq!(credit(Exchange { n: 258, ..exchange }, account), refused(7));
+    assert_eq!(credit(Exchange { resource: 65535, ..exchange }, account), refused(13));
+    assert_eq!(credit(Exchange { b0: 257, ..exchange }, account), refused(14));
+    assert_eq!(credit(Exchange { b1: 65535, ..exchange }, account), refused(14));
+    let mut fewer = exchange;
+    fewer.sent.at[0].blocks = 1;
+    (fewer.b0, fewer.resource) = (0, 2000 + 8 * 97 + 120);
+    // Position 0 is the first in time, and has one block: by bit 1 it is confirmed.
+    let first_only = ConfirmedAnswer { refusal: 0, first: 1, second: 0 };
+    assert_eq!(confirmed(fewer), first_only);
+    let second_only = ConfirmedAnswer { refusal: 0, first: 0, second: 1 << 6 };
+    assert_eq!(confirmed(Exchange { b0: 0, ..exchange }), second_only);
+    let opened = open_account(0x000f_4240);
+    let new = Account { octets: 0, charged: 0, price: 1_000_000, carry: 0 };
+    assert_eq!(opened, Opened { refusal: 0, account: new });
+    let too_dear = Account { price: 0xf4f3_f2f1, ..new };
+    assert_eq!(open_account(0xf4f3_f2f1), Opened { refusal: 25, account: too_dear });
 }
 
 /// Every field of these three answers, each with a value of its own. In configuration 1
@@ -332,6 +460,14 @@ fn every_number_of_the_settings_arrives() {
         (19, Settings { special: 9, ..good }),
         (24, Settings { ports: 3, ..good }),
     ];
+    let exchange = |settings| Exchange {
+        settings,
+        n: 2,
+        sent: SentWindow::NOTHING,
+        resource: 2000,
+        b0: 1,
+        b1: 0,
+    };
     for (number, settings) in refused.into_iter().chain([(0, good)]) {
         let refusals = [
             window(settings, 2).refusal,
@@ -342,8 +478,10 @@ fn every_number_of_the_settings_arrives() {
             claims(settings, 2, &[0], &mut [0; 500]).refusal,
             claims_bits(settings, 2, &[0], &mut [0; 62]).refusal,
             make(settings).refusal,
+            confirmed(exchange(settings)).refusal,
+            credit(exchange(settings), Account::new(0)).refusal,
         ];
-        assert_eq!(refusals, [number; 8], "{settings:?}");
+        assert_eq!(refusals, [number; 10], "{settings:?}");
     }
 }
 

@@ -1,13 +1,15 @@
-//! Every refusal number, 1 to 24, from every call that can give it. What is due
+//! Every refusal number, 1 to 26, from every call that can give it. What is due
 //! is written out by hand; the model has no part here.
 
 use feedback_tests::form::FORMS;
 use feedback_tests::trace::{put_number, Trace, LENGTH_AT, SETTINGS_AT};
 use feedback_tests::{
-    answered, change_mode, feed_grant, feed_nothing, feed_release, feed_scheduled, inverse, make,
-    reading, record, replay, resource, trace_write, window, AnsweredAnswer, Block, Changed,
-    ClaimsAnswer, Fed, Grant, Handset, InverseAnswer, Made, ReadingAnswer, RecordAnswer, Release,
-    ReplayAnswer, ResourceAnswer, Settings, Slot, WindowAnswer, WriteAnswer, NONE, NOT_TOLD,
+    answered, change_mode, confirmed, credit, feed_grant, feed_nothing, feed_release,
+    feed_scheduled, inverse, make, open_account, reading, record, replay, resource, trace_write,
+    window, Account, AnsweredAnswer, Block, Changed, ClaimsAnswer, ConfirmedAnswer, CreditAnswer,
+    Exchange, Fed, Grant, Handset, InverseAnswer, Made, Opened, ReadingAnswer, RecordAnswer,
+    Release, ReplayAnswer, ResourceAnswer, Sent, SentWindow, Settings, Slot, WindowAnswer,
+    WriteAnswer, NONE, NOT_TOLD,
 };
 use std::fmt::Debug;
 
@@ -25,6 +27,24 @@ const RELEASE: Release = Release { cce: 0, dai: 1 };
 
 /// Prefix and special configuration of special subframes too short for data.
 const SHORT: [(u16, u16); 4] = [(0, 0), (0, 5), (1, 0), (1, 4)];
+
+/// What is sent in the window of n = 2 and a reply: at position 0 a grant of one block with
+/// first CCE 0, whose resource is 10, an ACK for it.
+const EXCHANGE: Exchange = Exchange {
+    settings: CELL,
+    n: 2,
+    sent: sent(Sent::grant(1, 0, 1, [(26, 110), (65535, 65535)]), Sent::NOTHING),
+    resource: 10,
+    b0: 1,
+    b1: 0,
+};
+
+/// What is sent in a window of two; what is behind it is not looked at.
+const fn sent(first: Sent, second: Sent) -> SentWindow {
+    let mut at = [Sent::grant(65535, 65535, 65535, [(65535, 65535), (65535, 65535)]); 9];
+    (at[0], at[1]) = (first, second);
+    SentWindow { at }
+}
 
 /// The same cell with two ports.
 const TWO_PORTS: Settings = CELL.with_ports(2);
@@ -62,7 +82,7 @@ const REFUSED: [(u16, Settings); 28] = [
 ];
 
 /// Counts the refusals that came as they were due.
-struct Count([u64; 25]);
+struct Count([u64; 27]);
 
 impl Count {
     fn due<T: Debug + PartialEq>(&mut self, number: u16, given: T, due: T) {
@@ -161,6 +181,28 @@ impl Count {
         }
     }
 
+    /// Nothing is confirmed.
+    fn confirmed(&mut self, number: u16, exchange: Exchange) {
+        self.due(number, confirmed(exchange), ConfirmedAnswer::refused(number));
+    }
+
+    /// Nothing is credited, and the account is left as it was.
+    fn credit(&mut self, number: u16, exchange: Exchange, account: Account) {
+        self.due(number, credit(exchange, account), CreditAnswer::refused(number, account));
+    }
+
+    /// Both calls on what was sent and a reply.
+    fn exchange(&mut self, number: u16, exchange: Exchange) {
+        self.confirmed(number, exchange);
+        self.credit(number, exchange, Account::new(1));
+    }
+
+    /// Beside the refusal stands the account that is refused.
+    fn open_account(&mut self, number: u16, price: u32) {
+        let account = Account { octets: 0, charged: 0, price, carry: 0 };
+        self.due(number, open_account(price), Opened { refusal: number, account });
+    }
+
     fn record(&mut self, number: u16, trace: &[u8], next: usize) {
         self.due(number, record(trace, next), RecordAnswer::refused(number));
     }
@@ -180,7 +222,7 @@ impl Count {
 
 #[test]
 fn every_number_occurs() {
-    let mut count = Count([0; 25]);
+    let mut count = Count([0; 27]);
     let fresh = make(CELL).handset;
     assert_eq!(fresh, Handset::fresh(CELL));
 
@@ -192,6 +234,7 @@ fn every_number_occurs() {
         count.reading(number, settings, 2, (10, 0, 0));
         count.claims(number, settings, 2, &[0], [122, 16]);
         count.make(number, settings);
+        count.exchange(number, Exchange { settings, ..EXCHANGE });
         count.bad_state(Handset { settings, ..fresh });
     }
 
@@ -201,6 +244,7 @@ fn every_number_occurs() {
         count.inverse(7, CELL, n, 10);
         count.reading(7, CELL, n, (10, 0, 0));
         count.claims(7, CELL, n, &[0], [122, 16]);
+        count.exchange(7, Exchange { n, ..EXCHANGE });
     }
 
     for uplink in [2, 3, 7, 8, 10, 257, 65535] {
@@ -289,12 +333,15 @@ fn every_number_occurs() {
 
     replays(&mut count);
     records_stopped_at(&mut count);
+    sent_and_credited(&mut count);
 
     println!("refusals by number: {:?}", count.0);
-    let of_settings = |causes: u64| 8 * causes;
+    let of_settings = |causes: u64| 10 * causes;
     // A replay and a writing, and where a record is refused a writing with room too.
     let on_traces = |causes: u64| 2 * causes;
     let at_records = |causes: u64| 3 * causes;
+    // The confirmed blocks, and a credit.
+    let both = |causes: u64| 2 * causes;
     // Seven feeds and a mode change.
     let bad_states = |states: u64| 8 * states;
     let states = bad_states(28 + 9 * 7 + 4 + 3) + 1;
@@ -309,27 +356,153 @@ fn every_number_occurs() {
         of_settings(1) + on_traces(1) + 6 * 4 + 4,
         of_settings(1) + on_traces(1) + 3 + 1,
         of_settings(3) + on_traces(2),
-        5 * 6 + 7 + 1 + shorts + 6,
+        5 * 8 + 7 + 1 + shorts + 6,
         states + remembering + shorts * bad_states(3 * 2) + bad_states(13) + 2 * 13 + 3 + of_ports,
         2 + 4 + shorts * 3 + at_records(3),
-        2 + 3 + at_records(2),
-        3 + 2 + 5 + shorts * (2 + 2) + at_records(2) + 2,
-        2 + 2 + shorts * 2 + at_records(2),
-        8 + 2 + 4,
-        7 + 3 + 2,
+        2 + 3 + at_records(2) + both(4 * 2),
+        3 + 2 + 5 + shorts * (2 + 2) + at_records(2) + 2 + both(3 * 2),
+        2 + 2 + shorts * 2 + at_records(2) + both(4 * 2),
+        8 + 2 + 4 + 7 * 4 + both(4 + 1) + 3,
+        7 + 3 + 2 + both(4) + 3,
         (3 + 2) * 2,
         (3 + 3) * 2,
         of_settings(4) + on_traces(4),
-        3 + 4 + shorts * 2 + at_records(2) + 1,
+        3 + 4 + shorts * 2 + at_records(2) + 1 + both(3),
         of_settings(8) + on_traces(4),
-        shorts * (2 * 6 + 2 * 4) + at_records(shorts * 2),
+        shorts * (2 * 6 + 2 * 4) + at_records(shorts * 2) + both(shorts * 2),
         3 * 4,
         3 * 2 + 2,
         on_traces(2),
         of_settings(7) + 4 + 13,
+        7 * (4 + 1) + 3 * 2 + 7 * 2,
+        3 * 4,
     ];
     assert_eq!(count.0, counts);
     assert!(count.0[1..].iter().all(|number| *number > 0));
+}
+
+/// What was sent: in configuration 1 the window of 2 has 5 and 6, which is a special subframe.
+fn sent_and_credited(count: &mut Count) {
+    let sizes = [(26, 110), (65535, 65535)];
+    let grant = Sent::grant(1, 60, 4, sizes);
+    let block = Sent::block(1, sizes);
+    let release = Sent::release(60, 4);
+    let with =
+        |settings, first, second| Exchange { settings, sent: sent(first, second), ..EXCHANGE };
+    let good = [
+        (with(CELL, Sent::NOTHING, Sent::NOTHING), 0),
+        (with(CELL, grant, release), 0),
+        (with(SCHEDULED, block, grant), 0),
+        (with(SCHEDULED, release, block), 0),
+        (EXCHANGE, 1),
+    ];
+    for (exchange, first) in good {
+        let octets = 9422 * first;
+        assert_eq!(confirmed(exchange), ConfirmedAnswer::of(first, 0), "{exchange:?}");
+        let account = Account::with(1, octets.into());
+        let due = CreditAnswer::of(octets.into(), account);
+        assert_eq!(credit(exchange, Account::new(1)), due, "{exchange:?}");
+    }
+    // One cause after another is put right, and the next number is answered.
+    let bad_sizes = [(27, 111), (0, 0)];
+    let bad = Sent::grant(2, 61, 5, bad_sizes);
+    let (resource, b0) = (9, 2);
+    for (prefix, special) in SHORT {
+        let short = SCHEDULED.with_special(prefix, special);
+        let exchange = Exchange { resource, b0, ..with(short, bad, bad) };
+        count.exchange(20, exchange);
+        count
+            .exchange(20, Exchange { resource, b0, ..with(short, bad, Sent::block(2, bad_sizes)) });
+        assert_eq!(confirmed(with(short, grant, release)).refusal, 0, "{short:?}");
+    }
+    for blocks in [2, 3, 257, 65535] {
+        count.exchange(10, Exchange { resource, b0, ..with(CELL, bad, Sent { blocks, ..bad }) });
+        count.exchange(10, Exchange { resource, b0, ..with(CELL, Sent { blocks, ..block }, bad) });
+    }
+    let bad = Sent { blocks: 1, ..bad };
+    for cce in [61, 256, 65535] {
+        count.exchange(11, Exchange { resource, b0, ..with(CELL, block, Sent { cce, ..bad }) });
+        count.exchange(
+            11,
+            Exchange { resource, b0, ..with(CELL, Sent { blocks: 0, cce, ..bad }, bad) },
+        );
+    }
+    let bad = Sent { cce: 60, ..bad };
+    for dai in [0, 5, 257, 65535] {
+        count.exchange(12, Exchange { resource, b0, ..with(CELL, block, Sent { dai, ..bad }) });
+        count.exchange(
+            12,
+            Exchange { resource, b0, ..with(CELL, Sent { blocks: 0, dai, ..bad }, bad) },
+        );
+    }
+    let bad = Sent { dai: 4, ..bad };
+    let bad_block = Sent::block(1, bad_sizes);
+    count.exchange(18, Exchange { resource, b0, ..with(CELL, bad_block, bad) });
+    count.exchange(18, Exchange { resource, b0, ..with(CELL, release, bad_block) });
+    count.exchange(18, Exchange { resource, b0, ..with(SCHEDULED, bad_block, bad_block) });
+
+    // Of sizes the call for confirmed blocks says nothing, and answers 13.
+    let account = Account::new(1);
+    let sized = |itbs0, nprb0| Sent { itbs0, nprb0, ..grant };
+    for (itbs, nprb) in [(27, 110), (255, 1), (65535, 1), (26, 0), (26, 111), (0, 256), (0, 65535)]
+    {
+        for exchange in [
+            with(CELL, sized(itbs, nprb), grant),
+            with(CELL, grant, sized(itbs, nprb)),
+            with(SCHEDULED, Sent { itbs0: itbs, nprb0: nprb, ..block }, grant),
+            with(SCHEDULED, grant, Sent { itbs0: itbs, nprb0: nprb, ..block }),
+        ] {
+            let exchange = Exchange { resource: 132, b0, ..exchange };
+            count.credit(25, exchange, account);
+            count.confirmed(13, exchange);
+        }
+        let two = Sent { blocks: 2, itbs1: itbs, nprb1: nprb, ..grant };
+        count.credit(25, with(Settings { blocks: 2, ..CELL }, release, two), account);
+    }
+    for price in [1_000_001, 1_048_576, u32::MAX] {
+        count.open_account(25, price);
+        count.credit(25, EXCHANGE, Account::new(price));
+    }
+    let half = Account { octets: 3, charged: 1, price: 500_000, carry: 500_000 };
+    assert_eq!(credit(EXCHANGE, half).refusal, 0);
+    for account in [
+        Account { octets: 4, ..half },
+        Account { charged: 0, ..half },
+        Account { charged: 0, carry: 1_500_000, ..half },
+        Account { charged: 1 << 58 | 1, ..half },
+        Account { price: 500_001, ..half },
+        Account { carry: 499_999, ..half },
+        Account { carry: 500_001, ..half },
+    ] {
+        count.credit(25, EXCHANGE, account);
+        count.credit(25, Exchange { resource: 132, b0, ..EXCHANGE }, account);
+    }
+
+    for resource in [0, 9, 132, 65535] {
+        count.exchange(13, Exchange { resource, b0, ..EXCHANGE });
+    }
+    count.exchange(13, Exchange { resource: 8, b0, ..with(SCHEDULED, block, grant) });
+    count.exchange(14, Exchange { b0, ..EXCHANGE });
+    count.exchange(14, Exchange { b1: 1, ..EXCHANGE });
+    count.exchange(14, Exchange { resource: 9, b0, ..with(SCHEDULED, block, grant) });
+    let multiplexing = Settings { mode: 1, ..CELL };
+    count.exchange(14, Exchange { b0: 0, ..with(multiplexing, grant, grant) });
+
+    // The end of an account: 1,000,000,000,000 octets.
+    let most = 1_000_000_000_000;
+    let (zero, ack) = (Exchange { b0: 0, ..EXCHANGE }, EXCHANGE);
+    for price in [0, 1, 1_000_000] {
+        let full = Account::with(price, most);
+        assert_eq!(credit(zero, full), CreditAnswer::of(0, full));
+        let up_to = Account::with(price, most - 9422);
+        assert_eq!(credit(ack, up_to), CreditAnswer::of(9422, full));
+        count.credit(26, ack, Account::with(price, most - 9421));
+        count.credit(26, ack, full);
+        count.credit(26, zero, Account::with(price, most + 1));
+        count.credit(26, ack, Account::with(price, u64::MAX));
+        count.credit(14, Exchange { b0: 2, ..ack }, full);
+        count.credit(13, Exchange { resource: 132, ..ack }, Account::with(price, u64::MAX));
+    }
 }
 
 /// What a replay refuses before any record, and the writing of a trace too. Of the

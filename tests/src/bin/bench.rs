@@ -7,23 +7,26 @@
 //! machine, and no figure fails.
 
 use feedback_tests::c::{
-    feedback_answered, feedback_change_mode, feedback_feed_grant, feedback_feed_nothing,
-    feedback_feed_release, feedback_feed_scheduled, feedback_inverse, feedback_make,
-    feedback_reading, feedback_replay, feedback_resource, feedback_trace_write, feedback_window,
+    feedback_answered, feedback_change_mode, feedback_confirmed, feedback_credit,
+    feedback_feed_grant, feedback_feed_nothing, feedback_feed_release, feedback_feed_scheduled,
+    feedback_inverse, feedback_make, feedback_open_account, feedback_reading, feedback_replay,
+    feedback_resource, feedback_trace_write, feedback_window,
 };
 use feedback_tests::compare::plain_feed;
 use feedback_tests::every;
 use feedback_tests::form::{Form, OnClaims};
 use feedback_tests::model::{bundles, edge, is_short, is_uplink, Model, Window};
 use feedback_tests::plain::{
-    plain_answered, plain_change_mode, plain_inverse, plain_make, plain_reading, plain_replay,
-    plain_resource, plain_trace_write, plain_window,
+    plain_answered, plain_change_mode, plain_confirmed, plain_credit, plain_inverse, plain_make,
+    plain_open_account, plain_reading, plain_replay, plain_resource, plain_trace_write,
+    plain_window,
 };
 use feedback_tests::random::Random;
 use feedback_tests::trace::{Trace, LONGEST, WINDOW};
 use feedback_tests::{
-    AnsweredAnswer, Block, Changed, Fed, Grant, Handset, Heard, ReadingAnswer, Release,
-    ReplayAnswer, ResourceAnswer, Settings, WindowAnswer, WriteAnswer, NOT_TOLD,
+    Account, AnsweredAnswer, Block, Changed, ConfirmedAnswer, CreditAnswer, Exchange, Fed, Grant,
+    Handset, Heard, Opened, ReadingAnswer, Release, ReplayAnswer, ResourceAnswer, Settings,
+    WindowAnswer, WriteAnswer, NOT_TOLD,
 };
 use std::hint::black_box;
 use std::time::Instant;
@@ -96,6 +99,10 @@ release. A mode change checks the whole state too; it is to the other mode, of t
 of such runs, and in a run of its own it comes before one subframe in eleven. Handsets with
 two ports bundle; a claim of theirs has two resources, and the lists are of claims two apart.
 
+Blocks are confirmed and credited in windows of all sizes, in which grants, releases and
+scheduled blocks were sent, and the reply is for something that was; a credit of nothing is for
+something that was not, or a NACK. The accounts have some octets and any price.
+
 The traces are of configuration 2 with two blocks and a schedule, with grants, scheduled
 blocks, releases and nothing in the downlink, and good to the end. In plain Rust a
 replay keeps no state: it checks the settings once and looks back into the trace. A
@@ -116,6 +123,7 @@ Rust that check makes no reply.
     writings(&model, &mut Random::new(4));
     mode_changes(&model, &mut Random::new(5));
     two_ports(&model, &mut Random::new(6));
+    charging(&model, &mut Random::new(7));
 }
 
 fn numbers(model: &Model, random: &mut Random) {
@@ -429,6 +437,57 @@ fn two_ports(model: &Model, random: &mut Random) {
         claims_row(&format!("{name}, list of 10"), form, &cells);
         claims_row(&format!("{name}, list of 600"), form, &hundreds);
         claims_row(&format!("{name}, list of 100,000, of which 603 differ"), form, &many);
+    }
+}
+
+/// A window, its reply, and the account that it is credited to.
+struct Credit {
+    exchange: Exchange,
+    account: Account,
+}
+
+fn charging(model: &Model, random: &mut Random) {
+    let bundled = |exchange: &Exchange| {
+        let window = model.window(exchange.settings.config, exchange.n).expect("a window");
+        bundles(exchange.settings, window.size())
+    };
+    let of = |random: &mut Random, fits: &dyn Fn(&Exchange, u32) -> bool| -> Vec<Credit> {
+        (0..INPUTS / 2).map(|_| allowed_credit(model, random, fits)).collect()
+    };
+    let in_bundled = of(random, &|exchange, octets| octets > 0 && bundled(exchange));
+    let in_multiplexed = of(random, &|exchange, octets| octets > 0 && !bundled(exchange));
+    let of_nothing = of(random, &|_, octets| octets == 0);
+    let all = [
+        ("bundled window", &in_bundled),
+        ("multiplexed window", &in_multiplexed),
+        ("nothing", &of_nothing),
+    ];
+    for (name, inputs) in all {
+        let name = format!("confirmed blocks, {name}");
+        row(&name, inputs, inputs.len(), engine_confirmed, plain_rust_confirmed);
+    }
+    for (name, inputs) in all {
+        let name = format!("credit, {name}");
+        row(&name, inputs, inputs.len(), engine_credit, plain_rust_credit);
+    }
+    row("a new account", &in_bundled, in_bundled.len(), engine_open, plain_rust_open);
+}
+
+/// A credit that is not refused.
+fn allowed_credit(
+    model: &Model,
+    random: &mut Random,
+    fits: &dyn Fn(&Exchange, u32) -> bool,
+) -> Credit {
+    const HARDLY_EVER: usize = 1_000_000;
+    loop {
+        let exchange = random.exchange(model, HARDLY_EVER);
+        let price = random.below(1_000_001) as u32;
+        let account = Account::with(price, random.below(1_000_000_000) as u64);
+        let answer = model.credit(&exchange, account);
+        if answer.refusal == 0 && fits(&exchange, answer.octets) {
+            return Credit { exchange, account };
+        }
     }
 }
 
@@ -793,4 +852,50 @@ fn last_bytes(answer: WriteAnswer, output: &[u8]) -> u64 {
     let written = &black_box(output)[..answer.bytes.into()];
     let last = written.last_chunk().map_or(0, |last| u32::from_le_bytes(*last));
     u64::from(answer.kind) << 48 | u64::from(answer.bytes) << 32 | u64::from(last)
+}
+
+fn engine_confirmed(input: &Credit) -> u64 {
+    let Exchange { settings, n, sent, resource, b0, b1 } = input.exchange;
+    // SAFETY: the call takes numbers and gives numbers, and is lent no memory.
+    blocks(unsafe { feedback_confirmed(settings, n, sent, resource, b0, b1) })
+}
+
+fn plain_rust_confirmed(input: &Credit) -> u64 {
+    let Exchange { settings, n, sent, resource, b0, b1 } = input.exchange;
+    blocks(plain_confirmed(settings, n, sent, resource, b0, b1))
+}
+
+fn blocks(answer: ConfirmedAnswer) -> u64 {
+    u64::from(answer.refusal) << 32 | u64::from(answer.first) << 16 | u64::from(answer.second)
+}
+
+fn engine_credit(input: &Credit) -> u64 {
+    let Exchange { settings, n, sent, resource, b0, b1 } = input.exchange;
+    // SAFETY: the call takes numbers and gives numbers, and is lent no memory.
+    charged(unsafe { feedback_credit(settings, n, sent, resource, b0, b1, input.account) })
+}
+
+fn plain_rust_credit(input: &Credit) -> u64 {
+    let Exchange { settings, n, sent, resource, b0, b1 } = input.exchange;
+    charged(plain_credit(settings, n, sent, resource, b0, b1, input.account))
+}
+
+fn charged(answer: CreditAnswer) -> u64 {
+    let answer = black_box(&answer);
+    let Account { charged, carry, .. } = answer.account;
+    u64::from(answer.octets) << 40 ^ u64::from(carry) << 20 ^ charged
+}
+
+fn engine_open(input: &Credit) -> u64 {
+    // SAFETY: the call takes a number and gives numbers, and is lent no memory.
+    price(unsafe { feedback_open_account(input.account.price) })
+}
+
+fn plain_rust_open(input: &Credit) -> u64 {
+    price(plain_open_account(input.account.price))
+}
+
+fn price(opened: Opened) -> u64 {
+    let opened = black_box(&opened);
+    u64::from(opened.refusal) << 32 | u64::from(opened.account.price)
 }
