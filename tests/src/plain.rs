@@ -1,8 +1,8 @@
 //! The calls as one would write them in plain Rust with speed in mind: table
 //! lookup, the formula, a loop over the regions, a closed form for the inverse,
 //! one pass over a window, a match for the symbols, a replay that looks back into the
-//! trace, records that are spelled by a mask, positions of a window as sets of bits. The benchmark measures the engine against
-//! these, and the fuzzing compares with them.
+//! trace, records that are spelled by a mask, positions of a window as sets of bits. The
+//! benchmark measures the engine against these, and the fuzzing compares with them.
 
 mod charging;
 mod handset;

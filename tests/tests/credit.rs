@@ -163,7 +163,10 @@ fn every_size_is_credited() {
         for special in [false, true] {
             let column = if special { (3 * nprb / 4).max(1) } else { nprb };
             let size = rows[usize::from(itbs)][usize::from(column) - 1];
-            assert!(size % 8 == 0 && (16..=75_376).contains(&size), "{itbs}, {nprb}: {size}");
+            assert!(
+                size.is_multiple_of(8) && (16..=75_376).contains(&size),
+                "{itbs}, {nprb}: {size}"
+            );
             let other = rows[26][if special { 81 } else { 109 }] / 8;
             sizes.push(size);
             for (mode, is_block, second) in [
@@ -262,7 +265,7 @@ fn every_pattern_of_nine_with_a_release() {
     // none is: one of the five is the release, and it is not counted. A limit of five is wrong
     // also where the release is lost behind them.
     let among: u64 = 5 * (4..9).map(|i| choose(i, 4) << (8 - i)).sum::<u64>();
-    let behind: u64 = (4..8).map(|i| choose(i, 4) * (8 - i) << (7 - i)).sum();
+    let behind: u64 = (4..8).map(|i| (choose(i, 4) * (8 - i)) << (7 - i)).sum();
     assert_eq!(found.of_wrong("releases not counted"), (2 * among, among));
     assert_eq!(found.of_wrong("five for four"), (2 * (among + behind), among + behind));
     let (otherwise, unsound) = found.of_wrong("three for four");
@@ -329,12 +332,13 @@ fn every_pattern_of_nine_with_two_blocks() {
             };
         }
         let at: usize = failing.next().expect("a position");
-        for failed in [(true, true), (false, true), (true, false)] {
+        for (first_decoded, second_decoded) in [(true, true), (false, true), (true, false)] {
             let mut pattern = pattern.clone();
             if let Fate::Heard { blocks, first, second } = &mut pattern[at] {
-                // A sole block that fails fails by its first result.
-                (*first, *second) = (failed.0 && (*blocks == 2 || failed.1), failed.1);
-                *second &= *blocks == 2;
+                (*first, *second) = match blocks {
+                    1 => (first_decoded && second_decoded, false),
+                    _ => (first_decoded, second_decoded),
+                };
             }
             let outcome = cell.run(&pattern);
             found.patterns += 1;

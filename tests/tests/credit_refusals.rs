@@ -32,9 +32,8 @@ type Cause = (u16, fn(&mut Call));
 /// The last position in time at which a PDCCH is sent.
 fn named(model: &Model, exchange: &Exchange) -> usize {
     let window = model.window(exchange.settings.config, exchange.n).expect("a window");
-    let pdcchs =
-        window.in_time().into_iter().filter(|m| exchange.sent.at[usize::from(*m)].signalled != 0);
-    pdcchs.last().expect("a PDCCH").into()
+    let is_pdcch = |m: &u16| exchange.sent.at[usize::from(*m)].signalled != 0;
+    window.in_time().into_iter().rfind(is_pdcch).expect("a PDCCH").into()
 }
 
 /// A call that is not refused and credits something: a grant at every position, of as many
@@ -298,10 +297,13 @@ fn every_cause_at_every_position() {
     assert_eq!(comparison.refused(20), 2 * 2 * specials);
 }
 
+/// A change at one position.
+type Change = Box<dyn Fn(&mut Sent)>;
+
 /// Changes at one position that make it meet a cause. The second block of one that has one only
 /// is not looked at.
-fn at_position(blocks: u16) -> Vec<(u16, Box<dyn Fn(&mut Sent)>)> {
-    let mut all: Vec<(u16, Box<dyn Fn(&mut Sent)>)> = Vec::new();
+fn at_position(blocks: u16) -> Vec<(u16, Change)> {
+    let mut all: Vec<(u16, Change)> = Vec::new();
     for number in [blocks + 1, 255, 256, 257, 258, 65535] {
         all.push((10, Box::new(move |sent| sent.blocks = number)));
     }
@@ -329,6 +331,9 @@ fn at_position(blocks: u16) -> Vec<(u16, Box<dyn Fn(&mut Sent)>)> {
     all
 }
 
+/// A change at one position that makes it meet a cause, and the cause.
+type CauseAt = (u16, fn(&mut Sent));
+
 /// Two causes at two positions: the lower rank is answered, at whichever position it is.
 #[test]
 fn the_lowest_rank_of_all_positions() {
@@ -337,7 +342,7 @@ fn the_lowest_rank_of_all_positions() {
     let mut compared = 0;
     let window = model.window(5, 2).expect("a window");
     let good = good(&model, window, 0, 2);
-    let causes: [(u16, fn(&mut Sent)); 6] = [
+    let causes: [CauseAt; 6] = [
         (10, |sent| sent.blocks = 3),
         (11, |sent| sent.cce = 65535),
         (12, |sent| sent.dai = 0),

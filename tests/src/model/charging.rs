@@ -144,7 +144,7 @@ impl Model {
         let SizeTable(sizes) = &self.sizes;
         let three_quarters = |column: &u16| 4 * column <= 3 * nprb;
         let column = match special {
-            true => (2..=110).filter(three_quarters).last().unwrap_or(1),
+            true => (2..=110).rfind(three_quarters).unwrap_or(1),
             false => nprb,
         };
         sizes[&(itbs, column)]
