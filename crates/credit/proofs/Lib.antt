@@ -1,3 +1,4 @@
+pub mod Answers
 pub mod Crediting
 pub mod Exactly
 pub mod Lists

@@ -14,15 +14,15 @@ use Rattle.station.specs.declared.Place.{Place}
 use Rattle.station.specs.declared.Place.the-variants as place
 use Rattle.station.specs.declared.Reading.{Reading}
 use Rattle.station.specs.declared.Reading.the-variants as reading
-use Rattle.station.specs.Readings.{readOf}
 use Rattle.confirmation.specs.declared.Send.{Send}
 use Rattle.confirmation.specs.Confirmed.{sentUpTo, confirmed}
 use Rattle.confirmation.specs.Exactly.{WasSent, MultiplexedConfirmed}
-use Rattle.confirmation.specs.Sent.{isPdcch, blocksOf, toldOf}
+use Rattle.confirmation.specs.Sent.{isPdcch, blocksOf}
 use Rattle.confirming.specs.declared.Sent.{Sent}
 use Rattle.confirming.specs.declared.SentWindow.{SentWindow}
 use Rattle.confirming.specs.Blocks.{readingRefusal}
-use Rattle.confirming.specs.Records.{recordAt, sentIn}
+use Rattle.confirming.specs.Exactly.{replyRead}
+use Rattle.confirming.specs.Records.{recordAt}
 use Rattle.confirming.specs.Refusals.{callRefusal}
 use Rattle.account.specs.declared.Account.{Account}
 use Rattle.account.specs.Credits.{Answer}
@@ -80,12 +80,12 @@ pub record CreditAnswers (s : Settings) (n : ℕ) (w : SentWindow) (r b0 b1 : �
       → (creditOf s n w r b0 b1 a .refusal ≡ 25) ↔ (SizeOut (length (windowOf (s .config) n)) w ⊎ (InOrder a → ⊥))
   -- then the reading's own, 13 and 14
   pub reply : callRefusal s n w ≡ 0 → (SizeOut (length (windowOf (s .config) n)) w → ⊥) → InOrder a
-      → (readingRefusal (readOf s n (toldOf (windowOf (s .config) n) (sentIn (windowOf (s .config) n) w)) r b0 b1) ≡ 0 → ⊥)
-      → creditOf s n w r b0 b1 a .refusal ≡ readingRefusal (readOf s n (toldOf (windowOf (s .config) n) (sentIn (windowOf (s .config) n) w)) r b0 b1)
+      → (readingRefusal (replyRead s n w r b0 b1) ≡ 0 → ⊥)
+      → creditOf s n w r b0 b1 a .refusal ≡ readingRefusal (replyRead s n w r b0 b1)
   -- "26, after 25, a total that would pass 1,000,000,000,000 octets", where the reading answers; else the credit
   pub total : callRefusal s n w ≡ 0 → (SizeOut (length (windowOf (s .config) n)) w → ⊥) → InOrder a
-      → readingRefusal (readOf s n (toldOf (windowOf (s .config) n) (sentIn (windowOf (s .config) n) w)) r b0 b1) ≡ 0
-      → let octets : ℕ = creditedOctets (s .config) n w (readOf s n (toldOf (windowOf (s .config) n) (sentIn (windowOf (s .config) n) w)) r b0 b1) in
+      → readingRefusal (replyRead s n w r b0 b1) ≡ 0
+      → let octets : ℕ = creditedOctets (s .config) n w (replyRead s n w r b0 b1) in
       ((creditOf s n w r b0 b1 a .refusal ≡ 26) ↔ (1000000000000 < a .octets + octets))
       × (a .octets + octets ≤ 1000000000000
       → (creditOf s n w r b0 b1 a .refusal ≡ 0) × (creditOf s n w r b0 b1 a .octets ≡ octets) × Grown a octets (creditOf s n w r b0 b1 a .account))
