@@ -1,8 +1,13 @@
+pub mod Answers
 pub mod Checking
 pub mod Confirming
 pub mod Counting
+pub mod Exactly
 pub mod Looking
 pub mod Naming
+pub mod Ranks
 pub mod Records
 pub mod Saying
+pub mod Second
 pub mod Sets
+pub mod Worked

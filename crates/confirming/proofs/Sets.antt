@@ -1,13 +1,15 @@
--- Sets of positions as numbers, filled from the last position down.
+-- Sets of positions as numbers, filled from the last position down, and the positions that a number says.
 -- Assumes nothing.
-use Prim.Native.Nat.{ℕ, zero, suc, _+_, _-_, _*_, _^_, _<_, _≤_}
+use Prim.Native.Nat.{ℕ, zero, suc, _+_, _-_, _*_, _/_, _%_, _^_, _<_, _≤_}
 use mathlib.Core.Bool.{Bool, true, false, cond}
-use mathlib.Core.Path.{_≡_, refl, sym, ap, _∙_}
-use native.Mathlib.Nat.{pow-le-pow-right}
+use mathlib.Core.Logic.{_↔_}
+use mathlib.Core.Path.{_≡_, refl, ap, _∙_}
+use native.Mathlib.Decide.{decLt}
+use native.Mathlib.Nat.{div-eq-of-lt, pow-le-pow-right}
 use lib.Dec.{lit<}
 use native.Mathlib.Omega.{arith}
 use Rattle.symbols.specs.Delivered.{setOf}
-use Rattle.symbols.proofs.Reading.{set-below}
+use Rattle.symbols.proofs.Reading.{set-below, set-bit}
 use Rattle.confirming.specs.Coded.{setFrom}
 
 -- Two sets of the same positions are the same number.
@@ -20,6 +22,17 @@ set-same (suc n) f g h =
 pub set-none : (n : ℕ) (f : ℕ → Bool) → ((p : ℕ) → f p ≡ false) → 0 ≡ setOf n f
 set-none zero f h = refl
 set-none (suc n) f h = rw (h 0, ← set-none n (λ (p : ℕ). f (suc p)) (λ p. h (suc p)))
+
+-- Bit p of the number is set exactly if p is a position, and in the set.
+pub set-exactly : (n : ℕ) (f : ℕ → Bool) (p : ℕ) → (setOf n f / 2 ^ p % 2 ≡ 1) ↔ ((p < n) × (f p ≡ true))
+set-exactly n f p = go (decLt p n)
+  where
+    go : Dec (p < n) → (setOf n f / 2 ^ p % 2 ≡ 1) ↔ ((p < n) × (f p ≡ true))
+    go (yes h) = (λ e. (h, set-bit n f p h .0 e), λ e. set-bit n f p h .1 (e .1))
+    go (no h) =
+        let most : 2 ^ n ≤ 2 ^ p = pow-le-pow-right (lit< tt) (omega arith) in
+        let none : setOf n f / 2 ^ p ≡ 0 = div-eq-of-lt (omega (arith, set-below n f, most)) in
+        (λ e. absurd (omega (arith, none, e)), λ e. absurd (h (e .0)))
 
 from-is : (m n : ℕ) (f : ℕ → Bool) → setFrom m n f ≡ setOf n (λ (p : ℕ). f (m + p))
 unfolding setFrom
