@@ -10,7 +10,7 @@ use native.Mathlib.Nat.{le-of-suc-le-suc}
 use native.Mathlib.Omega.{arith}
 use lib.Dec.{eqb, ltb}
 use lib.ListN.{length, getD, take, length-take, List·getD-eq-default}
-use borrow.Author.Tests.{ltb-true, ltb-false, lt-ltb, le-ltb}
+use borrow.Author.Tests.{ltb-true, lt-ltb, ne-eqb}
 use Rattle.frame.specs.declared.Settings.{Settings}
 use Rattle.frame.specs.Settings.{orElse, outside}
 use Rattle.frame.specs.Table.{windowOf}
@@ -22,7 +22,7 @@ use Rattle.confirming.specs.Blocks.{readingRefusal, confirmedOf}
 use Rattle.confirming.specs.Exactly.{replyRead}
 use Rattle.confirming.specs.Records.{nothingSent, recordAt}
 use Rattle.confirming.specs.Refusals.{callRefusal}
-use Rattle.confirming.proofs.Exactly.{blocks-confirmed}
+use Rattle.confirming.proofs.Answers.{blocks-confirmed}
 use Rattle.account.specs.declared.Account.{Account}
 use Rattle.account.specs.Account.{accountRefusal, addRefusal, addOf}
 use Rattle.account.specs.Laws.{InOrder, Grown}
@@ -162,7 +162,7 @@ module _ (s : Settings) (n : ℕ) (w : SentWindow) (r b0 b1 : ℕ) (a : Account)
       rw (b .reading none) at (b .left none)
 
   refused-reading : priorRefusal s n w a ≡ 0 → (k : ℕ) → readingRefusal read ≡ suc k → answer .refusal ≡ suc k
-  refused-reading e k is = ap (λ (c : Credited). c .refusal) (prior-free e ∙ rw is)
+  refused-reading e k is = rw (prior-free e, is)
 
   added-answer : priorRefusal s n w a ≡ 0 → readingRefusal read ≡ 0 → answer ≡ addedOf a (creditedOctets (s .config) n w read)
   added-answer e is = prior-free e ∙ rw is
@@ -203,8 +203,8 @@ module _ (s : Settings) (n : ℕ) (w : SentWindow) (r b0 b1 : ℕ) (a : Account)
       let added : answer ≡ addedOf a octets = added-answer (accepted none sizes account) is in (
         rw added (accounts .over a octets order),
         λ few.
-        let free : addRefusal a octets ≡ 0 = within a octets order few in
-        rw added (free, rw free, accounts .grown a octets free),
+            let free : addRefusal a octets ≡ 0 = within a octets order few in
+            rw added (free, rw free, accounts .grown a octets free),
       )
 
   leaves : (answer .refusal ≡ 0 → ⊥) → (answer .octets ≡ 0) × (answer .account ≡ a)
@@ -212,11 +212,7 @@ module _ (s : Settings) (n : ℕ) (w : SentWindow) (r b0 b1 : ℕ) (a : Account)
   leaves not = go (readingRefusal (creditReading s n w r b0 b1 a)) not
     where
       added : (octets : ℕ) → (addOf a octets .refusal ≡ 0 → ⊥) → (addedOf a octets .octets ≡ 0) × (addedOf a octets .account ≡ a)
-      added octets not = (test (addOf a octets .refusal) not, accounts .nothing a octets not)
-        where
-          test : (k : ℕ) → (k ≡ 0 → ⊥) → cond (eqb k 0) octets 0 ≡ 0
-          test zero not = absurd (not refl)
-          test (suc k) not = refl
+      added octets not = (rw (ne-eqb (addOf a octets .refusal) 0 not), accounts .nothing a octets not)
 
       go : (k : ℕ) → (refusedOr k a (addedOf a (creditedOctets (s .config) n w (creditReading s n w r b0 b1 a))) .refusal ≡ 0 → ⊥)
           → (refusedOr k a (addedOf a (creditedOctets (s .config) n w (creditReading s n w r b0 b1 a))) .octets ≡ 0)
