@@ -1,7 +1,4 @@
 -- `feedback::feedback_credit` meets its contract. Assumes nothing.
-use Prim.Native.Nat.{ℕ}
-use mathlib.Core.Path.{ap, _∙_}
-use Rattle.credit.specs.Credit.{creditOf}
 use borrow.Author.Needs.{needs}
 use Rattle.feedback.proofs.feedback_credit.Statement.{statement}
 use Rattle.feedback.proofs.feedback_credit.Tie as tie
@@ -13,7 +10,7 @@ credit-requires : tie.Need-credit-requires
 credit-requires c κs = search needs
 
 returns : tie.Need-returns
-returns c = c .credit .ensures ∙ ap (λ (r : ℕ). creditOf _ _ _ r _ _ _) (c .before .new .ensures)
+returns c = rw (c .before .new .ensures) at (c .credit .ensures)
 
 pub feedback-credit-spec : {M : Type 1} → statement M
 feedback-credit-spec = tie.close (tie.spec new-requires credit-requires returns)
