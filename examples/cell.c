@@ -1,8 +1,9 @@
 /*
- * A worked cell: a station that sends grants, scheduled blocks and releases and reads the replies,
- * a radio that loses some on the way to the handset, higher layers that change the mode, and a
- * check that sees both ends. A line for each window and each change; it fails if a block leaves the
- * station's retransmission buffer undecoded. Last comes a handset with two antenna ports.
+ * A worked cell: a station that sends grants, scheduled blocks and releases, reads the replies and
+ * bills a tenant for what they confirm, a radio that loses some on the way to the handset, higher
+ * layers that change the mode, and a check that sees both ends. A line for each window and each
+ * change; it fails if a block leaves the station's retransmission buffer undecoded, or if octets
+ * are billed that were not decoded. Last comes a handset with two antenna ports.
  *   cc -std=c11 -I include -o cell examples/cell.c target/staticlib/libfeedback.a
  *   ./cell 5 0 40 50 7   configuration 5, mode 0 (bundling), 40 frames, 50 % lost, seed 7
  */
@@ -46,39 +47,54 @@ static void accepted(uint16_t refusal)
 
 /* ==== The station. It knows what it sent and what it reads, and nothing of what was heard. ==== */
 
-/* What is sent in a subframe. A scheduled block has no CCE and no DAI, a release has no blocks. */
-struct sent {
-    uint16_t kind;             /* one of enum feedback_slot_kind */
-    uint16_t blocks, cce, dai; /* transport blocks carried; first CCE; DAI */
-};
+/* Smallest coins per million octets. */
+enum { PRICE = 2750 };
+
+/*
+ * The sizes of the blocks that the station sends: I_TBS and N_PRB, and the octets that these have
+ * in Table 7.1.7.2.1-1, in a downlink subframe and, by another column, in a special one. The
+ * octets are for the check: the station leaves them to feedback_credit.
+ */
+static const struct size {
+    uint16_t itbs, nprb, octets, octets_in_special;
+} sizes[] = {{6, 1, 41, 41}, {4, 6, 51, 32}, {13, 16, 517, 389}, {26, 50, 4587, 3422}};
 
 struct window {
-    struct feedback_window_answer table;    /* M, K and the time order of K */
-    struct sent sent[FEEDBACK_WINDOW_MOST]; /* by position */
-    uint16_t scheduled;                     /* the scheduled block's position, or FEEDBACK_NONE */
+    struct feedback_window_answer table; /* M, K and the time order of K */
+    struct feedback_sent_window sent;    /* what is sent, by position */
+    uint16_t scheduled;                  /* the scheduled block's position, or FEEDBACK_NONE */
     uint16_t mode; /* the mode that stood in its first subframe: it is answered and read in that */
     unsigned held; /* bit m: at position m a grant of the second handset was held back */
 };
 
 struct station {
     struct feedback_settings settings;
-    uint32_t random;
+    struct feedback_account account; /* the tenant's */
+    uint32_t random, random_sizes;
     struct window window[16]; /* the one answered in subframe s of the run is window[s % 16] */
 };
 
-static bool is_pdcch(struct sent sent)
+/* The kind of what was sent, one of enum feedback_slot_kind. */
+static unsigned kind_of(struct feedback_sent sent)
 {
-    return sent.kind == FEEDBACK_SLOT_GRANT || sent.kind == FEEDBACK_SLOT_RELEASE;
+    if (sent.signalled)
+        return sent.blocks > 0 ? FEEDBACK_SLOT_GRANT : FEEDBACK_SLOT_RELEASE;
+    return sent.blocks > 0 ? FEEDBACK_SLOT_SCHEDULED : FEEDBACK_SLOT_NOTHING;
+}
+
+/* Subframe 1, and 6 in the configurations that have two special subframes. */
+static bool is_special(struct feedback_settings settings, unsigned subframe)
+{
+    bool has_two = settings.config < 3 || settings.config == 6;
+    return subframe == 1 || (subframe == 6 && has_two);
 }
 
 /* Data is sent in every downlink subframe but a special one that is too short for it. */
 static bool takes_data(struct feedback_settings settings, unsigned subframe)
 {
-    bool has_two = settings.config < 3 || settings.config == 6;
-    bool special = subframe == 1 || (subframe == 6 && has_two);
     bool is_short = settings.special == 0 ||
                     settings.special == (settings.prefix == FEEDBACK_PREFIX_NORMAL ? 5 : 4);
-    return !(special && is_short);
+    return !(is_special(settings, subframe) && is_short);
 }
 
 /* Holds grants back until no two share a PUCCH resource. Bit m of the answer: one at position m. */
@@ -98,9 +114,9 @@ static unsigned hold_back(const struct station *station, uint16_t n, uint16_t *c
 
 /*
  * What is sent in the window answered in n, checked before any of it is sent. All is drawn by lot,
- * a scheduled block, which has no DAI and no claim, and releases too. There is a second handset, of
- * which only the grants count here. They come last in the list of claims, so it is they that are
- * held back. A PDCCH has four CCEs; with 50 resource blocks there are 61.
+ * a scheduled block, which has no DAI and no claim, releases and the sizes of blocks too. There is
+ * a second handset, of which only the grants count here. They come last in the list of claims, so
+ * it is they that are held back. A PDCCH has four CCEs; with 50 resource blocks there are 61.
  */
 static struct window plan(struct station *station, uint16_t n)
 {
@@ -112,22 +128,23 @@ static struct window plan(struct station *station, uint16_t n)
     window.scheduled = due < window.table.size ? due : FEEDBACK_NONE;
     for (unsigned i = 0; i < window.table.size; i++) {
         unsigned m = window.table.order[i], lot = draw(&station->random, 8);
-        struct sent *sent = &window.sent[m];
+        struct feedback_sent *sent = &window.sent.at[m];
+        const struct size *a = &sizes[draw(&station->random_sizes, 4)];
+        const struct size *b = &sizes[draw(&station->random_sizes, 4)];
         uint16_t blocks = (uint16_t)(1 + draw(&station->random, 2));
         bool data = takes_data(station->settings, (n + 20u - window.table.k[m]) % 10);
         if (m == window.scheduled && !data)
             window.scheduled = FEEDBACK_NONE; /* none is sent in this window */
         if (m == window.scheduled)
-            *sent = (struct sent){.kind = FEEDBACK_SLOT_SCHEDULED, .blocks = blocks};
-        else if (lot < 5 && data)
-            *sent = (struct sent){.kind = FEEDBACK_SLOT_GRANT, .blocks = blocks};
-        else if (lot < 6)
-            *sent = (struct sent){.kind = FEEDBACK_SLOT_RELEASE};
-        if (!is_pdcch(*sent))
+            *sent = feedback_sent_scheduled(blocks, a->itbs, a->nprb, b->itbs, b->nprb);
+        if (m == window.scheduled || lot >= 6)
             continue; /* no PDCCH there */
-        sent->cce = (uint16_t)(4 * draw(&station->random, 16));
-        sent->dai = (uint16_t)(count % 4 + 1); /* count PDCCHs came before */
-        claims[count++] = FEEDBACK_CLAIM(m, sent->cce);
+        uint16_t cce = (uint16_t)(4 * draw(&station->random, 16));
+        uint16_t dai = (uint16_t)(count % 4 + 1); /* count PDCCHs came before */
+        *sent = lot < 5 && data ? feedback_sent_grant(blocks, cce, dai, a->itbs, a->nprb, b->itbs,
+                                                      b->nprb)
+                                : feedback_sent_release(cce, dai);
+        claims[count++] = FEEDBACK_CLAIM(m, cce);
     }
     for (unsigned m = 0; m < window.table.size; m++)
         if (draw(&station->random, 100) < 50)
@@ -137,78 +154,51 @@ static struct window plan(struct station *station, uint16_t n)
 }
 
 /* What the station sends in subframe s. A window is planned whole in its first subframe. */
-static struct sent send_in(struct station *station, unsigned s)
+static struct feedback_sent send_in(struct station *station, unsigned s)
 {
     struct feedback_answered_answer by = feedback_answered(station->settings, (uint16_t)(s % 10));
     if (by.refusal == FEEDBACK_REFUSED_SUBFRAME)
-        return (struct sent){0}; /* an uplink subframe */
+        return feedback_sent_nothing(); /* an uplink subframe */
     accepted(by.refusal);
     struct window *window = &station->window[(s + by.k) % 16];
     if (feedback_window(station->settings, by.n).order[0] == by.position)
         *window = plan(station, by.n);
-    return window->sent[by.position];
-}
-
-/* How many PDCCHs were sent in the window up to and with position m; time order is k falling. */
-static unsigned sent_up_to(const struct window *window, unsigned m)
-{
-    unsigned pdcchs = 0;
-    for (unsigned i = 0; i < window->table.size; i++)
-        pdcchs += window->table.k[i] >= window->table.k[m] && is_pdcch(window->sent[i]);
-    return pdcchs;
+    return window->sent.at[by.position];
 }
 
 /*
- * Whether block 0 or 1 at position m leaves the retransmission buffer: `confirmed` of
- * crates/confirmation/specs/Confirmed.antt. It is proved that each such block was decoded.
- * Nothing leaves where what the reading names was not sent. A bundled ACK speaks of what was
- * HEARD and names the last PDCCH of it. If at most four were sent up to and with that one,
- * releases counted, none of these was lost: the DAI would have shown it and the handset kept
- * silent. If more were sent, four or eight may be lost unnoticed, where the DAI comes round to the
- * same value; then the ACK is sure for the named one alone. No DAI counts a scheduled block, so it
- * may be lost unnoticed: the ACK is sure for it only where it is named itself, and then nothing
- * else was heard. A sole block counts for both bits, so either will do.
+ * What the station makes of a reply: its reading, the blocks that leave the retransmission buffer,
+ * and what the tenant pays for. It is proved that each of these blocks was decoded. A bundled ACK
+ * speaks of what was HEARD and names the last PDCCH of it. If at most four were sent up to and with
+ * that one, releases counted, none of these was lost: the DAI would have shown it and the handset
+ * kept silent. If more were sent, four or eight may be lost unnoticed, where the DAI comes round to
+ * the same value; then the ACK is sure for the named one alone. No DAI counts a scheduled block, so
+ * it may be lost unnoticed: the ACK is sure for it only where it is named itself, and then nothing
+ * else was heard. A sole block counts for both bits, so either will do for the buffer; it is paid
+ * for by the first.
  */
-static bool leaves(const struct window *window, struct feedback_reading_answer reading, unsigned m,
-                   unsigned block)
-{
-    const uint16_t named = reading.position, *k = window->table.k;
-    const struct sent *sent = window->sent;
-    bool was_sent = reading.scheduled ? named == window->scheduled
-                                      : is_pdcch(sent[named]) && sent[named].cce == reading.cce;
-    if (reading.refusal != 0 || !was_sent)
-        return false;
-    if (block >= sent[m].blocks)
-        return false; /* no such block */
-    if (reading.kind == FEEDBACK_KIND_MULTIPLEXED)
-        return reading.delivered >> m & 1;
-    if (m != named && (reading.scheduled || m == window->scheduled))
-        return false; /* a scheduled block goes by itself */
-    if (m != named && (k[m] < k[named] || sent_up_to(window, named) > 4))
-        return false; /* sent later, or not surely heard */
-    if (sent[m].blocks == 1)
-        return reading.b0 || reading.b1;
-    return block == 0 ? reading.b0 : reading.b1;
-}
-
-/* What the station makes of a reply: its reading, and the blocks that leave the buffer. */
 struct verdict {
     struct feedback_reading_answer reading;
-    unsigned left[2]; /* bit m of left[0]: the first block at position m; of left[1]: the second */
+    struct feedback_confirmed_answer confirmed;
+    struct feedback_credit_answer credit;
 };
 
-/* A reply in subframe s is read, in the mode of its window and told where a block was scheduled. */
-static struct verdict conclude(const struct station *station, unsigned s, uint16_t resource,
-                               uint16_t b0, uint16_t b1)
+/* A reply in subframe s is read, in the mode of its window, beside what was sent there. */
+static struct verdict conclude(struct station *station, unsigned s, uint16_t resource, uint16_t b0,
+                               uint16_t b1)
 {
     const struct window *window = &station->window[s % 16];
     struct feedback_settings settings = station->settings;
+    uint16_t n = (uint16_t)(s % 10);
     settings.mode = window->mode;
-    struct verdict verdict = {.reading = feedback_reading(settings, (uint16_t)(s % 10),
-                                                          window->scheduled, resource, b0, b1)};
+    struct verdict verdict = {
+        .reading = feedback_reading(settings, n, window->scheduled, resource, b0, b1),
+        .confirmed = feedback_confirmed(settings, n, window->sent, resource, b0, b1),
+        .credit = feedback_credit(settings, n, window->sent, resource, b0, b1, station->account)};
     accepted(verdict.reading.refusal);
-    for (unsigned i = 0; i < 2u * window->table.size; i++)
-        verdict.left[i % 2] |= (unsigned)leaves(window, verdict.reading, i / 2, i % 2) << i / 2;
+    accepted(verdict.confirmed.refusal);
+    accepted(verdict.credit.refusal);
+    station->account = verdict.credit.account;
     return verdict;
 }
 
@@ -222,7 +212,7 @@ struct radio {
 };
 
 /* The handset in subframe s: it takes what it hears, or says what it sends. */
-static struct feedback_fed receive_in(struct radio *radio, unsigned s, struct sent sent)
+static struct feedback_fed receive_in(struct radio *radio, unsigned s, struct feedback_sent sent)
 {
     char *marks = radio->marks[s % 16];
     bool lost = draw(&radio->random, 100) < radio->loss;
@@ -230,11 +220,11 @@ static struct feedback_fed receive_in(struct radio *radio, unsigned s, struct se
         bool failed = draw(&radio->random, 100) < 15;
         marks[i] = i >= sent.blocks ? '\0' : lost ? '?' : failed ? 'x' : '+';
     }
-    if (sent.kind == FEEDBACK_SLOT_RELEASE && lost)
+    if (kind_of(sent) == FEEDBACK_SLOT_RELEASE && lost)
         marks[0] = '?';
     uint16_t first = marks[0] == '+', second = marks[1] == '+';
     struct feedback_fed fed;
-    switch (lost ? FEEDBACK_SLOT_NOTHING : sent.kind) {
+    switch (lost ? FEEDBACK_SLOT_NOTHING : kind_of(sent)) {
     case FEEDBACK_SLOT_GRANT:
         fed = feedback_feed_grant(radio->handset, sent.blocks, first, second, sent.cce, sent.dai);
         break;
@@ -273,21 +263,51 @@ static const char *const acks[] = {"NACK NACK", "NACK ACK", "ACK NACK", "ACK ACK
 
 struct tally {
     unsigned sent, left, undecoded; /* blocks */
+    unsigned octets, overpaid;      /* billed by the answers; of these beyond what was decoded */
 };
 
-static void check(struct tally *tally, const struct window *window, const struct radio *radio,
+/* The octets of a block that was sent: its row of sizes has its I_TBS. */
+static unsigned octets_of(uint16_t itbs, bool special)
+{
+    const struct size *size = sizes;
+    while (size->itbs != itbs)
+        size++;
+    return special ? size->octets_in_special : size->octets;
+}
+
+/* The bill for a window has no more octets than the handset decoded in it. */
+static void check_bill(struct tally *tally, const struct station *station,
+                       const struct radio *radio, unsigned s, unsigned billed)
+{
+    const struct window *window = &station->window[s % 16];
+    unsigned decoded = 0;
+    for (unsigned m = 0; m < window->table.size; m++) {
+        unsigned at = s - window->table.k[m];
+        bool special = is_special(station->settings, at % 10);
+        const struct feedback_sent *sent = &window->sent.at[m];
+        if (radio->marks[at % 16][0] == '+')
+            decoded += octets_of(sent->itbs0, special);
+        if (radio->marks[at % 16][1] == '+')
+            decoded += octets_of(sent->itbs1, special);
+    }
+    tally->octets += billed;
+    tally->overpaid += billed > decoded ? billed - decoded : 0;
+}
+
+static void check(struct tally *tally, const struct station *station, const struct radio *radio,
                   unsigned s, struct feedback_fed fed, struct verdict verdict, int width)
 {
+    const struct window *window = &station->window[s % 16];
     static const char *const kinds[] = {"-", "", "s", "r"}; /* by enum feedback_slot_kind */
     const struct feedback_window_answer *table = &window->table;
     const struct feedback_reading_answer reading = verdict.reading;
     printf("%5u.%u |", s / 10, s % 10);
     for (unsigned i = 0; i < table->size; i++) {
         unsigned m = table->order[i], at = s - table->k[m];
-        const char *kind = kinds[window->sent[m].kind];
+        const char *kind = kinds[kind_of(window->sent.at[m])];
         width -= printf(" %u%c%s%-*s", at % 10, window->held >> m & 1 ? '!' : ':', kind,
                         *kind == '\0' ? 3 : 2, radio->marks[at % 16]);
-        tally->sent += window->sent[m].blocks;
+        tally->sent += window->sent.at[m].blocks;
     }
     if (fed.kind == FEEDBACK_KIND_SILENT) {
         printf("%*s| silent\n", width, "");
@@ -296,21 +316,34 @@ static void check(struct tally *tally, const struct window *window, const struct
     char name[12] = "block";
     if (!reading.scheduled)
         snprintf(name, sizeof name, "CCE %u", reading.cce);
-    printf("%*s| bits %u%u on %-3u | %u %-6s %-9s |", width, "", fed.b0, fed.b1, fed.resource,
+    printf("%*s| bits %u%u on %-3u | %u %-6s %-9s | %6u |", width, "", fed.b0, fed.b1, fed.resource,
            (s - table->k[reading.position]) % 10, name,
            reading.kind == FEEDBACK_KIND_BUNDLED ? acks[2 * reading.b0 + reading.b1]
            : reading.delivered != 0              ? "delivered"
-                                                 : "none");
+                                                 : "none",
+           (unsigned)verdict.credit.octets);
+    check_bill(tally, station, radio, s, verdict.credit.octets);
     for (unsigned i = 0; i < 2u * table->size; i++) {
         unsigned m = table->order[i / 2], at = s - table->k[m], block = i % 2;
         bool decoded = radio->marks[at % 16][block] == '+';
-        if (!(verdict.left[block] >> m & 1))
+        unsigned confirmed = block == 0 ? verdict.confirmed.first : verdict.confirmed.second;
+        if (!(confirmed >> m & 1))
             continue;
         printf(" %u%c%s", at % 10, "ab"[block], decoded ? "" : " UNDECODED");
         tally->left++;
         tally->undecoded += !decoded;
     }
     puts("");
+}
+
+/* The account at the end of a run: its octets are those of the answers, and they cost the price. */
+static bool put_bill(struct feedback_account account, const struct tally *tally)
+{
+    printf("%llu octets at %u per million: %llu charged, %u millionths carried on\n",
+           (unsigned long long)account.octets, (unsigned)account.price,
+           (unsigned long long)account.charged, (unsigned)account.carry);
+    return account.octets == tally->octets && tally->overpaid == 0 &&
+           account.octets * account.price == 1000000 * account.charged + account.carry;
 }
 
 /* One run, with 50 resource blocks, N1 10 and up to two blocks in a grant; the exit status. */
@@ -321,13 +354,19 @@ static int run(const uint16_t number[ARGUMENTS])
     if (number[SHORT])
         settings.special = 5; /* FEEDBACK_SETTINGS gives 7: special subframes carry data */
     struct feedback_made made = feedback_make(settings);
+    struct feedback_opened opened = feedback_open_account(PRICE);
     accepted(made.refusal);
-    struct station station = {.settings = settings, .random = number[SEED]};
+    accepted(opened.refusal);
+    struct station station = {.settings = settings,
+                              .account = opened.account,
+                              .random = number[SEED],
+                              .random_sizes = number[SEED]};
     struct radio radio = {.handset = made.handset, .random = ~station.random, .loss = number[LOSS]};
     struct tally tally = {0};
     int width = number[CONFIG] == 5 ? 55 : 25; /* of nine subframes, or four */
     printf("\nconfiguration %u, %s%s, %u frames, %u %% lost, seed %u%s\n"
-           "frame.n |%-*s| reply          | reading            | blocks that leave the buffer\n",
+           "frame.n |%-*s| reply          | reading            | octets | blocks that leave the "
+           "buffer\n",
            number[CONFIG], modes[number[MODE]], number[CHANGE] ? " at first" : "", number[FRAMES],
            number[LOSS], number[SEED], number[SHORT] ? ", no data in special subframes" : "",
            width, " subframes in time order");
@@ -341,11 +380,11 @@ static int run(const uint16_t number[ARGUMENTS])
             continue;
         if (fed.kind != FEEDBACK_KIND_SILENT) /* the reply comes in at the station */
             verdict = conclude(&station, s, fed.resource, fed.b0, fed.b1);
-        check(&tally, &station.window[s % 16], &radio, s, fed, verdict, width);
+        check(&tally, &station, &radio, s, fed, verdict, width);
     }
     printf("of %u blocks %u left the buffer, %u of them undecoded\n", tally.sent, tally.left,
            tally.undecoded);
-    return tally.undecoded != 0;
+    return !put_bill(station.account, &tally) || tally.undecoded != 0;
 }
 
 /* ==== Two antenna ports: a handset that replies on two resources, beside one with one port ==== */
@@ -443,7 +482,8 @@ int main(int argc, char **argv)
     puts("Blocks a and b of a subframe: + decoded, x heard but not decoded, ? lost; - none sent.\n"
          "s: they are scheduled, with no PDCCH. r: a release, which has no blocks; r? lost.\n"
          "! a grant of the second handset was held back: it would have shared the resource.\n"
-         "Reply: bits on a PUCCH resource. Reading: the PDCCH named, or the scheduled block.");
+         "Reply: bits on a PUCCH resource. Reading: the PDCCH named, or the scheduled block.\n"
+         "Octets: billed by this reply, of blocks that leave the buffer.");
     int status = 0;
     for (size_t i = 0; i < (argc > 1 ? 1 : sizeof runs / sizeof *runs); i++)
         status |= run(runs[i]);

@@ -3,17 +3,19 @@
  *
  * The handset end hears grants, scheduled blocks and releases and says what to
  * send on PUCCH. The station end reads what came in on PUCCH and says what is
- * acknowledged. The rules are those of 3GPP TS 36.213 version 9.3.0 (Release 9),
- * sections 7.3 and 10.1, and 7.1.7 for special subframes without data, for one
- * serving cell with dynamic grants and semi-persistent scheduling, and PUCCH formats
- * 1a, 1b and 1b with channel selection; for PUCCH on two antenna ports, those of a
- * later release, section 10.1.3. Link with libfeedback.a, which is built for
- * x86-64 with the System V calling convention. For C99 and C++98 and all later.
+ * acknowledged, and charges for it. The rules are those of 3GPP TS 36.213 version 9.3.0
+ * (Release 9), sections 7.3 and 10.1, and 7.1.7 for special subframes without data and
+ * for the sizes of transport blocks, for one serving cell with dynamic grants and
+ * semi-persistent scheduling, and PUCCH formats 1a, 1b and 1b with channel selection;
+ * for PUCCH on two antenna ports, those of a later release, section 10.1.3. Link with
+ * libfeedback.a, which is built for x86-64 with the System V calling convention. For C99
+ * and C++98 and all later.
  *
  *   calls of both ends      feedback_window, feedback_answered
  *   calls of the station    feedback_resource, feedback_inverse,
- *                           feedback_reading, feedback_claims,
- *                           feedback_claims_bits
+ *                           feedback_reading, feedback_confirmed,
+ *                           feedback_claims, feedback_claims_bits
+ *   calls of an account     feedback_open_account, feedback_credit
  *   calls of the handset    feedback_make, feedback_change_mode,
  *                           feedback_feed_nothing, feedback_feed_grant,
  *                           feedback_feed_scheduled, feedback_feed_release
@@ -21,8 +23,8 @@
  *   drive                   feedback_trace_write
  *
  * feedback_text.h has the refusals and the kinds as sentences for a log.
- * examples/cell.c runs both ends against each other, examples/replay.c replays a drive
- * and spells it.
+ * examples/cell.c runs both ends against each other and bills for what is confirmed,
+ * examples/replay.c replays a drive and spells it.
  *
  *
  * TERMS
@@ -115,6 +117,21 @@
  *             for the states of the M positions; the reply is sent on the resource
  *             of position i, which was always heard: that of its PDCCH or of its
  *             scheduled block. All D is silent.
+ * confirmed   a transport block that the station may take for heard and decoded by the
+ *             handset: see feedback_confirmed.
+ * I_TBS       the transport block size index of a transport block, 0 to 26.
+ * N_PRB       the resource blocks allocated to it, 1 to 110, whatever N_RB is.
+ * transport   the bits of a transport block, a multiple of 8 from 16 to 75376: in Table
+ * block size  7.1.7.2.1-1, which is for one layer, in row I_TBS and column N_PRB; in a
+ *             special subframe in column max(floor(0.75 * N_PRB), 1). Its octets are
+ *             size / 8.
+ * account     a tenant's, who pays for delivered octets: the octets credited, what is
+ *             charged for them in whole smallest coins, the price, and the carry.
+ * price       of an account, fixed: smallest coins per million octets, 0 to 1000000.
+ * carry       what is not charged yet, in millionths of a smallest coin, 0 to 999999:
+ *             octets * price = 1000000 * charged + carry.
+ * credited    a confirmed block whose octets are added to an account: see
+ *             feedback_credit.
  * trace       a recorded drive of one handset as a file: its settings, and for each
  *             subframe a record of what it brought. See TRACES.
  *
@@ -185,10 +202,11 @@
  *
  * Numbers are unsigned and 16 bits wide unless their type says otherwise. A call
  * may be given any numbers: it does its work, or it refuses and says why. C cuts
- * a wider number to 16 bits before the call sees it: hand over none above 65535.
+ * a wider number to 16 bits before the call sees it: hand over none above 65535, and
+ * no price above 4294967295.
  *
- * FEEDBACK_SETTINGS and FEEDBACK_CLAIM take numbers of any width: one that is too
- * wide becomes one that the call refuses.
+ * FEEDBACK_SETTINGS and FEEDBACK_CLAIM, and the functions that make a record of what was
+ * sent, take numbers of any width: one that is too wide becomes one that the call refuses.
  *
  * Answers come back by value. The calls keep nothing from one call to the next,
  * allocate nothing, and may be made from several threads at once. GCC, Clang and
@@ -198,16 +216,20 @@
  * STACK
  *
  * The most bytes of stack that a call takes, measured and rounded up, with what is
- * pushed to make it (the return address, and settings or a handset, which go in by
- * value) and without the answer, which lies where its caller puts it:
+ * pushed to make it (the return address, and settings, a handset, a sent window or an
+ * account, which go in by value) and without the answer, which lies where its caller
+ * puts it:
  *
  *             feedback_window         128
  *             feedback_answered       64
  *             feedback_resource       64
  *             feedback_inverse        64
  *             feedback_reading        512
+ *             feedback_confirmed      1024
  *             feedback_claims         128
  *             feedback_claims_bits    128
+ *             feedback_open_account   64
+ *             feedback_credit         14336
  *             feedback_make           128
  *             feedback_change_mode    512
  *             feedback_feed_nothing   1280
@@ -231,8 +253,8 @@
 #include <stdint.h>
 
 /* This header's version: major * 10000 + minor * 100 + patch, and the same as text. */
-#define FEEDBACK_VERSION 50000
-#define FEEDBACK_VERSION_TEXT "5.0.0"
+#define FEEDBACK_VERSION 50100
+#define FEEDBACK_VERSION_TEXT "5.1.0"
 
 #define FEEDBACK_WINDOW_MOST 9     /* the most subframes of a window: M in configuration 5 */
 #define FEEDBACK_MEMORY 13         /* the subframes that a handset remembers: the greatest k */
@@ -241,6 +263,13 @@
 #define FEEDBACK_BIT_SCRATCH_MOST 151 /* the most scratch that feedback_claims_bits needs, in
                                          bytes, with two ports: (9 * 134 + 8) / 8, rounded
                                          down */
+
+#define FEEDBACK_ITBS_MOST 26       /* the greatest I_TBS of a block */
+#define FEEDBACK_NPRB_MOST 110      /* the greatest N_PRB of a block */
+#define FEEDBACK_PRICE_MOST 1000000 /* the highest price: a smallest coin for each octet */
+#define FEEDBACK_OCTETS_MOST 1000000000000 /* the most octets of an account */
+#define FEEDBACK_OCTETS_OF_A_WINDOW_MOST 169596 /* no credit is of more octets, for no window
+                                                   carries more: 9 * 2 * 75376 / 8 */
 
 #define FEEDBACK_TRACE_HEADER 8     /* the bytes of a trace's header */
 #define FEEDBACK_TRACE_SETTINGS 10  /* the bytes of its settings */
@@ -277,15 +306,17 @@ extern "C" {
  * Why a call refuses: the value of refusal in every answer, 0 for no refusal. Each
  * call names the refusals it can give. Where several causes are met, the first in this
  * order is given:
- * 21, 22, 1 to 6, 17, 19, 24, 7, 8, 9, 20, 10, 11, 12, 18, 13, 14, 15, 16; 23 in
+ * 21, 22, 1 to 6, 17, 19, 24, 7, 8, 9, 20, 10, 11, 12, 18, 25, 13, 14, 26, 15, 16; 23 in
  * feedback_replay after 19 and before any record, in feedback_trace_write last of all.
+ * 26 is about what a reading credits, so it is met only where 13 and 14 are not.
  * A refused call changes nothing: no buffer is written, no state moves on, nothing is
- * made. Beside a refusal every other number of the answer is 0. There are four
- * exceptions: a feed and a change of mode give back the handset as it was; 16 comes with
- * an index; a replay that stops at a record has the kind FEEDBACK_REPLAY_STOPPED, leaves
- * the windows before it in the output, and tells how many they are and the record's
- * number; and where a record keeps a trace from being written, the kind is
- * FEEDBACK_WRITE_STOPPED, with the record's number.
+ * made or credited. Beside a refusal every other number of the answer is 0. There are six
+ * exceptions: a feed and a change of mode give back the handset as it was, and
+ * feedback_credit the account; feedback_open_account gives back the price that it refuses;
+ * 16 comes with an index; a replay that stops at a record has the kind
+ * FEEDBACK_REPLAY_STOPPED, leaves the windows before it in the output, and tells how many
+ * they are and the record's number; and where a record keeps a trace from being written,
+ * the kind is FEEDBACK_WRITE_STOPPED, with the record's number.
  */
 enum feedback_refusal {
     FEEDBACK_NOT_REFUSED = 0,
@@ -307,13 +338,20 @@ enum feedback_refusal {
                                            feedback_slot_kind */
     FEEDBACK_REFUSED_UPLINK = 9,        /* grant, scheduled block or release in an uplink
                                            subframe */
-    FEEDBACK_REFUSED_CARRIED = 10,      /* blocks carried 0 or over the setting */
-    FEEDBACK_REFUSED_CCE = 11,          /* first CCE not below N_4 (also position not below M, in
-                                           feedback_resource and told to feedback_reading) */
-    FEEDBACK_REFUSED_DAI = 12,          /* DAI not 1 to 4 */
+    FEEDBACK_REFUSED_CARRIED = 10,      /* blocks carried 0 or over the setting; in
+                                           feedback_confirmed and feedback_credit over the setting,
+                                           for 0 blocks are no grant there */
+    FEEDBACK_REFUSED_CCE = 11,          /* first CCE not below N_4, in feedback_confirmed and
+                                           feedback_credit of a PDCCH of the window (also position
+                                           not below M, in feedback_resource and told to
+                                           feedback_reading) */
+    FEEDBACK_REFUSED_DAI = 12,          /* DAI not 1 to 4, in feedback_confirmed and
+                                           feedback_credit of a PDCCH of the window */
     FEEDBACK_REFUSED_RESOURCE = 13,     /* resource below N1 or above N1 + M * N_4 - 1, with two
                                            ports as with one (but not the scheduled resource, in
-                                           feedback_reading where a scheduled position is told) */
+                                           feedback_reading where a scheduled position is told, in
+                                           feedback_confirmed and feedback_credit where a scheduled
+                                           block was sent) */
     FEEDBACK_REFUSED_BITS = 14,         /* bit over 1, second bit set in a one-bit reply, or a
                                            symbol in no row of Tables 10.1-2 to 10.1-4 */
     FEEDBACK_REFUSED_SCRATCH = 15,      /* scratch shorter than M * N_4 bytes, with two ports
@@ -323,13 +361,15 @@ enum feedback_refusal {
     FEEDBACK_REFUSED_CLAIM = 16,        /* claim with m not below M or CCE not below N_4 */
     FEEDBACK_REFUSED_SCHEDULED_RESOURCE = 17, /* scheduled resource set and not below N1 */
     FEEDBACK_REFUSED_SCHEDULED = 18,    /* scheduled block with no scheduled resource set, or a
-                                           second one heard in one window; in feedback_reading a
+                                           second one heard in one window, in feedback_confirmed
+                                           and feedback_credit sent in it; in feedback_reading a
                                            scheduled position told with no resource set */
     FEEDBACK_REFUSED_SPECIAL = 19,      /* prefix not 0 or 1, or special subframe configuration
                                            over 8 with the normal prefix, over 6 with the
                                            extended */
     FEEDBACK_REFUSED_SHORT = 20,        /* grant or scheduled block in a special subframe too
-                                           short for data; in feedback_reading a scheduled
+                                           short for data, fed or, in feedback_confirmed and
+                                           feedback_credit, sent; in feedback_reading a scheduled
                                            position told whose subframe is such a one */
     FEEDBACK_REFUSED_TRACE_LENGTH = 21, /* trace below eight bytes, or not of the length that its
                                            header names */
@@ -340,9 +380,14 @@ enum feedback_refusal {
                                            for each window that the records of the header
                                            complete, in feedback_trace_write under 18 bytes and
                                            four for each record */
-    FEEDBACK_REFUSED_PORTS = 24         /* ports not 1 or 2, or two ports with mode 1 or with a
+    FEEDBACK_REFUSED_PORTS = 24,        /* ports not 1 or 2, or two ports with mode 1 or with a
                                            scheduled resource set; in feedback_change_mode two
                                            ports and the new mode 1, and nothing else */
+    FEEDBACK_REFUSED_SIZE_OR_ACCOUNT = 25, /* I_TBS over 26 or N_PRB not 1 to 110, of a block sent
+                                           in the window; price over 1000000; account with a carry
+                                           not below 1000000, or whose octets * price is not
+                                           1000000 * charged + carry */
+    FEEDBACK_REFUSED_TOTAL = 26         /* the account would have more than 1000000000000 octets */
 };
 
 /* The kind of a feed's answer, and of a reading (there 0, 1 or 2). */
@@ -421,7 +466,8 @@ enum feedback_slot_results {
  * feedback_resource, feedback_claims and feedback_claims_bits ask besides for ports, and
  * answer alike for all that have the same number of them: with two the first gives the
  * second resource too, and the others take each claim to have two resources.
- * feedback_reading asks no more of ports: it is told the first port's resource.
+ * feedback_reading, feedback_confirmed and feedback_credit ask no more of ports: they are
+ * told the first port's resource.
  *
  * FEEDBACK_SETTINGS, below, fills the first five, sets scheduled to FEEDBACK_NONE,
  * prefix to 0, special to 7, with which special subframes carry data, and ports to 1.
@@ -499,6 +545,77 @@ struct feedback_reading_answer {
                            else 0 */
     uint16_t scheduled; /* 1 if the reply is read as the scheduled block; 0 if as a PDCCH, or
                            refused */
+};
+
+/*
+ * What a station sent to a handset in one subframe. 16 bytes. Any numbers are one of these:
+ *
+ *             signalled   blocks
+ *             not 0       above 0   a grant
+ *             not 0       0         a release
+ *             0           above 0   a scheduled block
+ *             0           0         nothing
+ *
+ * Fields that it does not have are not looked at: a scheduled block has no cce and no dai,
+ * a release no sizes, nothing neither of them, and only a second block has itbs1 and nprb1.
+ * feedback_sent_grant, feedback_sent_scheduled, feedback_sent_release and
+ * feedback_sent_nothing, below, make a record.
+ */
+struct feedback_sent {
+    uint16_t signalled; /* not 0 if a PDCCH was sent */
+    uint16_t blocks;    /* transport blocks carried, 0 to the setting's */
+    uint16_t cce;       /* grant, release: its first CCE, 0 to N_4 - 1 */
+    uint16_t dai;       /* grant, release: its DAI, 1 to 4 */
+    uint16_t itbs0;     /* I_TBS of the first block, or of the only one, 0 to 26 */
+    uint16_t nprb0;     /* its N_PRB, 1 to 110 */
+    uint16_t itbs1;     /* I_TBS of the second block, 0 to 26 */
+    uint16_t nprb1;     /* its N_PRB, 1 to 110 */
+};
+
+/*
+ * What a station sent to a handset in the window of n, heard or not: at[m] is for position
+ * m, the subframe n - k_m. 144 bytes. The records from M on are not looked at. Where all
+ * bytes are 0, by { { { 0 } } } in C or by memset, nothing was sent.
+ */
+struct feedback_sent_window {
+    struct feedback_sent at[FEEDBACK_WINDOW_MOST];
+};
+
+/* The answer of feedback_confirmed. 6 bytes. */
+struct feedback_confirmed_answer {
+    uint16_t refusal; /* 0, or 1 to 7, 10 to 14, 17 to 20 or 24 */
+    uint16_t first;   /* bit p (value 1 << p) is 1 if the first block at position p, or the only
+                         one, is confirmed; 0 if refused */
+    uint16_t second;  /* bit p is 1 if the second block at position p is confirmed; 0 if refused */
+};
+
+/*
+ * An account. 24 bytes without padding.
+ *
+ * feedback_open_account makes one, feedback_credit takes one and gives back the next. It is
+ * plain bytes: it may be copied, stored, and given back later, on a machine of the same
+ * byte order. Any numbers may be given: what is off the equation, or beyond a bound, is
+ * refused 25 or 26. To change the price open another account.
+ */
+struct feedback_account {
+    uint64_t octets;  /* the octets credited, 0 to 1000000000000 */
+    uint64_t charged; /* what they cost, in smallest coins, rounded down */
+    uint32_t price;   /* smallest coins per million octets, 0 to 1000000 */
+    uint32_t carry;   /* what the rounding left, in millionths of a smallest coin, 0 to 999999 */
+};
+
+/* The answer of feedback_open_account. 32 bytes. */
+struct feedback_opened {
+    uint16_t refusal;                /* 0 or 25 */
+    struct feedback_account account; /* the new account; if refused, one with the price given and
+                                        zeros, for which feedback_credit refuses 25 */
+};
+
+/* The answer of feedback_credit. 32 bytes. */
+struct feedback_credit_answer {
+    uint16_t refusal; /* 0, or 1 to 7, 10 to 14, 17 to 20 or 24 to 26 */
+    uint32_t octets;  /* the octets that were credited by this call; 0 if refused */
+    struct feedback_account account; /* for the next call; if refused, the account as it was */
 };
 
 /* The answer of feedback_claims and of feedback_claims_bits. 16 bytes. */
@@ -721,9 +838,9 @@ struct feedback_inverse_answer feedback_inverse(struct feedback_settings setting
  * handset's reply): the station confirms nothing by it, at any position.
  *
  * So a scheduler may conclude this, from the window, what it sent there and the
- * reading alone. A block that it sent is confirmed if what the reading names was
- * sent, a PDCCH at that position with that first CCE or the scheduled block at that
- * position, and
+ * reading alone; feedback_confirmed does it. A block that it sent is confirmed if what
+ * the reading names was sent, a PDCCH at that position with that first CCE or the
+ * scheduled block at that position, and
  *
  *   bundled       read as a PDCCH: the block's grant is the one named, or was sent
  *                 before it where at most four PDCCHs of the window were sent up to
@@ -754,6 +871,110 @@ FEEDBACK_MUST_USE
 struct feedback_reading_answer feedback_reading(struct feedback_settings settings, uint16_t n,
                                                 uint16_t scheduled_position, uint16_t resource,
                                                 uint16_t b0, uint16_t b1);
+
+/*
+ * Which blocks of a window a reply confirms: those that may leave the retransmission
+ * buffer, by the rule at feedback_reading.
+ *
+ *   settings   the settings of the handset that replied. settings.mode is the mode of
+ *              THIS window, as for feedback_reading
+ *   n          the uplink subframe of the reply, 0 to 9, one with a window
+ *   sent       what was SENT to this handset in the window of n, heard or not, by
+ *              position, with at most one scheduled block. Its sizes are not looked at
+ *   resource   the PUCCH resource on which the reply came; of a handset with two ports
+ *              the first port's, the lower of the two
+ *   b0, b1     its bits, each 0 or 1; in a one-bit reply (bundled, settings.blocks 1)
+ *              b1 is 0
+ *
+ * The reply is read as feedback_reading reads it, told the position of the scheduled
+ * block in sent, or FEEDBACK_NONE where there is none. If what it is read as was not sent
+ * there, nothing is confirmed. Else these blocks are:
+ *
+ *   bundled, read as a PDCCH    of the PDCCH named, and, if at most four PDCCHs of the
+ *                               window, releases counted, were sent up to and with it in
+ *                               time order, of those before it too: the first block if b0
+ *                               is 1, the second if b1 is 1, an only one if either is
+ *   bundled, read as the        of that block alone: the first if b0 is 1, the second if
+ *   scheduled block             b1 is 1, an only one if either is
+ *   multiplexed                 every block sent at a delivered position
+ *
+ * It is proved that each confirmed block was heard and decoded by the handset, whatever
+ * was lost, where what the proof at feedback_reading needs holds:
+ * crates/confirming/specs/Blocks.antt has this call's answer, of the same rule. A window
+ * without a reply confirms nothing; there is nothing to call then.
+ *
+ * Refuses 1 to 6, 17, 19, 24, 7, 20, 10, 11, 12, 18, 13 and 14. 20, 10, 11, 12 and 18 are
+ * looked for in sent, each at all positions 0 to M - 1 before the next: 20 is a grant or
+ * scheduled block in a special subframe too short for data, 10 one with more blocks than
+ * the setting, 11 a first CCE and 12 a DAI of a PDCCH, 18 a scheduled block with no
+ * resource set, or two of them. That DAIs follow the rule above is not looked at. 13 and
+ * 14 are those of feedback_reading.
+ */
+FEEDBACK_MUST_USE
+struct feedback_confirmed_answer feedback_confirmed(struct feedback_settings settings, uint16_t n,
+                                                    struct feedback_sent_window sent,
+                                                    uint16_t resource, uint16_t b0, uint16_t b1);
+
+/*
+ * A new account, with nothing credited and nothing charged.
+ *
+ *   price      smallest coins per million octets, 0 to FEEDBACK_PRICE_MOST
+ *
+ * Refuses 25, a price over FEEDBACK_PRICE_MOST. The account beside it has that price and
+ * zeros, and feedback_credit refuses 25 for it.
+ */
+FEEDBACK_MUST_USE
+struct feedback_opened feedback_open_account(uint32_t price);
+
+/*
+ * The octets that a reply confirms, credited to an account and charged.
+ *
+ *   settings   the settings of the handset that replied. settings.mode is the mode of
+ *              THIS window, as for feedback_reading
+ *   n          the uplink subframe of the reply, 0 to 9, one with a window
+ *   sent       what was SENT to this handset in the window of n, heard or not, by
+ *              position, with at most one scheduled block and with the sizes of all
+ *              blocks
+ *   resource   the PUCCH resource on which the reply came; of a handset with two ports
+ *              the first port's, the lower of the two
+ *   b0, b1     its bits, each 0 or 1; in a one-bit reply (bundled, settings.blocks 1)
+ *              b1 is 0
+ *   account    the account that feedback_open_account, or the credit before, answered
+ *
+ * Of the blocks that feedback_confirmed gives, those are credited whose own bit is ACK:
+ * bundled, first blocks and only ones where b0 is 1, second ones where b1 is 1;
+ * multiplexed, all of them. So of a bundled reply with b0 0 and b1 1 an only block is
+ * confirmed and not credited. The octets of a block are its transport block size / 8. The
+ * answer's octets are those of all blocks credited; the account has so many more, and its
+ * charged and carry are those that its octets and its price give:
+ *
+ *   octets * price = 1000000 * charged + carry, with the carry below 1000000
+ *
+ * It is proved that this holds after any list of credits from a new account, refused ones
+ * among them, each with the account that the one before answered, and that the octets are
+ * then those of the list's credits that were not refused (crates/account/specs); and that
+ * each credited block was heard and decoded by the handset, whatever was lost, where what
+ * the proof at feedback_reading needs holds.
+ *
+ * Which replies were credited is for the caller to know: a reply that is given twice is
+ * charged twice. Credit each once, with the account that the credit before answered. One
+ * account may take the replies of several handsets.
+ *
+ * Refuses as feedback_confirmed, with 25 between 18 and 13 and with 26 after 14: 1 to 6,
+ * 17, 19, 24, 7, 20, 10, 11, 12, 18, 25, 13, 14 and 26. 25 is looked for in every block
+ * that was sent in the window, credited or not, and in the account: I_TBS over 26; N_PRB
+ * not 1 to 110, whatever settings.nrb is; a price over FEEDBACK_PRICE_MOST; a carry not
+ * below 1000000; octets * price not 1000000 * charged + carry, for which products are
+ * taken in full and not modulo 2^64. 26 is a total, with what would be credited, over
+ * FEEDBACK_OCTETS_MOST octets; an account that is beyond it already is refused so where 0
+ * octets are credited too. If refused, nothing is credited, and the account of the answer
+ * is the one given.
+ */
+FEEDBACK_MUST_USE
+struct feedback_credit_answer feedback_credit(struct feedback_settings settings, uint16_t n,
+                                              struct feedback_sent_window sent, uint16_t resource,
+                                              uint16_t b0, uint16_t b1,
+                                              struct feedback_account account);
 
 /*
  * Whether the PDCCHs answered in one uplink subframe keep out of each other's
@@ -1148,6 +1369,33 @@ FEEDBACK_PLACE(feedback_reading_answer, b0, 8)
 FEEDBACK_PLACE(feedback_reading_answer, b1, 10)
 FEEDBACK_PLACE(feedback_reading_answer, delivered, 12)
 FEEDBACK_PLACE(feedback_reading_answer, scheduled, 14)
+FEEDBACK_SIZE(feedback_sent, 16)
+FEEDBACK_PLACE(feedback_sent, signalled, 0)
+FEEDBACK_PLACE(feedback_sent, blocks, 2)
+FEEDBACK_PLACE(feedback_sent, cce, 4)
+FEEDBACK_PLACE(feedback_sent, dai, 6)
+FEEDBACK_PLACE(feedback_sent, itbs0, 8)
+FEEDBACK_PLACE(feedback_sent, nprb0, 10)
+FEEDBACK_PLACE(feedback_sent, itbs1, 12)
+FEEDBACK_PLACE(feedback_sent, nprb1, 14)
+FEEDBACK_SIZE(feedback_sent_window, 144)
+FEEDBACK_PLACE(feedback_sent_window, at, 0)
+FEEDBACK_SIZE(feedback_confirmed_answer, 6)
+FEEDBACK_PLACE(feedback_confirmed_answer, refusal, 0)
+FEEDBACK_PLACE(feedback_confirmed_answer, first, 2)
+FEEDBACK_PLACE(feedback_confirmed_answer, second, 4)
+FEEDBACK_SIZE(feedback_account, 24)
+FEEDBACK_PLACE(feedback_account, octets, 0)
+FEEDBACK_PLACE(feedback_account, charged, 8)
+FEEDBACK_PLACE(feedback_account, price, 16)
+FEEDBACK_PLACE(feedback_account, carry, 20)
+FEEDBACK_SIZE(feedback_opened, 32)
+FEEDBACK_PLACE(feedback_opened, refusal, 0)
+FEEDBACK_PLACE(feedback_opened, account, 8)
+FEEDBACK_SIZE(feedback_credit_answer, 32)
+FEEDBACK_PLACE(feedback_credit_answer, refusal, 0)
+FEEDBACK_PLACE(feedback_credit_answer, octets, 4)
+FEEDBACK_PLACE(feedback_credit_answer, account, 8)
 FEEDBACK_SIZE(feedback_claims_answer, 16)
 FEEDBACK_PLACE(feedback_claims_answer, refusal, 0)
 FEEDBACK_PLACE(feedback_claims_answer, kind, 2)
@@ -1245,6 +1493,53 @@ static inline struct feedback_settings feedback_settings_of(uint64_t config, uin
 static inline uint16_t feedback_claim_of(uint64_t position, uint64_t cce)
 {
     return position < 256u && cce < 256u ? (position * 256u + cce) & 65535u : 65535u;
+}
+
+/*
+ * A record of what was sent in a subframe. A number over 65535 becomes 65535, and so do 0
+ * blocks, with which there would be no grant and no scheduled block: feedback_confirmed and
+ * feedback_credit refuse that, an I_TBS or N_PRB only where they look at it. Of one block
+ * itbs1 and nprb1 may be 0.
+ */
+static inline struct feedback_sent feedback_sent_scheduled(uint64_t blocks, uint64_t itbs0,
+                                                           uint64_t nprb0, uint64_t itbs1,
+                                                           uint64_t nprb1)
+{
+    struct feedback_sent sent;
+    sent.signalled = 0;
+    sent.blocks = feedback_setting_of(blocks == 0 ? 65535u : blocks);
+    sent.cce = 0;
+    sent.dai = 0;
+    sent.itbs0 = feedback_setting_of(itbs0);
+    sent.nprb0 = feedback_setting_of(nprb0);
+    sent.itbs1 = feedback_setting_of(itbs1);
+    sent.nprb1 = feedback_setting_of(nprb1);
+    return sent;
+}
+
+static inline struct feedback_sent feedback_sent_grant(uint64_t blocks, uint64_t cce, uint64_t dai,
+                                                       uint64_t itbs0, uint64_t nprb0,
+                                                       uint64_t itbs1, uint64_t nprb1)
+{
+    struct feedback_sent sent = feedback_sent_scheduled(blocks, itbs0, nprb0, itbs1, nprb1);
+    sent.signalled = 1;
+    sent.cce = feedback_setting_of(cce);
+    sent.dai = feedback_setting_of(dai);
+    return sent;
+}
+
+static inline struct feedback_sent feedback_sent_release(uint64_t cce, uint64_t dai)
+{
+    struct feedback_sent sent = feedback_sent_grant(1, cce, dai, 0, 0, 0, 0);
+    sent.blocks = 0;
+    return sent;
+}
+
+static inline struct feedback_sent feedback_sent_nothing(void)
+{
+    struct feedback_sent sent = feedback_sent_release(0, 0);
+    sent.signalled = 0;
+    return sent;
 }
 
 #endif

@@ -12,7 +12,7 @@
 #include <stdlib.h>
 #include <string.h>
 
-#if FEEDBACK_VERSION != 50000
+#if FEEDBACK_VERSION != 50100
 #error "FEEDBACK_VERSION is for the preprocessor too"
 #endif
 
@@ -156,6 +156,8 @@ static void numbers(void)
     EQUAL(FEEDBACK_REFUSED_TRACE_PARTS, 22);
     EQUAL(FEEDBACK_REFUSED_OUTPUT, 23);
     EQUAL(FEEDBACK_REFUSED_PORTS, 24);
+    EQUAL(FEEDBACK_REFUSED_SIZE_OR_ACCOUNT, 25);
+    EQUAL(FEEDBACK_REFUSED_TOTAL, 26);
     EQUAL(FEEDBACK_KIND_REFUSED, 0);
     EQUAL(FEEDBACK_KIND_BUNDLED, 1);
     EQUAL(FEEDBACK_KIND_MULTIPLEXED, 2);
@@ -189,6 +191,11 @@ static void numbers(void)
     EQUAL(FEEDBACK_MEMORY, 13);
     EQUAL(FEEDBACK_SCRATCH_MOST, 1207); /* M 9, N_4 134 where N_RB is 110, and the second port */
     EQUAL(FEEDBACK_BIT_SCRATCH_MOST, 151); /* 8 * 150 and 7 */
+    EQUAL(FEEDBACK_ITBS_MOST, 26);
+    EQUAL(FEEDBACK_NPRB_MOST, 110);
+    EQUAL(FEEDBACK_PRICE_MOST, 1000000);
+    EQUAL(FEEDBACK_OCTETS_MOST, 1000000000000);
+    EQUAL(FEEDBACK_OCTETS_OF_A_WINDOW_MOST, 169596); /* 18 blocks of 9422 octets */
     EQUAL(FEEDBACK_TRACE_HEADER, 8);
     EQUAL(FEEDBACK_TRACE_SETTINGS, 10);
     EQUAL(FEEDBACK_TRACE_RECORD, 4);
@@ -198,7 +205,7 @@ static void numbers(void)
     EQUAL(FEEDBACK_SPELLED_FIRST, 18);
     EQUAL(FEEDBACK_SPELLED_MOST, 65534); /* 18 + 4 * 16379 */
     EQUAL(FEEDBACK_NONE, 65535);
-    EQUAL(FEEDBACK_VERSION, 50000);
+    EQUAL(FEEDBACK_VERSION, 50100);
     sprintf(version, "%d.%d.%d", FEEDBACK_VERSION / 10000, FEEDBACK_VERSION / 100 % 100,
             FEEDBACK_VERSION % 100);
     SAME(FEEDBACK_VERSION_TEXT, version);
@@ -248,6 +255,33 @@ static void layout(void)
     PLACE(feedback_reading_answer, b1, 10);
     PLACE(feedback_reading_answer, delivered, 12);
     PLACE(feedback_reading_answer, scheduled, 14);
+    SIZE(feedback_sent, 16);
+    PLACE(feedback_sent, signalled, 0);
+    PLACE(feedback_sent, blocks, 2);
+    PLACE(feedback_sent, cce, 4);
+    PLACE(feedback_sent, dai, 6);
+    PLACE(feedback_sent, itbs0, 8);
+    PLACE(feedback_sent, nprb0, 10);
+    PLACE(feedback_sent, itbs1, 12);
+    PLACE(feedback_sent, nprb1, 14);
+    SIZE(feedback_sent_window, 144);
+    PLACE(feedback_sent_window, at, 0);
+    SIZE(feedback_confirmed_answer, 6);
+    PLACE(feedback_confirmed_answer, refusal, 0);
+    PLACE(feedback_confirmed_answer, first, 2);
+    PLACE(feedback_confirmed_answer, second, 4);
+    SIZE(feedback_account, 24);
+    PLACE(feedback_account, octets, 0);
+    PLACE(feedback_account, charged, 8);
+    PLACE(feedback_account, price, 16);
+    PLACE(feedback_account, carry, 20);
+    SIZE(feedback_opened, 32);
+    PLACE(feedback_opened, refusal, 0);
+    PLACE(feedback_opened, account, 8);
+    SIZE(feedback_credit_answer, 32);
+    PLACE(feedback_credit_answer, refusal, 0);
+    PLACE(feedback_credit_answer, octets, 4);
+    PLACE(feedback_credit_answer, account, 8);
     SIZE(feedback_claims_answer, 16);
     PLACE(feedback_claims_answer, refusal, 0);
     PLACE(feedback_claims_answer, kind, 2);
@@ -345,6 +379,24 @@ static void settings_macro(void)
     EQUAL(made.ports, 1);
 }
 
+/* The two calls with a sent window refuse these settings; every number beside them is bad too. */
+static void sent_refused(struct feedback_settings bad, unsigned refusal)
+{
+    struct feedback_sent_window sent;
+    struct feedback_account account = {1, 2, 1000001, 1000000};
+    struct feedback_confirmed_answer confirmed;
+    struct feedback_credit_answer credited;
+    memset(&sent, 255, sizeof sent);
+    confirmed = feedback_confirmed(bad, 11, sent, 9999, 8, 9);
+    EQUAL(confirmed.refusal, refusal);
+    EQUAL(confirmed.first, 0);
+    EQUAL(confirmed.second, 0);
+    credited = feedback_credit(bad, 11, sent, 9999, 8, 9, account);
+    EQUAL(credited.refusal, refusal);
+    EQUAL(credited.octets, 0);
+    BYTES(&credited.account, &account, sizeof account);
+}
+
 /* Every call refuses these settings with this number, and a feed of such a state 8. */
 static void settings_refused(struct feedback_settings bad, unsigned refusal)
 {
@@ -395,6 +447,7 @@ static void settings_refused(struct feedback_settings bad, unsigned refusal)
     EQUAL(by_bits.kind, FEEDBACK_CLAIMS_REFUSED);
     EQUAL(by_bits.index, 0);
     EQUAL(bits, 98);
+    sent_refused(bad, refusal);
     EQUAL(made.refusal, refusal);
     BYTES(&made.handset, &zero, sizeof zero);
     EQUAL(feedback_feed_nothing(zero).refusal, FEEDBACK_REFUSED_STATE);
@@ -497,9 +550,12 @@ static void port_settings(void)
 static void order(void)
 {
     HOLDS(strstr(text,
-                 " 21, 22, 1 to 6, 17, 19, 24, 7, 8, 9, 20, 10, 11, 12, 18, 13, 14, 15, 16; 23 in\n"
+                 " 21, 22, 1 to 6, 17, 19, 24, 7, 8, 9, 20, 10, 11, 12, 18, 25, 13, 14, 26, 15, 16;"
+                 " 23 in\n"
                  " * feedback_replay after 19 and before any record, in feedback_trace_write last"
-                 " of all.\n") != NULL);
+                 " of all.\n"
+                 " * 26 is about what a reading credits, so it is met only where 13 and 14 are"
+                 " not.\n") != NULL);
 }
 
 /* ---- windows ---- */
@@ -866,6 +922,494 @@ static void reading_scheduled_refused(void)
     reading = feedback_reading(settings, 7, 3, 6, 0, 1); /* one bit */
     EQUAL(reading.refusal, FEEDBACK_REFUSED_BITS);
     EQUAL(feedback_inverse(settings, 7, 6).refusal, FEEDBACK_REFUSED_RESOURCE);
+}
+
+/* ---- what was sent, and the blocks that a reply confirms ---- */
+
+static void sent_is(struct feedback_sent sent, unsigned signalled, unsigned blocks, unsigned cce,
+                    unsigned dai, unsigned itbs0, unsigned nprb0, unsigned itbs1, unsigned nprb1)
+{
+    EQUAL(sent.signalled, signalled);
+    EQUAL(sent.blocks, blocks);
+    EQUAL(sent.cce, cce);
+    EQUAL(sent.dai, dai);
+    EQUAL(sent.itbs0, itbs0);
+    EQUAL(sent.nprb0, nprb0);
+    EQUAL(sent.itbs1, itbs1);
+    EQUAL(sent.nprb1, nprb1);
+}
+
+static void sent_records(void)
+{
+    struct feedback_sent given = {1, 2, 3, 4, 5, 6, 7, 8};
+    sent_is(given, 1, 2, 3, 4, 5, 6, 7, 8);
+    sent_is(feedback_sent_grant(2, 3, 4, 5, 6, 7, 8), 1, 2, 3, 4, 5, 6, 7, 8);
+    sent_is(feedback_sent_scheduled(2, 5, 6, 7, 8), 0, 2, 0, 0, 5, 6, 7, 8);
+    sent_is(feedback_sent_release(3, 4), 1, 0, 3, 4, 0, 0, 0, 0);
+    sent_is(feedback_sent_nothing(), 0, 0, 0, 0, 0, 0, 0, 0);
+    sent_is(feedback_sent_grant(65536, 131077, 4294967297u, 65535, 65534, 65537, 65538), 1, 65535,
+            65535, 65535, 65535, 65534, 65535, 65535);
+    sent_is(feedback_sent_scheduled(65537, 65536, 65534, 131072, 65536), 0, 65535, 0, 0, 65535,
+            65534, 65535, 65535);
+    sent_is(feedback_sent_release(65536, 65537), 1, 0, 65535, 65535, 0, 0, 0, 0);
+    EQUAL(feedback_sent_grant(0, 3, 4, 5, 6, 7, 8).blocks, 65535); /* no release */
+    EQUAL(feedback_sent_scheduled(0, 5, 6, 7, 8).blocks, 65535);   /* and not nothing */
+}
+
+static struct feedback_sent_window nothing_sent(void)
+{
+    struct feedback_sent_window sent;
+    memset(&sent, 0, sizeof sent);
+    return sent;
+}
+
+static void confirms(int line, struct feedback_settings settings, uint16_t n,
+                     struct feedback_sent_window sent, uint16_t resource, uint16_t b0, uint16_t b1,
+                     unsigned first, unsigned second)
+{
+    struct feedback_confirmed_answer answer =
+        CALL(feedback_confirmed, (settings, n, sent, resource, b0, b1));
+    equal(line, "refusal", answer.refusal, 0);
+    equal(line, "first", answer.first, first);
+    equal(line, "second", answer.second, second);
+}
+
+#define CONFIRMS(settings, n, sent, resource, b0, b1, first, second) \
+    confirms(__LINE__, settings, n, sent, resource, b0, b1, first, second)
+
+static void not_confirmed(int line, struct feedback_settings settings, uint16_t n,
+                          struct feedback_sent_window sent, uint16_t resource, uint16_t b0,
+                          uint16_t b1, unsigned refusal)
+{
+    struct feedback_confirmed_answer answer =
+        feedback_confirmed(settings, n, sent, resource, b0, b1);
+    equal(line, "refusal", answer.refusal, refusal);
+    equal(line, "first", answer.first, 0);
+    equal(line, "second", answer.second, 0);
+}
+
+#define NOT_CONFIRMED(settings, n, sent, resource, b0, b1, refusal) \
+    not_confirmed(__LINE__, settings, n, sent, resource, b0, b1, refusal)
+
+/*
+ * The window of 7 in configuration 2: 9, 0, 3 and 1, in time order 9, 0, 1, 3. Grants of two blocks
+ * in 9 and 3, of one in 0, a release in 1. The octets of the blocks are 217 and 41 in 9, 9422 in 0,
+ * 2 and 28 in 3.
+ */
+static struct feedback_sent_window window_sent(void)
+{
+    struct feedback_sent_window sent = nothing_sent();
+    sent.at[0] = feedback_sent_grant(2, 7, 1, 10, 10, 6, 1);
+    sent.at[1] = feedback_sent_grant(1, 3, 2, 26, 110, 0, 0);
+    sent.at[3] = feedback_sent_release(13, 3);
+    sent.at[2] = feedback_sent_grant(2, 5, 4, 0, 1, 5, 3);
+    return sent;
+}
+
+static void confirmed_bundled(void)
+{
+    struct feedback_settings settings = settings_of(2, 0, 2);
+    struct feedback_sent_window sent = window_sent(), other;
+    CONFIRMS(settings, 7, sent, 37, 1, 0, 1 + 2 + 4, 0); /* the grant in 3: four sent up to it */
+    CONFIRMS(settings, 7, sent, 37, 0, 1, 2, 1 + 4);     /* either bit for the only block */
+    CONFIRMS(settings, 7, sent, 37, 1, 1, 1 + 2 + 4, 1 + 4);
+    CONFIRMS(settings, 7, sent, 37, 0, 0, 0, 0);
+    CONFIRMS(settings, 7, sent, 104, 1, 1, 1 + 2, 1); /* the release in 1, before 3 */
+    CONFIRMS(settings, 7, sent, 24, 1, 0, 1 + 2, 0);  /* the grant in 0: 11 + 3 + 10 */
+    CONFIRMS(settings, 7, sent, 17, 0, 1, 0, 1);      /* the grant in 9: 7 + 10 */
+    CONFIRMS(settings, 7, sent, 38, 1, 1, 0, 0);      /* first CCE 6 in 3 was not sent */
+    other = sent;
+    other.at[2] = feedback_sent_nothing();
+    CONFIRMS(settings, 7, other, 37, 1, 1, 0, 0);
+    CONFIRMS(settings, 7, other, 104, 1, 1, 1 + 2, 1);
+    other = sent;
+    other.at[0].signalled = 65535;
+    other.at[3].signalled = 256;
+    CONFIRMS(settings, 7, other, 37, 1, 0, 1 + 2 + 4, 0);
+    other.at[1].itbs0 = other.at[2].itbs1 = 65535; /* sizes are not looked at */
+    other.at[2].nprb0 = 0;
+    CONFIRMS(settings, 7, other, 37, 1, 1, 1 + 2 + 4, 1 + 4);
+    settings.ports = 2;
+    CONFIRMS(settings, 7, sent, 37, 1, 0, 1 + 2 + 4, 0);
+    settings = settings_of(2, 0, 1);
+    other = nothing_sent();
+    other.at[1] = feedback_sent_grant(1, 3, 1, 0, 1, 0, 0);
+    CONFIRMS(settings, 7, other, 24, 1, 0, 2, 0);
+    NOT_CONFIRMED(settings, 7, other, 24, 0, 1, FEEDBACK_REFUSED_BITS);
+}
+
+/*
+ * The window of 2 in configuration 5, in time order 0, 1, 7, 2, 3, 4, 8, 5, 6. Grants in the first
+ * five; the fifth speaks for itself alone, and so it does where one before it is a release.
+ */
+static void confirmed_of_nine(void)
+{
+    struct feedback_settings settings = settings_of(5, 0, 1);
+    struct feedback_sent_window sent = nothing_sent();
+    sent.at[0] = feedback_sent_grant(1, 0, 1, 0, 1, 0, 0);
+    sent.at[1] = feedback_sent_grant(1, 0, 2, 0, 1, 0, 0);
+    sent.at[7] = feedback_sent_grant(1, 0, 3, 0, 1, 0, 0);
+    sent.at[2] = feedback_sent_grant(1, 0, 4, 0, 1, 0, 0);
+    sent.at[3] = feedback_sent_grant(1, 0, 1, 0, 1, 0, 0);
+    CONFIRMS(settings, 2, sent, 32, 1, 0, 1 + 2 + 128 + 4, 0); /* position 2: 2 * 11 + 10 */
+    CONFIRMS(settings, 2, sent, 43, 1, 0, 8, 0);               /* position 3 */
+    CONFIRMS(settings, 2, sent, 87, 1, 0, 1 + 2 + 128, 0);     /* position 7 */
+    sent.at[1] = feedback_sent_release(0, 2);
+    CONFIRMS(settings, 2, sent, 32, 1, 0, 1 + 128 + 4, 0);
+    CONFIRMS(settings, 2, sent, 43, 1, 0, 8, 0);
+    sent.at[1] = feedback_sent_nothing();
+    CONFIRMS(settings, 2, sent, 43, 1, 0, 1 + 128 + 4 + 8, 0);
+    settings.scheduled = 6; /* a scheduled block is not counted */
+    sent.at[1] = feedback_sent_scheduled(1, 0, 1, 0, 0);
+    CONFIRMS(settings, 2, sent, 43, 1, 0, 1 + 128 + 4 + 8, 0);
+}
+
+/* A scheduled block in 0, with 6 for its resource, and a grant in 9. */
+static void confirmed_scheduled(void)
+{
+    struct feedback_settings settings = with_scheduled(settings_of(2, 0, 2), 6);
+    struct feedback_sent_window sent = nothing_sent();
+    sent.at[0] = feedback_sent_grant(2, 7, 1, 0, 1, 0, 1);
+    sent.at[1] = feedback_sent_scheduled(2, 0, 1, 0, 1);
+    sent.at[1].cce = sent.at[1].dai = 65535; /* it has none */
+    CONFIRMS(settings, 7, sent, 6, 1, 0, 2, 0);
+    CONFIRMS(settings, 7, sent, 6, 0, 1, 0, 2);
+    CONFIRMS(settings, 7, sent, 17, 1, 1, 1, 1); /* the grant, and not the block */
+    CONFIRMS(settings, 7, sent, 21, 1, 1, 0, 0); /* a PDCCH at the block's position */
+    sent.at[1].blocks = 1;
+    CONFIRMS(settings, 7, sent, 6, 0, 1, 2, 0);
+    sent.at[1] = feedback_sent_nothing();
+    NOT_CONFIRMED(settings, 7, sent, 6, 1, 0, FEEDBACK_REFUSED_RESOURCE);
+    sent.at[1].cce = sent.at[1].dai = 65535; /* as nothing has */
+    CONFIRMS(settings, 7, sent, 17, 1, 0, 1, 0);
+}
+
+/* Table 10.1-4 on position 3: 01 delivers 2 and 3, 10 delivers 1 and 3; on position 1, 11 all four. */
+static void confirmed_multiplexed(void)
+{
+    struct feedback_settings settings = with_scheduled(settings_of(2, 1, 2), 6);
+    struct feedback_sent_window sent = nothing_sent();
+    sent.at[3] = feedback_sent_grant(2, 13, 1, 0, 1, 0, 1);
+    sent.at[2] = feedback_sent_grant(1, 5, 2, 0, 1, 0, 0);
+    CONFIRMS(settings, 7, sent, 104, 0, 1, 4 + 8, 8);
+    CONFIRMS(settings, 7, sent, 104, 1, 0, 8, 8); /* in 0 nothing was sent */
+    CONFIRMS(settings, 7, sent, 104, 1, 1, 0, 0);
+    CONFIRMS(settings, 7, sent, 103, 0, 1, 0, 0); /* first CCE 12 in 1 was not sent */
+    sent.at[1] = feedback_sent_scheduled(2, 0, 1, 0, 1);
+    CONFIRMS(settings, 7, sent, 104, 1, 0, 2 + 8, 2 + 8);
+    CONFIRMS(settings, 7, sent, 6, 1, 1, 2 + 4 + 8, 2 + 8);
+    sent.at[2] = feedback_sent_release(5, 2);
+    CONFIRMS(settings, 7, sent, 104, 0, 1, 8, 8);
+    NOT_CONFIRMED(settings, 7, sent, 10, 0, 0, FEEDBACK_REFUSED_BITS); /* in no row */
+}
+
+/*
+ * Every cause in what was sent, those that come later at earlier positions; then one after the
+ * other is mended. Position 3 is the special subframe.
+ */
+static struct feedback_sent_window bad_window(void)
+{
+    struct feedback_sent_window sent = nothing_sent();
+    sent.at[0] = feedback_sent_grant(1, 7, 5, 27, 110, 0, 0);
+    sent.at[1] = feedback_sent_grant(1, 61, 1, 26, 111, 0, 0);
+    sent.at[2] = feedback_sent_grant(3, 5, 1, 26, 110, 27, 0);
+    sent.at[3] = feedback_sent_scheduled(1, 27, 0, 0, 0);
+    return sent;
+}
+
+static void confirmed_refused(void)
+{
+    struct feedback_settings settings = with_special(settings_of(2, 0, 2), 0, 5);
+    struct feedback_sent_window sent = bad_window(), other;
+    unsigned m;
+    NOT_CONFIRMED(settings, 3, sent, 9, 2, 2, FEEDBACK_REFUSED_SUBFRAME);
+    NOT_CONFIRMED(settings, 12, sent, 9, 2, 2, FEEDBACK_REFUSED_SUBFRAME);
+    NOT_CONFIRMED(settings, 7, sent, 9, 2, 2, FEEDBACK_REFUSED_SHORT);
+    other = sent;
+    other.at[3] = feedback_sent_grant(1, 13, 1, 0, 1, 0, 0);
+    NOT_CONFIRMED(settings, 7, other, 9, 2, 2, FEEDBACK_REFUSED_SHORT);
+    other.at[3] = feedback_sent_release(13, 1);
+    NOT_CONFIRMED(settings, 7, other, 9, 2, 2, FEEDBACK_REFUSED_CARRIED);
+    settings.special = 7;
+    NOT_CONFIRMED(settings, 7, sent, 9, 2, 2, FEEDBACK_REFUSED_CARRIED);
+    sent.at[2].blocks = 2;
+    NOT_CONFIRMED(settings, 7, sent, 9, 2, 2, FEEDBACK_REFUSED_CCE);
+    sent.at[1].cce = 60;
+    NOT_CONFIRMED(settings, 7, sent, 9, 2, 2, FEEDBACK_REFUSED_DAI);
+    sent.at[0].dai = 0;
+    NOT_CONFIRMED(settings, 7, sent, 9, 2, 2, FEEDBACK_REFUSED_DAI);
+    sent.at[0].dai = 1;
+    NOT_CONFIRMED(settings, 7, sent, 9, 2, 2, FEEDBACK_REFUSED_SCHEDULED);
+    settings.scheduled = 6;
+    NOT_CONFIRMED(settings, 7, sent, 9, 2, 2, FEEDBACK_REFUSED_RESOURCE);
+    other = sent;
+    other.at[0] = feedback_sent_scheduled(2, 0, 1, 0, 1); /* the second one */
+    NOT_CONFIRMED(settings, 7, other, 9, 2, 2, FEEDBACK_REFUSED_SCHEDULED);
+    other.at[0].blocks = 3;
+    NOT_CONFIRMED(settings, 7, other, 9, 2, 2, FEEDBACK_REFUSED_CARRIED);
+    NOT_CONFIRMED(settings, 7, sent, 17, 2, 1, FEEDBACK_REFUSED_BITS);
+    NOT_CONFIRMED(settings, 7, sent, 6, 1, 2, FEEDBACK_REFUSED_BITS);
+    CONFIRMS(settings, 7, sent, 17, 1, 0, 1, 0);
+    sent.at[1] = feedback_sent_release(61, 1);
+    NOT_CONFIRMED(settings, 7, sent, 17, 1, 0, FEEDBACK_REFUSED_CCE);
+    sent.at[1] = feedback_sent_release(60, 5);
+    NOT_CONFIRMED(settings, 7, sent, 17, 1, 0, FEEDBACK_REFUSED_DAI);
+    sent = nothing_sent(); /* from M on nothing is looked at: M is 2 here */
+    for (m = 2; m < FEEDBACK_WINDOW_MOST; m++)
+        sent.at[m] = feedback_sent_grant(65535, 65535, 65535, 65535, 65535, 65535, 65535);
+    sent.at[1] = feedback_sent_grant(1, 60, 4, 0, 1, 0, 0);
+    CONFIRMS(settings_of(1, 0, 2), 2, sent, 131, 1, 0, 2, 0);
+}
+
+/* ---- accounts and credits ---- */
+
+static struct feedback_account account_of(uint64_t octets, uint64_t charged, uint32_t price,
+                                          uint32_t carry)
+{
+    struct feedback_account account;
+    account.octets = octets;
+    account.charged = charged;
+    account.price = price;
+    account.carry = carry;
+    return account;
+}
+
+static void account_is(int line, struct feedback_account account, uint64_t octets, uint64_t charged,
+                       uint32_t price, uint32_t carry)
+{
+    equal(line, "octets", account.octets, octets);
+    equal(line, "charged", account.charged, charged);
+    equal(line, "price", account.price, price);
+    equal(line, "carry", account.carry, carry);
+}
+
+#define ACCOUNT_IS(account, octets, charged, price, carry) \
+    account_is(__LINE__, account, octets, charged, price, carry)
+
+static struct feedback_account opened(uint32_t price)
+{
+    struct feedback_opened answer = CALL(feedback_open_account, (price));
+    EQUAL(answer.refusal, 0);
+    ACCOUNT_IS(answer.account, 0, 0, price, 0);
+    return answer.account;
+}
+
+/* The account after a credit of so many octets. */
+static struct feedback_account credits(int line, struct feedback_settings settings, uint16_t n,
+                                       struct feedback_sent_window sent, uint16_t resource,
+                                       uint16_t b0, uint16_t b1, struct feedback_account account,
+                                       unsigned octets)
+{
+    struct feedback_credit_answer answer =
+        CALL(feedback_credit, (settings, n, sent, resource, b0, b1, account));
+    uint64_t total = account.octets + octets;
+    equal(line, "refusal", answer.refusal, 0);
+    equal(line, "credited", answer.octets, octets);
+    equal(line, "octets", answer.account.octets, total);
+    equal(line, "price", answer.account.price, account.price);
+    equal(line, "charged and carry", 1000000 * answer.account.charged + answer.account.carry,
+          total * account.price);
+    HOLDS(answer.account.carry < 1000000);
+    return answer.account;
+}
+
+#define CREDITS(settings, n, sent, resource, b0, b1, account, octets) \
+    credits(__LINE__, settings, n, sent, resource, b0, b1, account, octets)
+
+static void not_credited(int line, struct feedback_settings settings, uint16_t n,
+                         struct feedback_sent_window sent, uint16_t resource, uint16_t b0,
+                         uint16_t b1, struct feedback_account account, unsigned refusal)
+{
+    struct feedback_credit_answer answer =
+        feedback_credit(settings, n, sent, resource, b0, b1, account);
+    equal(line, "refusal", answer.refusal, refusal);
+    equal(line, "credited", answer.octets, 0);
+    account_is(line, answer.account, account.octets, account.charged, account.price, account.carry);
+}
+
+#define NOT_CREDITED(settings, n, sent, resource, b0, b1, account, refusal) \
+    not_credited(__LINE__, settings, n, sent, resource, b0, b1, account, refusal)
+
+static void accounts(void)
+{
+    struct feedback_opened answer;
+    (void)opened(0);
+    (void)opened(1);
+    (void)opened(FEEDBACK_PRICE_MOST);
+    answer = feedback_open_account(FEEDBACK_PRICE_MOST + 1);
+    EQUAL(answer.refusal, FEEDBACK_REFUSED_SIZE_OR_ACCOUNT);
+    ACCOUNT_IS(answer.account, 0, 0, 1000001, 0);
+    NOT_CREDITED(settings_of(2, 0, 2), 7, window_sent(), 37, 1, 0, answer.account,
+                 FEEDBACK_REFUSED_SIZE_OR_ACCOUNT);
+    answer = feedback_open_account(4294967295u);
+    EQUAL(answer.refusal, FEEDBACK_REFUSED_SIZE_OR_ACCOUNT);
+    ACCOUNT_IS(answer.account, 0, 0, 4294967295u, 0);
+}
+
+/* The replies of confirmed_bundled. The only block, in 0, is credited by b0 alone. */
+static void credit_bundled(void)
+{
+    struct feedback_settings settings = settings_of(2, 0, 2);
+    struct feedback_sent_window sent = window_sent();
+    struct feedback_account account = opened(2500);
+    account = CREDITS(settings, 7, sent, 37, 1, 0, account, 217 + 9422 + 2);
+    ACCOUNT_IS(account, 9641, 24, 2500, 102500); /* 9641 * 2500 is 24102500 */
+    account = CREDITS(settings, 7, sent, 37, 0, 1, account, 41 + 28);
+    ACCOUNT_IS(account, 9710, 24, 2500, 275000);
+    NOT_CREDITED(settings, 7, sent, 9, 1, 1, account, FEEDBACK_REFUSED_RESOURCE);
+    account = CREDITS(settings, 7, sent, 37, 1, 1, account, 9710);
+    ACCOUNT_IS(account, 19420, 48, 2500, 550000);
+    account = CREDITS(settings, 7, sent, 37, 0, 0, account, 0);
+    account = CREDITS(settings, 7, sent, 38, 1, 1, account, 0);      /* was not sent */
+    account = CREDITS(settings, 7, sent, 104, 1, 1, account, 9680); /* 217 + 41 + 9422 */
+    ACCOUNT_IS(account, 29100, 72, 2500, 750000);
+    account = CREDITS(settings, 7, sent, 17, 0, 1, account, 41);
+    ACCOUNT_IS(account, 29141, 72, 2500, 852500);
+    account = CREDITS(settings, 7, sent, 37, 1, 1, opened(0), 9710);
+    ACCOUNT_IS(account, 9710, 0, 0, 0);
+    account = CREDITS(settings, 7, sent, 37, 1, 1, opened(FEEDBACK_PRICE_MOST), 9710);
+    ACCOUNT_IS(account, 9710, 9710, 1000000, 0);
+}
+
+/* In 1, a special subframe: columns 82, 1 and 1 for 110, 2 and 1. */
+static void credit_special(void)
+{
+    struct feedback_settings settings = settings_of(2, 0, 2);
+    struct feedback_sent_window sent = nothing_sent();
+    struct feedback_account account = opened(1);
+    sent.at[3] = feedback_sent_grant(2, 13, 1, 26, 110, 6, 2);
+    account = CREDITS(settings, 7, sent, 104, 1, 0, account, 7407); /* 59256 / 8 */
+    account = CREDITS(settings, 7, sent, 104, 0, 1, account, 41);   /* 328 / 8 */
+    sent.at[3].itbs0 = 0;
+    sent.at[3].nprb0 = 1;
+    account = CREDITS(settings, 7, sent, 104, 1, 0, account, 2);
+    ACCOUNT_IS(account, 7450, 0, 1, 7450);
+    sent.at[3] = feedback_sent_nothing();
+    sent.at[2] = feedback_sent_grant(2, 13, 1, 26, 110, 6, 2); /* in 3 as printed */
+    account = CREDITS(settings, 7, sent, 88, 1, 0, account, 9422); /* 11 + 2 * 27 + 13 + 10 */
+    account = CREDITS(settings, 7, sent, 88, 0, 1, account, 22);
+}
+
+/* The windows of confirmed_scheduled and confirmed_multiplexed. */
+static void credit_scheduled(void)
+{
+    struct feedback_settings settings = with_scheduled(settings_of(2, 0, 2), 6);
+    struct feedback_sent_window sent = nothing_sent();
+    struct feedback_account account = opened(999999);
+    sent.at[0] = feedback_sent_grant(2, 7, 1, 10, 10, 6, 1);
+    sent.at[1] = feedback_sent_scheduled(2, 26, 110, 5, 3);
+    account = CREDITS(settings, 7, sent, 6, 1, 0, account, 9422);
+    account = CREDITS(settings, 7, sent, 6, 0, 1, account, 28);
+    account = CREDITS(settings, 7, sent, 17, 1, 1, account, 217 + 41);
+    sent.at[1].blocks = 1;
+    account = CREDITS(settings, 7, sent, 6, 0, 1, account, 0); /* confirmed alone */
+    ACCOUNT_IS(account, 9708, 9707, 999999, 990292);
+    settings.mode = FEEDBACK_MODE_MULTIPLEXING;
+    sent.at[3] = feedback_sent_grant(2, 13, 2, 0, 1, 6, 1);
+    account = CREDITS(settings, 7, sent, 104, 1, 0, account, 9422 + 2 + 41); /* 1 and 3 */
+    account = CREDITS(settings, 7, sent, 104, 0, 1, account, 2 + 41);        /* 2 and 3 */
+    sent.at[1].blocks = 2;
+    account = CREDITS(settings, 7, sent, 6, 1, 1, account, 217 + 41 + 9422 + 28 + 2 + 41);
+    account = CREDITS(settings, 7, sent, 104, 1, 1, account, 0);
+}
+
+/* The refusals of confirmed_refused, with 25 between 18 and 13 and 26 after 14. */
+static void credit_refused(void)
+{
+    struct feedback_settings settings = with_special(settings_of(2, 0, 2), 0, 5);
+    struct feedback_sent_window sent = bad_window();
+    struct feedback_account bad = account_of(1000000000001u, 0, 1, 0), most;
+    most = account_of(1000000000001u, 1000000, 1, 1);
+    NOT_CREDITED(settings, 3, sent, 9, 2, 2, bad, FEEDBACK_REFUSED_SUBFRAME);
+    NOT_CREDITED(settings, 7, sent, 9, 2, 2, bad, FEEDBACK_REFUSED_SHORT);
+    settings.special = 7;
+    NOT_CREDITED(settings, 7, sent, 9, 2, 2, bad, FEEDBACK_REFUSED_CARRIED);
+    sent.at[2].blocks = 2;
+    NOT_CREDITED(settings, 7, sent, 9, 2, 2, bad, FEEDBACK_REFUSED_CCE);
+    sent.at[1].cce = 60;
+    NOT_CREDITED(settings, 7, sent, 9, 2, 2, bad, FEEDBACK_REFUSED_DAI);
+    sent.at[0].dai = 1;
+    NOT_CREDITED(settings, 7, sent, 9, 2, 2, bad, FEEDBACK_REFUSED_SCHEDULED);
+    settings.scheduled = 6;
+    NOT_CREDITED(settings, 7, sent, 9, 2, 2, most, FEEDBACK_REFUSED_SIZE_OR_ACCOUNT);
+    sent = window_sent();
+    NOT_CREDITED(settings, 7, sent, 9, 2, 2, bad, FEEDBACK_REFUSED_SIZE_OR_ACCOUNT);
+    NOT_CREDITED(settings, 7, sent, 9, 2, 2, most, FEEDBACK_REFUSED_RESOURCE);
+    NOT_CREDITED(settings, 7, sent, 37, 2, 2, most, FEEDBACK_REFUSED_BITS);
+    NOT_CREDITED(settings, 7, sent, 37, 1, 1, most, FEEDBACK_REFUSED_TOTAL);
+    NOT_CREDITED(settings, 7, sent, 37, 0, 0, most, FEEDBACK_REFUSED_TOTAL);
+    (void)CREDITS(settings, 7, sent, 37, 1, 1, opened(1), 9710);
+}
+
+/* One size of a window at a time; the reply is a NACK, and what is not credited is looked at too. */
+static void sizes_refused(void)
+{
+    struct feedback_settings settings = with_scheduled(FEEDBACK_SETTINGS(2, 6, 10, 0, 2), 6);
+    static const uint16_t itbs[] = {0, 26, 27, 255, 256, 65535};
+    static const uint16_t nprb[] = {1, 110, 0, 111, 257, 65535};
+    struct feedback_account account = opened(5);
+    struct feedback_sent_window good = nothing_sent();
+    unsigned i, m;
+    good.at[0] = feedback_sent_grant(2, 0, 1, 26, 110, 26, 110); /* N_RB is 6 */
+    good.at[1] = feedback_sent_grant(1, 0, 2, 26, 110, 65535, 65535);
+    good.at[2] = feedback_sent_scheduled(2, 26, 110, 0, 1);
+    good.at[3] = feedback_sent_release(0, 3);
+    good.at[3].itbs0 = good.at[3].nprb0 = good.at[3].itbs1 = good.at[3].nprb1 = 65535;
+    for (m = 0; m < 3; m++)
+        for (i = 0; i < 6; i++) {
+            struct feedback_sent_window row = good, column = good, row1 = good, column1 = good;
+            unsigned first = i < 2 ? 0 : FEEDBACK_REFUSED_SIZE_OR_ACCOUNT;
+            unsigned second = m == 1 ? 0 : first; /* the grant in 0 has none */
+            row.at[m].itbs0 = row1.at[m].itbs1 = itbs[i];
+            column.at[m].nprb0 = column1.at[m].nprb1 = nprb[i];
+            EQUAL(feedback_credit(settings, 7, row, 10, 0, 0, account).refusal, first);
+            EQUAL(feedback_credit(settings, 7, column, 10, 0, 0, account).refusal, first);
+            EQUAL(feedback_credit(settings, 7, row1, 10, 0, 0, account).refusal, second);
+            EQUAL(feedback_credit(settings, 7, column1, 10, 0, 0, account).refusal, second);
+        }
+}
+
+/*
+ * Credits of two octets and of none to accounts at the bounds. The equation is exact: 2^62 * 4 is
+ * not 0, and neither is 1000000 * 2^58. A carry of 1000000 is refused even where it holds.
+ */
+static void accounts_refused(void)
+{
+    struct feedback_settings settings = settings_of(2, 0, 1);
+    struct feedback_sent_window sent = nothing_sent();
+    struct feedback_account account;
+    sent.at[0] = feedback_sent_grant(1, 0, 1, 0, 1, 0, 0);
+#define REFUSES(octets, charged, price, carry, refusal)                         \
+    NOT_CREDITED(settings, 7, sent, 10, 1, 0, account_of(octets, charged, price, carry), refusal)
+    REFUSES(0, 0, 1000001, 0, 25);
+    REFUSES(0, 1, 7, 0, 25);
+    REFUSES(0, 0, 7, 1, 25);
+    REFUSES(3, 0, 7, 20, 25);
+    REFUSES(3, 0, 7, 22, 25);
+    REFUSES(1, 0, 1000000, 1000000, 25);
+    REFUSES(1, 1, 1000000, 1000000, 25);
+    REFUSES(0, 288230376151711744u, 5, 0, 25);  /* 2^58 */
+    REFUSES(4611686018427387904u, 0, 4, 0, 25); /* 2^62 */
+    REFUSES(4611686018427387904u, 18446744073709u, 4, 551615, 25);
+    REFUSES(4611686018427387904u, 18446744073709u, 4, 551616, 26);
+    REFUSES(18446744073709551615u, 18446744073709551615u, 1000000, 0, 26);
+    REFUSES(18446744073709551615u, 18446744073709551614u, 1000000, 0, 25);
+    REFUSES(18446744073709551615u, 18446725626965477905u, 999999, 448385, 26);
+    REFUSES(18446744073709551615u, 18446725626965477905u, 999999, 448384, 25);
+    REFUSES(999999999999u, 999999999999u, 1000000, 0, 26);
+    REFUSES(1000000000000u, 0, 0, 0, 26);
+    REFUSES(1000000000001u, 0, 0, 0, 26);
+#undef REFUSES
+    account = account_of(FEEDBACK_OCTETS_MOST - 2, 999999999998u, FEEDBACK_PRICE_MOST, 0);
+    account = CREDITS(settings, 7, sent, 10, 1, 0, account, 2);
+    ACCOUNT_IS(account, 1000000000000u, 1000000000000u, 1000000, 0);
+    account = CREDITS(settings, 7, sent, 10, 0, 0, account, 0); /* with nothing to credit */
+    account = account_of(999999999998u, 333332999999u, 333333, 333334);
+    account = CREDITS(settings, 7, sent, 10, 1, 0, account, 2);
+    ACCOUNT_IS(account, 1000000000000u, 333333000000u, 333333, 0);
+    account = account_of(1000000000001u, 0, 0, 0);
+    NOT_CREDITED(settings, 7, sent, 10, 0, 0, account, FEEDBACK_REFUSED_TOTAL);
+    NOT_CREDITED(settings, 7, sent, 9, 0, 0, account, FEEDBACK_REFUSED_RESOURCE);
 }
 
 /* Byte t is what it should be: 1 at the resources less N1, 0 below M * N_4, and 99 beyond. */
@@ -2209,7 +2753,9 @@ static void all_texts(void)
         "21: the trace is below 8 bytes, or not of the length in its header",
         "22: parts of the trace overlap or leave it, or a record's kind",
         "23: the output is too short for the windows, or for the written trace",
-        "24: the antenna ports are neither 1 nor 2, or they are 2 with multiplexing"};
+        "24: the antenna ports are neither 1 nor 2, or they are 2 with multiplexing",
+        "25: a block's I_TBS is over 26 or its N_PRB not 1 to 110, or the price is over 1000000",
+        "26: the account would have more than 1000000000000 octets"};
     static const char *const kinds[] = {"refused", "bundled reply", "multiplexed reply",
                                         "Silent",  "downlink",      "uplink"};
     static const char *const claims_kinds[] = {"refused", "clean", "clash"};
@@ -2218,7 +2764,7 @@ static void all_texts(void)
     static const char *const record_kinds[] = {"refused", "read", "end"};
     static const char *const write_kinds[] = {"not written: it, its settings or the output",
                                               "was written", "not written: a record"};
-    texts(feedback_refusal_text, refusals, 25);
+    texts(feedback_refusal_text, refusals, 27);
     texts(feedback_kind_text, kinds, 6);
     texts(feedback_claims_kind_text, claims_kinds, 3);
     texts(feedback_slot_kind_text, slot_kinds, 4);
@@ -2252,6 +2798,19 @@ int main(int argc, char **argv)
     reading_scheduled();
     reading_short();
     reading_scheduled_refused();
+    sent_records();
+    confirmed_bundled();
+    confirmed_of_nine();
+    confirmed_scheduled();
+    confirmed_multiplexed();
+    confirmed_refused();
+    accounts();
+    credit_bundled();
+    credit_special();
+    credit_scheduled();
+    credit_refused();
+    sizes_refused();
+    accounts_refused();
     claims_of_1();
     claims_of_5();
     claims_of_two_ports();

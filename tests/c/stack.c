@@ -14,6 +14,7 @@
 enum { ONE_PORT = 7 * 2 * 2 * 3, TWO_PORTS = 7 * 3, SETTINGS = ONE_PORT + TWO_PORTS };
 enum { FEEDS = 40, RUNS = SETTINGS * 4, HANDSETS = RUNS * FEEDS };
 enum { FIRST = FEEDBACK_TRACE_HEADER + FEEDBACK_TRACE_SETTINGS }; /* the place of the records */
+enum { WINDOWS = 24 };
 
 static struct feedback_settings settings[SETTINGS];
 static struct feedback_handset handsets[HANDSETS];
@@ -59,6 +60,26 @@ LOOP(reading, feedback_reading_answer,
      EACH(i, SETTINGS) EACH(j, 11) EACH(p, 4) EACH(r, 1300) EACH(b, 4)
          sink += call(settings[i], (uint16_t)j, told[p], (uint16_t)r, b & 1,
                       (uint16_t)(b >> 1)).cce;)
+
+static struct feedback_sent_window windows[WINDOWS];
+LOOP(confirmed, feedback_confirmed_answer,
+     (struct feedback_settings s, uint16_t n, struct feedback_sent_window sent, uint16_t resource,
+      uint16_t b0, uint16_t b1),
+     EACH(i, SETTINGS) EACH(j, 11) EACH(w, WINDOWS) EACH(r, 130) EACH(b, 4)
+         sink += call(settings[i], (uint16_t)j, windows[w], (uint16_t)r, b & 1,
+                      (uint16_t)(b >> 1)).first;)
+
+LOOP(open_account, feedback_opened, (uint32_t price),
+     EACH(p, 3) sink += call(FEEDBACK_PRICE_MOST - 1 + p).refusal;)
+
+static const struct feedback_account accounts[] = {
+    {0, 0, 1000000, 0}, {3, 0, 7, 21}, {3, 0, 7, 20}, {1000000000000, 0, 0, 0}};
+LOOP(credit, feedback_credit_answer,
+     (struct feedback_settings s, uint16_t n, struct feedback_sent_window sent, uint16_t resource,
+      uint16_t b0, uint16_t b1, struct feedback_account account),
+     EACH(i, SETTINGS) EACH(j, 11) EACH(w, WINDOWS) EACH(r, 130) EACH(b, 4)
+         sink += call(settings[i], (uint16_t)j, windows[w], (uint16_t)r, b & 1,
+                      (uint16_t)(b >> 1), accounts[(w + r) % 4]).octets;)
 
 static uint16_t list[600];
 static uint8_t scratch[FEEDBACK_SCRATCH_MOST];
@@ -225,6 +246,29 @@ static void fill_traces(void)
     put_header(longest, sizeof longest, settings[0]);
 }
 
+/*
+ * What was sent in a window: more and more PDCCHs, of one block or two or releases, of first CCE 0
+ * in half of them; in some a scheduled block, and in the last a size that is refused.
+ */
+static void fill_windows(void)
+{
+    EACH(w, WINDOWS)
+    {
+        EACH(m, FEEDBACK_WINDOW_MOST)
+        {
+            unsigned cce = w % 2 == 0 ? 0 : draw(7), blocks = 1 + draw(1 + w / 12);
+            if (draw(WINDOWS) <= w)
+                windows[w].at[m] = draw(5) == 0
+                                       ? feedback_sent_release(cce, 1 + draw(4))
+                                       : feedback_sent_grant(blocks, cce, 1 + draw(4), draw(27),
+                                                             1 + draw(110), draw(27), 1 + draw(110));
+        }
+        if (w % 3 == 0)
+            windows[w].at[draw(9)] = feedback_sent_scheduled(1, draw(27), 1 + draw(110), 0, 0);
+    }
+    windows[WINDOWS - 1].at[0].itbs0 = FEEDBACK_ITBS_MOST + 1;
+}
+
 /* A list of claims; how far they are good depends on the window. */
 static void fill_list(void)
 {
@@ -282,12 +326,16 @@ int main(int argc, char **argv)
     fill_settings();
     fill_handsets();
     fill_traces();
+    fill_windows();
     fill_list();
     int all = HELD(window, 24); /* of settings, 18 bytes in whole words; the rest is in registers */
     all &= HELD(answered, 24);
     all &= HELD(resource, 24);
     all &= HELD(inverse, 24);
     all &= HELD(reading, 24);
+    all &= HELD(confirmed, 24 + 144); /* and a sent window */
+    all &= HELD(open_account, 0);
+    all &= HELD(credit, 24 + 144 + 24); /* and an account */
     all &= HELD(claims, 24);
     all &= HELD(claims_bits, 24);
     all &= HELD(make, 24);
