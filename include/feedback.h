@@ -225,11 +225,11 @@
  *             feedback_resource       64
  *             feedback_inverse        64
  *             feedback_reading        512
- *             feedback_confirmed      1024
+ *             feedback_confirmed      1280
  *             feedback_claims         128
  *             feedback_claims_bits    128
  *             feedback_open_account   64
- *             feedback_credit         14336
+ *             feedback_credit         13312
  *             feedback_make           128
  *             feedback_change_mode    512
  *             feedback_feed_nothing   1280
@@ -240,7 +240,7 @@
  *             feedback_record         64
  *             feedback_trace_write    2048
  *
- * Of the C library the calls use memset and nothing else.
+ * Of the C library the calls use memcpy and memset and nothing else.
  */
 #ifndef FEEDBACK_H
 #define FEEDBACK_H
