@@ -16,7 +16,7 @@ const SIGSEGV: i32 = 11;
 
 fn child(words: &str) -> ExitStatus {
     Command::new(env::current_exe().expect("this test"))
-        .args(["--exact", "a_touch_beyond_faults"])
+        .args(["--exact", "guarded::a_touch_beyond_faults"])
         .env(TOUCH, words)
         .stdout(Stdio::null())
         .stderr(Stdio::null())
