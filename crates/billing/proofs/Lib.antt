@@ -1,2 +1,3 @@
 pub mod Billed
 pub mod Same
+pub mod WorkedBills

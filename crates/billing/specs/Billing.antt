@@ -35,7 +35,8 @@ SaysSent set sent s w =
     (m : ℕ) → m < length (windowAt set s)
     → sendOf (recordAt (length (windowAt set s)) w m) ≡ sentAgo sent s (getD (windowAt set s) m 0)
 
--- What a station brings to be billed: a reply of a run of demand 3, with the records of its window. Nothing is asked of what was heard.
+-- What a station brings to be billed: a reply of a run of demand 3, with the records of its window. Which of the things sent were heard,
+-- and decoded, is open.
 pub record Billable (e : Engine) : Type 0 where
   pub set : Settings
   pub sent : ℕ → Send
@@ -76,7 +77,8 @@ module _ {e : Engine} (b : Billable e) where
 
   -- What is answered for it on the account `a`.
   pub record Bill (a : Account) (c : Credited) : Type 0 where
-    -- no truthful station is refused for what it sent, nor for what it heard: 25 is met exactly if a size or the account is off,
+    -- a truthful station is refused neither for what it sent nor for the reply that came: 25 is met exactly if a size or the account is
+    -- off,
     pub twentyFive : (c .refusal ≡ 25) ↔ (off a ≡ 0 → ⊥)
     -- 26, "after 25", exactly if "a total .. would pass 1,000,000,000,000 octets",
     pub twentySix : (c .refusal ≡ 26) ↔ ((off a ≡ 0) × (1000000000000 < a .octets + octetsThere creditedThere))
@@ -102,7 +104,7 @@ abbrev pub decodedIn : {e : Engine} → List (Billable e) → ℕ
 decodedIn [] = 0
 decodedIn (b ∷ bs) = octetsThere b (decodedThere b) + decodedIn bs
 
--- The account after the credits of a list, from a new one.
+-- The account after the credits of a list, from a new one. A reply that stands in the list twice counts twice, on either side.
 pub record BilledOver (e : Engine) (credit : Crediting) (price : ℕ) (bs : List (Billable e)) : Type 0 where
   -- "octets × price = 1,000,000 × charged + carry, the carry below 1,000,000 and the octets those of the list's credits not refused"
   pub charged : Charged (answered credit) price bs
