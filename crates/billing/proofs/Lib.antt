@@ -1,3 +1,4 @@
 pub mod Billed
 pub mod Same
 pub mod WorkedBills
+pub mod WrongBills
