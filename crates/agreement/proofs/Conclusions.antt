@@ -71,7 +71,7 @@ module _ (e : Engine) (d : Demand3 e) (set : Settings) (sent : ℕ → Send) (it
   holds = d .run set (replied .accepted) sent (replied .schedule) items (replied .brings)
 
   -- A subframe that was answered with a reply has a window.
-  has-window : 0 < length (windowAt set s)
+  pub has-window : 0 < length (windowAt set s)
   has-window = go (windowAt set s) refl (downlink (set .config) (s % 10)) refl
     where
       go : (ks : List ℕ) → windowAt set s ≡ ks → (down : Bool) → downlink (set .config) (s % 10) ≡ down → 0 < length (windowAt set s)

@@ -13,7 +13,6 @@ use lib.ListN.{length, take}
 use borrow.Author.Tests.{le-leb, lt-leb, le-ltb}
 use Rattle.frame.specs.declared.Settings.{Settings}
 use Rattle.frame.specs.Distance.{before}
-use Rattle.frame.specs.Layout.{downlink}
 use Rattle.frame.specs.Order.{member, positionOf}
 use Rattle.frame.specs.Settings.{orElse, settingsRefusal}
 use Rattle.frame.specs.Table.{windowOf}
@@ -44,7 +43,7 @@ use Rattle.agreement.specs.Confirmation.{readingAt}
 use Rattle.agreement.specs.Demand3.{Engine, feedbackEngine, fedAt, readingIn, HoldsAfter}
 use Rattle.agreement.specs.Run.{heardInRun, sentAgo, heardAgo, windowAt, windowMode, settingsIn, Schedule, Brings}
 use Rattle.agreement.specs.Window.{inTime, Bundled}
-use Rattle.agreement.proofs.Conclusions.{scheduler-may-conclude}
+use Rattle.agreement.proofs.Conclusions.{has-window, scheduler-may-conclude}
 use Rattle.agreement.proofs.Confirmation.{last-read}
 use Rattle.agreement.proofs.Demand3.{demand3}
 use Rattle.agreement.proofs.Feeds.{ago-brings}
@@ -91,21 +90,21 @@ module _ (b : Billable feedbackEngine) where
   abbrev set : Settings
   set = b .set
 
-  abbrev n : ℕ
+  abbrev pub n : ℕ
   n = b .s % 10
 
-  abbrev K : List ℕ
+  abbrev pub K : List ℕ
   K = windowAt (b .set) (b .s)
 
   -- What was sent k ago, by the schedule and by the records.
-  abbrev sent : ℕ → Send
+  abbrev pub sent : ℕ → Send
   sent = sentAgo (b .sent) (b .s)
 
-  abbrev recorded : ℕ → Send
+  abbrev pub recorded : ℕ → Send
   recorded = sentIn K (b .w)
 
   -- The settings of the window, which are accepted, and what may be sent is the same in them.
-  abbrev own : Settings
+  abbrev pub own : Settings
   own = settingsIn (b .set) (b .items) (b .s)
 
   good : settingsRefusal own ≡ 0
@@ -118,20 +117,11 @@ module _ (b : Billable feedbackEngine) where
   holds = demand3 .run (b .set) (b .replied .accepted) (b .sent) (b .replied .schedule) (b .items) (b .replied .brings)
 
   -- A subframe that was answered with a reply has a window.
-  has-window : 0 < length K
-  has-window = go K refl (downlink (set .config) n) refl
-    where
-      go : (ks : List ℕ) → K ≡ ks → (down : Bool) → downlink (set .config) n ≡ down → 0 < length K
-      go (k ∷ ks) is down e = rw is (omega arith)
-      go [] is true e =
-          let z : _≡_ {A = ℕ} 0 1 = cc (b .replied .answered, holds .taken (b .replied .item) (b .s) (b .replied .brought) (b .replied .subframe) e) in
-          absurd (omega arith)
-      go [] is false e =
-          let z : _≡_ {A = ℕ} 0 1 = cc (b .replied .answered, holds .noWindow (b .replied .item) (b .s) (b .replied .brought) (b .replied .subframe) e is) in
-          absurd (omega arith)
+  windowed : 0 < length K
+  windowed = has-window feedbackEngine demand3 (b .set) (b .sent) (b .items) (b .s) (b .r) (b .replied)
 
   -- The records say at each k of the window what was sent.
-  same : (k : ℕ) → member k K ≡ true → recorded k ≡ sent k
+  pub same : (k : ℕ) → member k K ≡ true → recorded k ≡ sent k
   same k e =
       let p = position-window (set .config) n k e in
       b .says (positionOf k K) (p .0) ∙ ap sent (p .1)
@@ -147,11 +137,11 @@ module _ (b : Billable feedbackEngine) where
       go (no h) = rw (lt-leb k (b .s) (omega arith)) (nothing-refused own (before n k))
 
   -- So no truthful record is refused.
-  none-called : callRefusal own n (b .w) ≡ 0
+  pub none-called : callRefusal own n (b .w) ≡ 0
   unfolding callRefusal sentRefusal
   none-called =
       rw (
-        window-accepted own n good has-window,
+        window-accepted own n good windowed,
         none-refused recorded own n (λ k e. rw (same k e) (valid k)),
         le-ltb 1 (blocksSent recorded K)
             (one-in-window recorded (set .config) n
@@ -165,7 +155,7 @@ module _ (b : Billable feedbackEngine) where
   brought : (k : ℕ) → Brings (sent k) (H k)
   brought k = ago-brings (b .sent) (heardInRun (b .set) (b .items)) (b .replied .brings) (b .s) k
 
-  abbrev read : Reading
+  abbrev pub read : Reading
   read = readingAt feedbackEngine (b .set) (b .sent) (b .items) (b .s) (b .r)
 
   abbrev answer : Answer
@@ -177,17 +167,17 @@ module _ (b : Billable feedbackEngine) where
       ⊎-elim (λ l. ap readingRefusal (l .isRead)) (λ l. ap readingRefusal (l .isRead))
       (last-read own good (b .sent) schedule (b .s) H brought (b .r) (feedbackEngine .resource own n) (readingIn feedbackEngine own (b .sent) (b .s)) _ window (b .replied .answered))
 
-  never-refused : readingRefusal read ≡ 0
+  pub never-refused : readingRefusal read ≡ 0
   never-refused = go (ℕ-discrete (own .mode) 0) (ℕ-discrete (length K) 1)
     where
       go : Dec (own .mode ≡ 0) → Dec (length K ≡ 1) → readingRefusal read ≡ 0
       go (yes mode) size =
-          bundled-read (holds .bundled (b .replied .item) (b .s) (b .replied .brought) (b .replied .subframe) has-window (inl mode))
+          bundled-read (holds .bundled (b .replied .item) (b .s) (b .replied .brought) (b .replied .subframe) windowed (inl mode))
       go (no mode) (yes size) =
-          bundled-read (holds .bundled (b .replied .item) (b .s) (b .replied .brought) (b .replied .subframe) has-window (inr size))
+          bundled-read (holds .bundled (b .replied .item) (b .s) (b .replied .brought) (b .replied .subframe) windowed (inr size))
       go (no mode) (no size) =
           ap readingRefusal
-          (holds .multiplexed (b .replied .item) (b .s) (b .replied .brought) (b .replied .subframe) has-window (omega (arith, accepted own good .mode)) size
+          (holds .multiplexed (b .replied .item) (b .s) (b .replied .brought) (b .replied .subframe) windowed (omega (arith, accepted own good .mode)) size
           .1 (b .r) (b .replied .answered) .isRead)
 
   -- So the call reads what the station reads, unless a size or the account is off.

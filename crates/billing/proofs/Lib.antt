@@ -1,4 +1,6 @@
 pub mod Billed
+pub mod Judged
 pub mod Same
 pub mod WorkedBills
 pub mod WrongBills
+pub mod WrongVerdicts

@@ -1,88 +1,35 @@
 -- What a crediting call asks of what was sent it asks at the k of the window alone: two stations that sent the same there are told,
 -- credited and refused alike.
 -- Assumes nothing.
-use Prim.Native.Nat.{ℕ, suc, _+_, _≤_}
+use Prim.Native.Nat.{ℕ, _+_, _≤_}
 use mathlib.Core.Bool.{Bool, true, false, cond, not, _&&_, false≢true, or-true}
 use mathlib.Core.List.{List, [], _∷_, map}
 use mathlib.Core.Path.{_≡_, refl, fun-ext}
 use native.Mathlib.Omega.{arith}
-use lib.Dec.{T, eqb, ltb}
+use lib.Dec.{T, eqb}
 use lib.Ieee.Fits.{and-l, and-r}
-use lib.ListN.{length, getD}
-use borrow.Author.Tests.{ltb-true, eq-eqb}
+use borrow.Author.Tests.{eq-eqb}
 use Rattle.frame.specs.declared.Settings.{Settings}
-use Rattle.frame.specs.Order.{member, timesOf}
+use Rattle.frame.specs.Order.{member}
 use Rattle.frame.specs.Table.{table, windowOf}
 use Rattle.frame.proofs.Bools.{never-true}
 use Rattle.frame.proofs.Windows.{everyRow, window-passes}
-use Rattle.station.specs.declared.Place.{Place}
-use Rattle.station.specs.declared.Place.the-variants as place
 use Rattle.station.specs.declared.Reading.{Reading}
-use Rattle.station.specs.declared.Reading.the-variants as reading
 use Rattle.confirmation.specs.declared.Send.{Send}
-use Rattle.confirmation.specs.Confirmed.{namedSent, sentUpTo, holdsFor, saysAck, confirmed}
-use Rattle.confirmation.specs.Sent.{isBlock, toldFrom, toldOf}
+use Rattle.confirmation.specs.Sent.{isBlock, toldOf}
+use Rattle.confirmation.proofs.Same.{told-same, confirmed-same}
 use Rattle.confirming.specs.Refusals.{rankOf, earlier, lowest, refusalAgo, blocksSent}
 use Rattle.credit.specs.Credit.{credited}
-use Rattle.agreement.proofs.Entries.{AllOf, all-of, member-at, in-time}
+use Rattle.agreement.proofs.Entries.{AllOf, all-of}
 
--- The same was sent k ago for each k of a list.
-abbrev Same : (ℕ → Send) → (ℕ → Send) → List ℕ → Type 0
-Same f g ks = AllOf (λ (k : ℕ). f k ≡ g k) ks
-
-up-to-same : (f g : ℕ → Send) (ts : List ℕ) → Same f g ts → (k : ℕ) → sentUpTo f k ts ≡ sentUpTo g k ts
-up-to-same f g [] a k = refl
-up-to-same f g (t ∷ ts) a k = rw (a .0, up-to-same f g ts (a .1) k)
-
-told-same : (f g : ℕ → Send) (ks : List ℕ) → Same f g ks → (m : ℕ) → toldFrom m ks f ≡ toldFrom m ks g
-told-same f g [] a m = refl
-told-same f g (k ∷ ks) a m = rw (a .0, told-same f g ks (a .1) (suc m))
-
+-- What the reading is told and what is credited.
 module _ (c n : ℕ) (f g : ℕ → Send) (same : (k : ℕ) → member k (windowOf c n) ≡ true → f k ≡ g k) where
-  abbrev K : List ℕ
-  K = windowOf c n
-
   pub same-told : toldOf (windowOf c n) f ≡ toldOf (windowOf c n) g
-  same-told = told-same f g K (all-of _ K same) 0
-
-  at : (m : ℕ) → ltb m (length K) ≡ true → f (getD K m 0) ≡ g (getD K m 0)
-  at m h = same (getD K m 0) (member-at c n m (ltb-true m (length K) h))
-
-  up-to : (k : ℕ) → sentUpTo f k (timesOf K) ≡ sentUpTo g k (timesOf K)
-  up-to = up-to-same f g (timesOf K) (all-of _ (timesOf K) (λ k e. same k (in-time c n k e)))
-
-  named-same : (p : Place) → namedSent K f p ≡ namedSent K g p
-  named-same (place.Pdcch m x) = go (ltb m (length K)) refl
-    where
-      go : (b : Bool) → ltb m (length K) ≡ b → namedSent K f (place.Pdcch m x) ≡ namedSent K g (place.Pdcch m x)
-      go true e = rw (at m e)
-      go false e = rw e
-  named-same (place.Block m) = go (ltb m (length K)) refl
-    where
-      go : (b : Bool) → ltb m (length K) ≡ b → namedSent K f (place.Block m) ≡ namedSent K g (place.Block m)
-      go true e = rw (at m e)
-      go false e = rw e
-
-  holds-same : (p : Place) (m : ℕ) → ltb m (length K) ≡ true → holdsFor K f p (getD K m 0) ≡ holdsFor K g p (getD K m 0)
-  holds-same (place.Pdcch named x) m h = rw (at m h, up-to (getD K named 0))
-  holds-same (place.Block named) m h = refl
-
-  says-same : (read : Reading) (m block : ℕ) → ltb m (length K) ≡ true → saysAck K f read m block ≡ saysAck K g read m block
-  says-same (reading.Bundled p b0 b1) m block h = rw (named-same p, holds-same p m h, at m h)
-  says-same (reading.Multiplexed p positions) m block h = rw (named-same p)
-  says-same (reading.Refused k) m block h = refl
-
-  confirmed-same : (read : Reading) (m block : ℕ) → confirmed K f read m block ≡ confirmed K g read m block
-  unfolding confirmed
-  confirmed-same read m block = go (ltb m (length K)) refl
-    where
-      go : (b : Bool) → ltb m (length K) ≡ b → confirmed K f read m block ≡ confirmed K g read m block
-      go true e = rw (at m e, says-same read m block e)
-      go false e = rw e
+  same-told = told-same f g (windowOf c n) same
 
   pub same-credited : (read : Reading) → credited (windowOf c n) f read ≡ credited (windowOf c n) g read
   unfolding credited
-  same-credited read = fun-ext (λ m. fun-ext (λ block. rw (confirmed-same read m block)))
+  same-credited read = fun-ext (λ m. fun-ext (λ block. rw (confirmed-same f g c n same read m block)))
 
 -- No k stands twice in a window.
 abbrev once : List ℕ → Bool
