@@ -898,10 +898,11 @@ struct feedback_reading_answer feedback_reading(struct feedback_settings setting
  *   scheduled block             b1 is 1, an only one if either is
  *   multiplexed                 every block sent at a delivered position
  *
- * It is proved that each confirmed block was heard and decoded by the handset, whatever
- * was lost, where what the proof at feedback_reading needs holds:
- * crates/confirming/specs/Blocks.antt has this call's answer, of the same rule. A window
- * without a reply confirms nothing; there is nothing to call then.
+ * It is proved that a station that gives what it sent, and a reply that came, is not
+ * refused, and that each confirmed block was heard and decoded by the handset, whatever
+ * was lost, where what the proof at feedback_reading needs holds
+ * (crates/billing/specs/Verdict.antt). A window without a reply confirms nothing; there
+ * is nothing to call then.
  *
  * Refuses 1 to 6, 17, 19, 24, 7, 20, 10, 11, 12, 18, 13 and 14. 20, 10, 11, 12 and 18 are
  * looked for in sent, each at all positions 0 to M - 1 before the next: 20 is a grant or
@@ -954,7 +955,8 @@ struct feedback_opened feedback_open_account(uint32_t price);
  * among them, each with the account that the one before answered, and that the octets are
  * then those of the list's credits that were not refused (crates/account/specs); and that
  * each credited block was heard and decoded by the handset, whatever was lost, where what
- * the proof at feedback_reading needs holds.
+ * the proof at feedback_reading needs holds (crates/billing/specs/Billing.antt): a tenant
+ * is charged for no octet that did not arrive.
  *
  * Which replies were credited is for the caller to know: a reply that is given twice is
  * charged twice. Credit each once, with the account that the credit before answered. One
