@@ -16,14 +16,18 @@ use Rattle.confirming.specs.declared.Sent.{Sent}
 use Rattle.confirming.specs.declared.SentWindow.{SentWindow}
 use Rattle.confirming.specs.Records.{nothingSent, sendOf, sentIn}
 
+-- What a record says, by whether it has no PDCCH and no blocks.
+abbrev said : Sent → Bool → Bool → Send
+said x p q =
+    cond p (cond q Nothing (Scheduled (record { blocks = x .blocks })))
+    (cond q (Released (record { cce = x .cce; dai = x .dai })) (Granted (record { blocks = x .blocks; cce = x .cce; dai = x .dai })))
+
 module _ (x : Sent) where
   pub pdcch-of : isPdcch (sendOf x) ≡ not (eqb (x .signalled) 0)
   unfolding sendOf
   pdcch-of = go (eqb (x .signalled) 0) (eqb (x .blocks) 0)
     where
-      go : (p q : Bool)
-          → isPdcch (cond p (cond q Nothing (Scheduled (record { blocks = x .blocks }))) (cond q (Released (record { cce = x .cce; dai = x .dai })) (Granted (record { blocks = x .blocks; cce = x .cce; dai = x .dai }))))
-          ≡ not p
+      go : (p q : Bool) → isPdcch (said x p q) ≡ not p
       go true true = refl
       go true false = refl
       go false true = refl
@@ -33,9 +37,7 @@ module _ (x : Sent) where
   unfolding sendOf
   block-of = go (eqb (x .signalled) 0) (eqb (x .blocks) 0)
     where
-      go : (p q : Bool)
-          → isBlock (cond p (cond q Nothing (Scheduled (record { blocks = x .blocks }))) (cond q (Released (record { cce = x .cce; dai = x .dai })) (Granted (record { blocks = x .blocks; cce = x .cce; dai = x .dai }))))
-          ≡ (p && not q)
+      go : (p q : Bool) → isBlock (said x p q) ≡ (p && not q)
       go true true = refl
       go true false = refl
       go false true = refl
@@ -45,9 +47,7 @@ module _ (x : Sent) where
   unfolding sendOf
   cce-of c = go (eqb (x .signalled) 0) (eqb (x .blocks) 0)
     where
-      go : (p q : Bool)
-          → hasCce (cond p (cond q Nothing (Scheduled (record { blocks = x .blocks }))) (cond q (Released (record { cce = x .cce; dai = x .dai })) (Granted (record { blocks = x .blocks; cce = x .cce; dai = x .dai })))) c
-          ≡ (not p && eqb (x .cce .0) c)
+      go : (p q : Bool) → hasCce (said x p q) c ≡ (not p && eqb (x .cce .0) c)
       go true true = refl
       go true false = refl
       go false true = refl
@@ -57,9 +57,7 @@ module _ (x : Sent) where
   unfolding sendOf
   blocks-of = go (eqb (x .signalled) 0) (eqb (x .blocks) 0) refl
     where
-      go : (p q : Bool) → eqb (x .blocks) 0 ≡ q
-          → blocksOf (cond p (cond q Nothing (Scheduled (record { blocks = x .blocks }))) (cond q (Released (record { cce = x .cce; dai = x .dai })) (Granted (record { blocks = x .blocks; cce = x .cce; dai = x .dai }))))
-          ≡ x .blocks
+      go : (p q : Bool) → eqb (x .blocks) 0 ≡ q → blocksOf (said x p q) ≡ x .blocks
       go true true e = sym (eqb-true (x .blocks) 0 e)
       go true false e = refl
       go false true e = sym (eqb-true (x .blocks) 0 e)
