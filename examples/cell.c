@@ -2,8 +2,9 @@
  * A worked cell: a station that sends grants, scheduled blocks and releases, reads the replies and
  * bills a tenant for what they confirm, a radio that loses some on the way to the handset, higher
  * layers that change the mode, and a check that sees both ends. A line for each window and each
- * change; it fails if a block leaves the station's retransmission buffer undecoded, or if octets
- * are billed that were not decoded. Last comes a handset with two antenna ports.
+ * change; it fails if a block leaves the station's retransmission buffer undecoded, or if more
+ * octets are billed in a window than were decoded there. Last comes a handset with two antenna
+ * ports.
  *   cc -std=c11 -I include -o cell examples/cell.c target/staticlib/libfeedback.a
  *   ./cell 5 0 40 50 7   configuration 5, mode 0 (bundling), 40 frames, 50 % lost, seed 7
  */

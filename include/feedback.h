@@ -39,7 +39,8 @@
  *             station sends no grant and no scheduled block there. A release may be
  *             sent there, and is heard and answered as anywhere: windows, positions
  *             and resources do not move. In all other special subframe configurations
- *             a special subframe is like a downlink one here.
+ *             a special subframe is like a downlink one here, but for the sizes of its
+ *             transport blocks.
  * grant       a PDCCH that schedules one or two transport blocks in its own
  *             subframe. Its first CCE and its DAI come with it.
  * scheduled   one or two transport blocks that come on a schedule (semi-persistent
@@ -206,7 +207,8 @@
  * no price above 4294967295.
  *
  * FEEDBACK_SETTINGS and FEEDBACK_CLAIM, and the functions that make a record of what was
- * sent, take numbers of any width: one that is too wide becomes one that the call refuses.
+ * sent, take numbers of any width: one that is too wide becomes one that a call refuses
+ * where it looks at it.
  *
  * Answers come back by value. The calls keep nothing from one call to the next,
  * allocate nothing, and may be made from several threads at once. GCC, Clang and
@@ -306,7 +308,7 @@ extern "C" {
  * Why a call refuses: the value of refusal in every answer, 0 for no refusal. Each
  * call names the refusals it can give. Where several causes are met, the first in this
  * order is given:
- * 21, 22, 1 to 6, 17, 19, 24, 7, 8, 9, 20, 10, 11, 12, 18, 25, 13, 14, 26, 15, 16; 23 in
+ * 21, 22, 1 to 6, 17, 19, 24, 7, 8, 9, 20, 10, 11, 12, 18, 25, 26, 13, 14, 15, 16; 23 in
  * feedback_replay after 19 and before any record, in feedback_trace_write last of all.
  * 26 is about what a reading credits, so it is met only where 13 and 14 are not.
  * A refused call changes nothing: no buffer is written, no state moves on, nothing is
@@ -608,7 +610,7 @@ struct feedback_account {
 struct feedback_opened {
     uint16_t refusal;                /* 0 or 25 */
     struct feedback_account account; /* the new account; if refused, one with the price given and
-                                        zeros, for which feedback_credit refuses 25 */
+                                        zeros, which feedback_credit refuses */
 };
 
 /* The answer of feedback_credit. 32 bytes. */
@@ -922,13 +924,13 @@ struct feedback_confirmed_answer feedback_confirmed(struct feedback_settings set
  *   price      smallest coins per million octets, 0 to FEEDBACK_PRICE_MOST
  *
  * Refuses 25, a price over FEEDBACK_PRICE_MOST. The account beside it has that price and
- * zeros, and feedback_credit refuses 25 for it.
+ * zeros: feedback_credit refuses 25 for it, where nothing that comes before 25 is met.
  */
 FEEDBACK_MUST_USE
 struct feedback_opened feedback_open_account(uint32_t price);
 
 /*
- * The octets that a reply confirms, credited to an account and charged.
+ * The octets of the blocks that a reply credits, added to an account and charged.
  *
  *   settings   the settings of the handset that replied. settings.mode is the mode of
  *              THIS window, as for feedback_reading
@@ -954,16 +956,18 @@ struct feedback_opened feedback_open_account(uint32_t price);
  * It is proved that this holds after any list of credits from a new account, refused ones
  * among them, each with the account that the one before answered, and that the octets are
  * then those of the list's credits that were not refused (crates/account/specs); and that
- * each credited block was heard and decoded by the handset, whatever was lost, where what
- * the proof at feedback_reading needs holds (crates/billing/specs/Billing.antt): a tenant
- * is charged for no octet that did not arrive.
+ * each credited block was heard and decoded by the handset, whatever was lost, where sent
+ * says what was sent and what the proof at feedback_reading needs holds
+ * (crates/billing/specs/Billing.antt): a tenant is charged for no octet that did not
+ * arrive.
  *
  * Which replies were credited is for the caller to know: a reply that is given twice is
  * charged twice. Credit each once, with the account that the credit before answered. One
  * account may take the replies of several handsets.
  *
- * Refuses as feedback_confirmed, with 25 between 18 and 13 and with 26 after 14: 1 to 6,
- * 17, 19, 24, 7, 20, 10, 11, 12, 18, 25, 13, 14 and 26. 25 is looked for in every block
+ * Refuses as feedback_confirmed, with 25 and 26 between 18 and 13: 1 to 6, 17, 19, 24, 7,
+ * 20, 10, 11, 12, 18, 25, 26, 13 and 14. 26 is about what would be credited, so it is met
+ * only where 13 and 14 are not. 25 is looked for in every block
  * that was sent in the window, credited or not, and in the account: I_TBS over 26; N_PRB
  * not 1 to 110, whatever settings.nrb is; a price over FEEDBACK_PRICE_MOST; a carry not
  * below 1000000; octets * price not 1000000 * charged + carry, for which products are

@@ -550,7 +550,7 @@ static void port_settings(void)
 static void order(void)
 {
     HOLDS(strstr(text,
-                 " 21, 22, 1 to 6, 17, 19, 24, 7, 8, 9, 20, 10, 11, 12, 18, 25, 13, 14, 26, 15, 16;"
+                 " 21, 22, 1 to 6, 17, 19, 24, 7, 8, 9, 20, 10, 11, 12, 18, 25, 26, 13, 14, 15, 16;"
                  " 23 in\n"
                  " * feedback_replay after 19 and before any record, in feedback_trace_write last"
                  " of all.\n"
@@ -1313,7 +1313,7 @@ static void credit_scheduled(void)
     account = CREDITS(settings, 7, sent, 104, 1, 1, account, 0);
 }
 
-/* The refusals of confirmed_refused, with 25 between 18 and 13 and 26 after 14. */
+/* The refusals of confirmed_refused, with 25 between 18 and 13, and 26 where 13 and 14 are not met. */
 static void credit_refused(void)
 {
     struct feedback_settings settings = with_special(settings_of(2, 0, 2), 0, 5);

@@ -16,6 +16,8 @@
 --   grown        adds nothing to the account                                         not-adds-nothing
 --                adds twice                                                          not-adds-twice
 --                another price                                                       not-other-price
+--                the octets without their coins                                      not-uncharged
+--                a total beyond the most                                             not-beyond
 --   left         adds what is refused                                                not-adds-refused
 --                answers octets beside a refusal                                     not-octets-refused
 --
@@ -99,6 +101,14 @@ not-adds-twice d = omega (arith, d .each bothHeard new .grown refl .octets)
 pub not-other-price : Billed feedbackEngine (answering (λ a c. answer (c .refusal) (c .octets) (accountAt 1000000 (a .octets + c .octets)))) → ⊥
 unfolding crediting bothHeard
 not-other-price d = omega (arith, d .each bothHeard new .grown refl .price)
+
+pub not-uncharged : Billed feedbackEngine (answering (λ a c. answer (c .refusal) (c .octets) (accountOf (a .octets + c .octets) 0 0))) → ⊥
+unfolding crediting bothHeard
+not-uncharged d = omega (arith, d .each bothHeard new .grown refl .accepted)
+
+pub not-beyond : Billed feedbackEngine (answering (λ a c. cond (eqb (c .refusal) 26) (answer 0 330 (accountAt (a .price) (a .octets + 330))) c)) → ⊥
+unfolding crediting bothHeard
+not-beyond d = omega (arith, d .each bothHeard (accountAt 300000 999999999671) .grown refl .most)
 
 pub not-adds-refused : Billed feedbackEngine (answering (λ a c. cond (eqb (c .refusal) 26) (answer 26 0 (accountAt (a .price) (a .octets + 330))) c)) → ⊥
 unfolding crediting bothHeard

@@ -95,7 +95,7 @@ fn charge_refusal(config: u16, n: u16, sent: SentWindow, a: Account) -> u16
     account::account_refusal(a)
 }
 
-// The octets of a reading that is not refused, added to the account.
+// The octets that a reading credits, added to the account; a refused one adds nothing.
 fn credit_reading(config: u16, n: u16, sent: SentWindow, reading: Reading, a: Account) -> Credited
     ensures { λ r. ⌜ r ≡ creditBy config n sent reading a ⌝ }
 {

@@ -9,7 +9,7 @@ use lib.Dec.{T, eqb, leb, eqb→eq, leb→le}
 use lib.Ieee.Fits.{and-l, and-r}
 use lib.ListN.{getD}
 use borrow.Author.Tests.{le-leb}
-use Rattle.sizes.specs.Table.{blocks, printed, inTable, blockSize, flat, sizeIn, Regular}
+use Rattle.sizes.specs.Table.{blocks, printed, inTable, blockSize, flat, sizeIn, Regular, EachRegular}
 use Rattle.sizes.proofs.Entries.{every, at}
 
 -- the size at place k is the printed one
@@ -97,3 +97,7 @@ size-most i n = go (inTable i n) refl
         let r = regular i n (w .0) (w .1) (w .2) in
         rw e at (r .most)
     go false e = omega arith
+
+-- Of the whole table.
+pub each-regular : EachRegular
+each-regular = regular

@@ -1,7 +1,7 @@
 -- Table 7.1.7.2.1-1 of TS 36.213, "Transport block size table (dimension 27x110)", in the eleven blocks of the print: a row for each
 -- I_TBS from 0 to 26, ten N_PRB to a block. Its sizes are not everywhere rising: I_TBS 6 with N_PRB 1 has 328, as printed.
 -- Assumes nothing.
-use Prim.Native.Nat.{ℕ, zero, suc, _+_, _*_, _-_, _/_, _%_, _≤_, max}
+use Prim.Native.Nat.{ℕ, zero, suc, _+_, _*_, _-_, _/_, _%_, _<_, _≤_, max}
 use mathlib.Core.Bool.{Bool, cond, _&&_}
 use mathlib.Core.List.{List, [], _∷_, _++_}
 use mathlib.Core.Path.{_≡_}
@@ -419,8 +419,12 @@ flat = rowsFrom blocks 0 27
 unfoldable pub sizeIn : List ℕ → ℕ → ℕ → ℕ
 sizeIn sizes i n = cond (inTable i n) (getD sizes (110 * i + n - 1) 0) 0
 
--- What holds of every size of the table.
+-- What holds of a size.
 pub record Regular (size : ℕ) : Type 0 where
   pub eights : size % 8 ≡ 0
   pub least : 16 ≤ size
   pub most : size ≤ 75376
+
+-- "over the whole table .. each size is a multiple of 8 from 16 to 75,376".
+abbrev pub EachRegular : Type 0
+EachRegular = (i n : ℕ) → i < 27 → 0 < n → n < 111 → Regular (blockSize i n)
