@@ -46,7 +46,7 @@ own-acknowledges x block b0 b1 carries most bit = (
 )
 
 module _ (ks : List ℕ) (sent : ℕ → Send) where
-  split : (read : Reading) (m block : ℕ) → credited ks sent read m block ≡ true → (confirmed ks sent read m block ≡ true) × (ownBit read block ≡ true)
+  pub split : (read : Reading) (m block : ℕ) → credited ks sent read m block ≡ true → (confirmed ks sent read m block ≡ true) × (ownBit read block ≡ true)
   unfolding credited
   split read m block e = both (confirmed ks sent read m block) (ownBit read block) e
 

@@ -2,5 +2,8 @@ pub mod Answers
 pub mod Crediting
 pub mod Exactly
 pub mod Lists
+pub mod OutOfRange
 pub mod Refusing
+pub mod Same
 pub mod Sums
+pub mod Worked

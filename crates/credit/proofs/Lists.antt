@@ -1,18 +1,17 @@
 -- Over any list of credits from a new account: document 02, U10. Each call leaves the account or adds what it answers, and the law of the
 -- account (account/specs/Credits.antt) does the rest.
 -- Assumes nothing.
-use Prim.Native.Nat.{ℕ, zero, suc, _≤_}
-use mathlib.Core.List.{List}
+use Prim.Native.Nat.{ℕ, zero, suc}
 use mathlib.Core.Path.{_≡_, refl}
 use native.Mathlib.Omega.{arith}
 use borrow.Author.Tests.{eq-eqb}
 use Rattle.account.specs.declared.Account.{Account}
 use Rattle.account.specs.Account.{addOf}
-use Rattle.account.specs.Credits.{Booked, Charged}
+use Rattle.account.specs.Credits.{Booked}
 use Rattle.account.proofs.Credits.{refused-booked, added-booked, over-any-list}
 use Rattle.confirming.specs.Blocks.{readingRefusal}
 use Rattle.credit.specs.Credit.{creditedOctets, addedOf, refusedOr, creditBy, creditReading, creditOf}
-use Rattle.credit.specs.Exactly.{Call, answered, answerOf}
+use Rattle.credit.specs.Exactly.{Call, answered, answerOf, CreditsCharged}
 
 booked-or : (k octets : ℕ) (a : Account) → Booked a (answered (refusedOr k a (addedOf a octets)))
 booked-or zero octets a = added-booked a octets (answered (addedOf a octets)) refl refl (λ e. rw (eq-eqb (addOf a octets .refusal) 0 e))
@@ -24,7 +23,5 @@ booked c a =
     let read = creditReading (c .settings) (c .n) (c .sent) (c .resource) (c .b0) (c .b1) a in
     booked-or (readingRefusal read) (creditedOctets (c .settings .config) (c .n) (c .sent) read) a
 
--- "Over any list of credits from a new account, octets × price = 1,000,000 × charged + carry, the carry below 1,000,000 and the octets
--- those of the list's credits not refused."
-pub credits-charged : (price : ℕ) → price ≤ 1000000 → (cs : List Call) → Charged answerOf price cs
+pub credits-charged : CreditsCharged
 credits-charged = over-any-list Call answerOf booked

@@ -1,5 +1,5 @@
--- What is credited and what is refused, in 02's words: proofs/Exactly.antt shows that the definitions are exactly this. And the law over
--- any list of credits: proofs/Lists.antt.
+-- What is credited and what is refused, in 02's words: proofs/Exactly.antt and proofs/Answers.antt show that the definitions are exactly
+-- this. And the law over any list of credits: proofs/Lists.antt.
 -- Assumes nothing.
 use Prim.Native.Nat.{ℕ, _+_, _<_, _≤_}
 use mathlib.Core.Bool.{true}
@@ -10,6 +10,7 @@ use lib.ListN.{length, getD}
 use Rattle.frame.specs.declared.Settings.{Settings}
 use Rattle.frame.specs.Order.{timesOf}
 use Rattle.frame.specs.Table.{windowOf}
+use Rattle.resource.specs.Calls.{sizeOf}
 use Rattle.station.specs.declared.Place.{Place}
 use Rattle.station.specs.declared.Place.the-variants as place
 use Rattle.station.specs.declared.Reading.{Reading}
@@ -21,11 +22,11 @@ use Rattle.confirmation.specs.Sent.{isPdcch, blocksOf}
 use Rattle.confirming.specs.declared.Sent.{Sent}
 use Rattle.confirming.specs.declared.SentWindow.{SentWindow}
 use Rattle.confirming.specs.Blocks.{readingRefusal}
-use Rattle.confirming.specs.Exactly.{replyRead}
+use Rattle.confirming.specs.Exactly.{sendAt, replyRead}
 use Rattle.confirming.specs.Records.{recordAt}
 use Rattle.confirming.specs.Refusals.{callRefusal}
 use Rattle.account.specs.declared.Account.{Account}
-use Rattle.account.specs.Credits.{Answer}
+use Rattle.account.specs.Credits.{Answer, Charged}
 use Rattle.account.specs.Laws.{InOrder, Grown}
 use Rattle.credit.specs.declared.Credited.{Credited}
 use Rattle.credit.specs.Credit.{credited, itbsOf, nprbOf, creditedOctets, creditOf}
@@ -70,6 +71,15 @@ SizeOut size w =
     (m block : ℕ) × (m < size) × (block ≤ 1) × (block < recordAt size w m .blocks)
     × ((26 < itbsOf (recordAt size w m) block) ⊎ (nprbOf (recordAt size w m) block < 1) ⊎ (110 < nprbOf (recordAt size w m) block))
 
+-- Two windows say the same: at each position the same was sent, with the same sizes of the blocks that it carries.
+abbrev pub SaySame : Settings → ℕ → SentWindow → SentWindow → Type 0
+SaySame s n w v =
+    (m : ℕ) → m < sizeOf s n
+    → (sendAt s n w m ≡ sendAt s n v m)
+    × ((block : ℕ) → block < blocksOf (sendAt s n w m)
+    → (itbsOf (recordAt (sizeOf s n) w m) block ≡ itbsOf (recordAt (sizeOf s n) v m) block)
+    × (nprbOf (recordAt (sizeOf s n) w m) block ≡ nprbOf (recordAt (sizeOf s n) v m) block))
+
 -- What one call answers.
 pub record CreditAnswers (s : Settings) (n : ℕ) (w : SentWindow) (r b0 b1 : ℕ) (a : Account) : Type 0 where
   -- what is refused for settings, subframe and what was sent comes first
@@ -91,6 +101,8 @@ pub record CreditAnswers (s : Settings) (n : ℕ) (w : SentWindow) (r b0 b1 : �
       → (creditOf s n w r b0 b1 a .refusal ≡ 0) × (creditOf s n w r b0 b1 a .octets ≡ octets) × Grown a octets (creditOf s n w r b0 b1 a .account))
   -- a refusal credits nothing and leaves the account
   pub leaves : (creditOf s n w r b0 b1 a .refusal ≡ 0 → ⊥) → (creditOf s n w r b0 b1 a .octets ≡ 0) × (creditOf s n w r b0 b1 a .account ≡ a)
+  -- neither the records from M on, nor fields that a record's kind has not, nor sizes of blocks that it does not carry are looked at
+  pub same : (v : SentWindow) → SaySame s n w v → creditOf s n w r b0 b1 a ≡ creditOf s n v r b0 b1 a
 
 -- A call without its account: settings, n, what was sent, resource and bits.
 pub record Call : Type 0 where
@@ -107,3 +119,8 @@ answered r = record { refusal = r .refusal; octets = r .octets; account = r .acc
 
 abbrev pub answerOf : Call → Account → Answer
 answerOf c a = answered (creditOf (c .settings) (c .n) (c .sent) (c .resource) (c .b0) (c .b1) a)
+
+-- "Over any list of credits from a new account, octets × price = 1,000,000 × charged + carry, the carry below 1,000,000 and the octets
+-- those of the list's credits not refused." The price is "0 to 1,000,000".
+abbrev pub CreditsCharged : Type 0
+CreditsCharged = (price : ℕ) → price ≤ 1000000 → (cs : List Call) → Charged answerOf price cs
