@@ -1,6 +1,7 @@
 -- The way back from the numbers of a C answer to the answer, and that no answer of a call is lost on the way there. feedback_answered,
--- feedback_make, feedback_change_mode, feedback_replay and feedback_trace_write hand on the engine's own structs, `answeredOf`, `makeOf`,
--- `changeOf`, `replayOf` and `writeOf`: there is no way there on which to lose something.
+-- feedback_confirmed, feedback_open_account, feedback_credit, feedback_make, feedback_change_mode, feedback_replay and
+-- feedback_trace_write hand on the engine's own structs, `answeredOf`, `confirmedOf`, `openOf`, `creditOf`, `makeOf`, `changeOf`,
+-- `replayOf` and `writeOf`: there is no way there on which to lose something.
 -- Assumes nothing.
 use Prim.Native.Nat.{ℕ, zero, suc}
 use mathlib.Core.Bool.{true, cond, not}
