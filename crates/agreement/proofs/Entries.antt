@@ -5,7 +5,6 @@ use mathlib.Core.Bool.{Bool, true, false, cond, _||_, false≢true, or-true}
 use mathlib.Core.List.{List, [], _∷_, map}
 use mathlib.Core.Logic.{inl, inr}
 use mathlib.Core.Path.{_≡_, refl, sym, ap, _∙_}
-use native.Mathlib.Nat.{le-of-suc-le-suc, not-suc-le-zero}
 use native.Mathlib.Omega.{arith}
 use lib.Dec.{eqb}
 use lib.ListN.{length, getD}
@@ -16,6 +15,7 @@ use Rattle.frame.proofs.Times.{in-time-order}
 use Rattle.frame.proofs.Windows.{position-window, window-position, window-k}
 use Rattle.confirmation.specs.declared.Send.{Send}
 use Rattle.confirmation.specs.Sent.{isPdcch as isSentPdcch}
+use Rattle.confirmation.proofs.Same.{member-at as listed}
 use Rattle.heard.specs.declared.Heard.{Heard}
 use Rattle.heard.specs.declared.Heard.the-variants.{Nothing, Granted, Scheduled, Released}
 use Rattle.fold.specs.declared.Seen.{Seen}
@@ -64,12 +64,7 @@ of-window c n k e =
 
 -- The k at a position is one of the window's, and no other position has it.
 pub member-at : (c n m : ℕ) → m < length (windowOf c n) → member (getD (windowOf c n) m 0) (windowOf c n) ≡ true
-member-at c n m h = go (windowOf c n) m h
-  where
-    go : (ks : List ℕ) (m : ℕ) → m < length ks → member (getD ks m 0) ks ≡ true
-    go [] m h = absurd (not-suc-le-zero h)
-    go (k ∷ ks) zero h = head-member k ks
-    go (k ∷ ks) (suc m) h = tail-member (getD ks m 0) k ks (go ks m (le-of-suc-le-suc h))
+member-at c n m h = listed (windowOf c n) m h
 
 pub same-position : (c n i j : ℕ) → i < length (windowOf c n) → j < length (windowOf c n) → getD (windowOf c n) i 0 ≡ getD (windowOf c n) j 0 → i ≡ j
 same-position c n i j hi hj e =
