@@ -1,11 +1,13 @@
 // The account of a tenant, which pays for delivered octets (document 02, U10): what it holds, when it is refused, and octets added to it.
+#![tactic(auto)]
+
 ghost use Rattle.std.specs.Prelude.{◌≡◌, ◌≤◌};
 ghost use Rattle.account.specs.Account.{account_at, account_refusal, open_of, add_refusal, add_of};
 
 // The octets credited so far, what they cost in smallest coins, the price in smallest coins per million octets, and what is left over
 // in millionths of a smallest coin. An account that is lent may hold any numbers: a call refuses what 02 does not allow.
 #[repr(C)]
-#[derive(Drop)]
+#[derive(Clone, Copy)]
 pub struct Account {
     pub octets: u64,
     pub charged: u64,
@@ -15,7 +17,7 @@ pub struct Account {
 
 // A new account, with its refusal, 0 for none. Beside a refusal stands an account that every call refuses.
 #[repr(C)]
-#[derive(Drop)]
+#[derive(Clone, Copy)]
 pub struct Opened {
     pub refusal: u16,
     pub account: Account,
@@ -23,7 +25,7 @@ pub struct Opened {
 
 // The account after octets were added, with the refusal, 0 for none. Beside a refusal it is as it was.
 #[repr(C)]
-#[derive(Drop)]
+#[derive(Clone, Copy)]
 pub struct Added {
     pub refusal: u16,
     pub account: Account,

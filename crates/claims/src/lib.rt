@@ -1,6 +1,8 @@
 // Claims of a cell (document 01): which claim is the first that clashes with an earlier one. With one antenna port that is one that
 // equals it, with two one that shares a resource with it (document 02, U9). The scratch has a byte for each resource here, a bit for
 // each in bits.rt (U6).
+#![tactic(auto)]
+
 mod bits;
 
 ghost use Rattle.std.specs.Prelude.{◌≡◌, length, replicate};
@@ -14,7 +16,7 @@ use resource::{Cce, Mapped};
 
 // The answer: clean; the index of the first claim that clashes with an earlier one; or a refusal's number with an index, that of the
 // first bad claim for 16, else 0.
-#[derive(Drop)]
+#[derive(Clone, Copy)]
 pub enum Checked {
     Clean,
     Clash(usize),
@@ -23,7 +25,7 @@ pub enum Checked {
 
 // The window that the claims are for: the settings, the uplink subframe n, M, N_4, how far above its first resource a claim's second
 // one is, 1 with two antenna ports and 0 with one, where it is the first, and how many marks there are.
-#[derive(Drop)]
+#[derive(Clone, Copy)]
 struct ClaimedWindow {
     s: Settings,
     n: u16,

@@ -1,9 +1,11 @@
 // What a station sent in a window, and which blocks its reading of the reply confirms: the definition in specs/Confirmed.antt.
 // The types of what was sent stand here, below the third demand's theorem and beside no handset, so that a station's code has them.
+#![tactic(auto)]
+
 use resource::Cce;
 
 // A grant as the station sent it: the blocks it carries, its first CCE and its DAI.
-#[derive(Drop)]
+#[derive(Clone, Copy)]
 pub struct SentGrant {
     pub blocks: u16,
     pub cce: Cce,
@@ -11,20 +13,20 @@ pub struct SentGrant {
 }
 
 // A scheduled block as the station sent it, with no PDCCH: the blocks it carries.
-#[derive(Drop)]
+#[derive(Clone, Copy)]
 pub struct SentBlock {
     pub blocks: u16,
 }
 
 // A PDCCH that releases the schedule, as the station sent it: its first CCE and its DAI.
-#[derive(Drop)]
+#[derive(Clone, Copy)]
 pub struct SentRelease {
     pub cce: Cce,
     pub dai: u16,
 }
 
 // What the station sent in a subframe.
-#[derive(Drop)]
+#[derive(Clone, Copy)]
 pub enum Send {
     Nothing,
     Granted(SentGrant),

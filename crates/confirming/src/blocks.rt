@@ -18,7 +18,7 @@ use station::{Place, Reading};
 
 // What is kept of the place that a reading names: whether that was sent there, its k, whether it is a scheduled block, and whether at
 // most four PDCCHs were sent up to and with it.
-#[derive(Drop)]
+#[derive(Clone, Copy)]
 struct Named {
     there: bool,
     k: u16,

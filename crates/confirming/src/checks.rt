@@ -95,7 +95,7 @@ fn earlier(a: u16, b: u16) -> u16
 
 // What is found in the records of a window from a position on: the refusal that comes first, the scheduled blocks, and the position of
 // the first of them.
-#[derive(Drop)]
+#[derive(Clone, Copy)]
 struct Looked {
     refusal: u16,
     blocks: u16,

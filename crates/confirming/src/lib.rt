@@ -1,4 +1,6 @@
 // What a station sent in a window, and which blocks of it the reply confirms: the verdict that a scheduler acts on (document 02, U10).
+#![tactic(auto)]
+
 mod blocks;
 mod checks;
 
@@ -15,7 +17,7 @@ use station::{Reading, Told};
 // release if it carries none. Blocks without a PDCCH are a scheduled block; neither is nothing. `cce` and `dai` are a PDCCH's, and
 // `itbs0` and `nprb0` I_TBS and N_PRB of the first block or the only one, `itbs1` and `nprb1` those of the second.
 #[repr(C)]
-#[derive(Drop)]
+#[derive(Clone, Copy)]
 pub struct Sent {
     pub signalled: u16,
     pub blocks: u16,
@@ -29,14 +31,14 @@ pub struct Sent {
 
 // What the station sent in a window, by position; the records from M on are ignored.
 #[repr(C)]
-#[derive(Drop)]
+#[derive(Clone, Copy)]
 pub struct SentWindow {
     pub at: [Sent; 9],
 }
 
 // The refusal, 0 for none, and the confirmed blocks, bit p for position p: the first block there or the only one, and the second.
 #[repr(C)]
-#[derive(Drop)]
+#[derive(Clone, Copy)]
 pub struct Confirmed {
     pub refusal: u16,
     pub first: u16,
@@ -44,7 +46,7 @@ pub struct Confirmed {
 }
 
 // What is refused before the reply is looked at, 0 for nothing, and then the position of the scheduled block that was sent.
-#[derive(Drop)]
+#[derive(Clone, Copy)]
 pub struct Checked {
     pub refusal: u16,
     pub told: Told,

@@ -1,4 +1,6 @@
 // How many windows the subframes from a frame's start complete (document 02, U3, 23; U14).
+#![tactic(auto)]
+
 ghost use Rattle.std.specs.Prelude.{◌≡◌, ◌≤◌};
 ghost use Rattle.counting.specs.Windows.{windows_before};
 

@@ -1,4 +1,6 @@
 // Crediting delivered octets to an account (document 02, U10): what a reply to a sent window is worth.
+#![tactic(auto)]
+
 mod octets;
 
 ghost use Rattle.std.specs.Prelude.{◌≡◌, ◌≤◌, length};
@@ -16,7 +18,7 @@ use station::Reading;
 
 // The refusal, 0 for none, the octets credited, and the account afterwards; beside a refusal it is as it was.
 #[repr(C)]
-#[derive(Drop)]
+#[derive(Clone, Copy)]
 pub struct Credited {
     pub refusal: u16,
     pub octets: u32,

@@ -11,7 +11,7 @@ use frame::Window;
 use station::Reading;
 
 // Blocks as sets of positions, bit p for position p: the first block there or the only one, and the second.
-#[derive(Drop)]
+#[derive(Clone, Copy)]
 pub struct Blocks {
     pub first: u16,
     pub second: u16,

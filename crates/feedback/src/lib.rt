@@ -1,5 +1,7 @@
 // The engine's C interface: one static library, libfeedback.a, with the header include/feedback.h. The papers' numbers are sixteen
 // bits wide. An answer is a struct of numbers (`numbers`): the refusal, 0 for none, and the values, which are 0 where they say nothing.
+#![tactic(auto)]
+
 ghost use Rattle.std.specs.Prelude.{◌≡◌, length};
 ghost use Rattle.account.specs.Account.{open_of};
 ghost use Rattle.confirming.specs.Blocks.{confirmed_of};

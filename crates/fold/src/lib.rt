@@ -1,4 +1,6 @@
 // What a bundled reply needs of a window, found subframe by subframe (document 01, "The bundled reply"; document 02, U1).
+#![tactic(auto)]
+
 mod window;
 
 ghost use Rattle.std.specs.Prelude.{◌≡◌, ◌≤◌};
@@ -10,7 +12,7 @@ pub use window::seen_in;
 
 // What the fold over a window finds: U, V, the position and first CCE of the last heard PDCCH, each block's AND, and whether a
 // scheduled block was heard.
-#[derive(Drop)]
+#[derive(Clone, Copy)]
 pub struct Seen {
     pub u: u16,
     pub v: u16,

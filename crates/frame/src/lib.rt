@@ -1,4 +1,6 @@
 // The frame of a TDD cell: its settings, its layout, and the windows of Table 10.1-1.
+#![tactic(auto)]
+
 mod answering;
 mod digits;
 mod refusals;
@@ -19,7 +21,7 @@ pub use table::{earliest_k_of, is_downlink, is_special, size_of, window_of};
 // scheduled blocks (document 02, U1), 65535 where none is set. `prefix` is 0 for the normal cyclic prefix and 1 for the extended one,
 // `special` is the special subframe configuration (U2). `ports` is the number of antenna ports on which the handset sends (U9).
 #[repr(C)]
-#[derive(Drop)]
+#[derive(Clone, Copy)]
 pub struct Settings {
     pub config: u16,
     pub nrb: u16,
@@ -34,7 +36,7 @@ pub struct Settings {
 
 // The window of an uplink subframe: M, then K in the print's order, and its positions in time order, earliest first. Zeros stand
 // after the M entries of both.
-#[derive(Drop)]
+#[derive(Clone, Copy)]
 pub struct Window {
     pub size: u16,
     pub k: [u16; 9],
@@ -44,7 +46,7 @@ pub struct Window {
 // The uplink subframe n that answers for a downlink subframe, k subframes after it, and the position of that subframe in the window
 // of n; or the refusal, 0 for none, with zeros.
 #[repr(C)]
-#[derive(Drop)]
+#[derive(Clone, Copy)]
 pub struct Answered {
     pub refusal: u16,
     pub n: u16,

@@ -15,11 +15,11 @@ const SPECIAL: u16 = 3;
 const UPLINK: u16 = 5;
 
 // A row of Table 10.1-1: M, then K in the print's order.
-#[derive(Drop)]
+#[derive(Clone, Copy)]
 struct Row(u16, [u16; 9]);
 
 // The positions of a row's K.
-#[derive(Drop)]
+#[derive(Clone, Copy)]
 struct Order([u16; 9]);
 
 // Subframes 0 to 9 of a configuration: D downlink, S special, U uplink.

@@ -1,5 +1,7 @@
 // The running handset (document 01, "The running handset"): made from settings, then fed subframe after subframe,
 // with changes of mode in between (document 02, U8).
+#![tactic(auto)]
+
 mod changing;
 mod feeding;
 mod making;
@@ -16,7 +18,7 @@ use reply::Answer;
 // The handset's state, 74 bytes: its settings, the subframe it expects, and for the last 13 subframes, newest first, the mode that
 // stood when each was fed, a bit each from the lowest on, and what it heard.
 #[repr(C)]
-#[derive(Drop)]
+#[derive(Clone, Copy)]
 pub struct Handset {
     pub settings: Settings,
     pub next: u16,
@@ -26,7 +28,7 @@ pub struct Handset {
 
 // A handset that was made, or the refusal, 0 for none, with a handset that every feed refuses.
 #[repr(C)]
-#[derive(Drop)]
+#[derive(Clone, Copy)]
 pub struct Made {
     pub refusal: u16,
     pub handset: Handset,
@@ -34,14 +36,14 @@ pub struct Made {
 
 // The handset after a change of mode, or the refusal, 0 for none, with the handset as it was.
 #[repr(C)]
-#[derive(Drop)]
+#[derive(Clone, Copy)]
 pub struct Changed {
     pub refusal: u16,
     pub handset: Handset,
 }
 
 // The answer to a feed, and the handset after it.
-#[derive(Drop)]
+#[derive(Clone, Copy)]
 pub struct Fed {
     pub answer: Answer,
     pub handset: Handset,

@@ -1,4 +1,6 @@
 // What a handset hears, its refusals, and what a reply sees of it (document 01, "What a handset hears"; document 02, U1).
+#![tactic(auto)]
+
 mod checks;
 
 ghost use Rattle.std.specs.Prelude.{cond, ◌≡◌};
@@ -8,7 +10,7 @@ pub use checks::{block_before, cause_of, heard_refusal};
 use resource::Cce;
 
 // A grant: the blocks it carries, which of them decoded, its first CCE and its DAI, as raw numbers.
-#[derive(Drop)]
+#[derive(Clone, Copy)]
 pub struct Grant {
     pub blocks: u16,
     pub first: bool,
@@ -18,7 +20,7 @@ pub struct Grant {
 }
 
 // A scheduled block, which comes with no PDCCH: the blocks it carries and which of them decoded. It has no CCE and no DAI.
-#[derive(Drop)]
+#[derive(Clone, Copy)]
 pub struct ScheduledBlock {
     pub blocks: u16,
     pub first: bool,
@@ -26,14 +28,14 @@ pub struct ScheduledBlock {
 }
 
 // A PDCCH that releases the schedule: its first CCE and its DAI.
-#[derive(Drop)]
+#[derive(Clone, Copy)]
 pub struct Release {
     pub cce: Cce,
     pub dai: u16,
 }
 
 // What a subframe gives the handset.
-#[derive(Drop)]
+#[derive(Clone, Copy)]
 pub enum Heard {
     Nothing,
     Granted(Grant),
@@ -42,7 +44,7 @@ pub enum Heard {
 }
 
 // A PDCCH as a reply sees it: a sole block's result already stands for both blocks.
-#[derive(Drop)]
+#[derive(Clone, Copy)]
 pub struct Control {
     pub cce: Cce,
     pub dai: u16,
@@ -51,14 +53,14 @@ pub struct Control {
 }
 
 // A scheduled block as a reply sees it; a sole block's result stands for both here too.
-#[derive(Drop)]
+#[derive(Clone, Copy)]
 pub struct Results {
     pub first: bool,
     pub second: bool,
 }
 
 // What a reply sees of a subframe. A release is a PDCCH that decoded everything.
-#[derive(Drop)]
+#[derive(Clone, Copy)]
 pub enum View {
     Unheard,
     Pdcch(Control),
@@ -68,7 +70,7 @@ pub enum View {
 // A remembered subframe, four bytes: kind (0 nothing, 1 grant, 2 scheduled block, 3 release), first CCE, DAI, and results (bit 0 the
 // first block decoded, bit 1 the second, bit 2 two blocks carried). A scheduled block has no CCE and no DAI, a release no results.
 #[repr(C)]
-#[derive(Drop)]
+#[derive(Clone, Copy)]
 pub struct Slot {
     pub kind: u8,
     pub cce: u8,

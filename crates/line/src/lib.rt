@@ -1,10 +1,12 @@
 // A text of at most 100 bytes, filled byte by byte, and numbers in decimal: what `listing`, `printing` and `reporting` write with.
+#![tactic(auto)]
+
 ghost use Rattle.std.specs.Prelude.{◌<◌, ◌≡◌, [], ◌++◌};
 ghost use Rattle.line.specs.Decimal.{decimal_digit, digit_for, decimal, listed};
 ghost use Rattle.line.specs.Put.{paged, put_of, added};
 
 // A text of at most 100 bytes, its length and its bytes; the bytes after it are 0.
-#[derive(Drop)]
+#[derive(Clone, Copy)]
 pub struct Line {
     pub size: usize,
     pub text: [u8; 100],

@@ -1,4 +1,6 @@
 // The text that the program `windows` prints (document 01, "Buyers' access"). A page is a `Line` that holds all lines of the text.
+#![tactic(auto)]
+
 ghost use Rattle.std.specs.Prelude.{◌≡◌, []};
 ghost use Rattle.io.specs.Counts.{IsPrefixLen};
 ghost use Rattle.line.specs.Put.{paged, added};

@@ -1,5 +1,7 @@
 // The engine's answers as numbers, as a C caller gets them: the refusal, 0 for none, and the values, which are 0 where they say
 // nothing. The calls themselves are in `feedback`.
+#![tactic(auto)]
+
 ghost use Rattle.std.specs.Prelude.{◌≡◌};
 ghost use Rattle.numbers.specs.Answers.{resource_answer, inverse_answer, told_position, place_answer, reading_answer, claims_answer, no_reply, answer_numbers, fed_answer, cause_numbers, silence_answer, no_record, record_answer};
 
@@ -47,7 +49,7 @@ const RECORD_END: u16 = 2;
 // `size` is M, `k` has K in the print's order and `order` its positions in time order, zeros after the M entries of both; all 0 where
 // refused.
 #[repr(C)]
-#[derive(Drop)]
+#[derive(Clone, Copy)]
 pub struct WindowAnswer {
     pub refusal: u16,
     pub size: u16,
@@ -57,7 +59,7 @@ pub struct WindowAnswer {
 
 // `second` is the second antenna port's resource, 0 where there is one port.
 #[repr(C)]
-#[derive(Drop)]
+#[derive(Clone, Copy)]
 pub struct ResourceAnswer {
     pub refusal: u16,
     pub resource: u16,
@@ -65,7 +67,7 @@ pub struct ResourceAnswer {
 }
 
 #[repr(C)]
-#[derive(Drop)]
+#[derive(Clone, Copy)]
 pub struct InverseAnswer {
     pub refusal: u16,
     pub position: u16,
@@ -75,7 +77,7 @@ pub struct InverseAnswer {
 // Kind 1 is a bundled reading with the ACK bits, 2 a multiplexed one with the delivered positions, bit p for position p; 0 where
 // refused. `scheduled` is 1 where the reply is read as the scheduled block, which has no CCE.
 #[repr(C)]
-#[derive(Drop)]
+#[derive(Clone, Copy)]
 pub struct ReadingAnswer {
     pub refusal: u16,
     pub kind: u16,
@@ -90,7 +92,7 @@ pub struct ReadingAnswer {
 // Kind 1 is clean, 2 a clash with the index of the first claim that clashes with an earlier one; 0 where refused, and 16 has the
 // index of the first bad claim.
 #[repr(C)]
-#[derive(Drop)]
+#[derive(Clone, Copy)]
 pub struct ClaimsAnswer {
     pub refusal: u16,
     pub kind: u16,
@@ -100,7 +102,7 @@ pub struct ClaimsAnswer {
 // Kind 1 is a bundled reply, 2 a multiplexed one, 3 silent, 4 taken, 5 no window; 0 where refused. `second` is the resource of a
 // reply's second antenna port, 0 where there is one port. `handset` is the handset after the feed.
 #[repr(C)]
-#[derive(Drop)]
+#[derive(Clone, Copy)]
 pub struct FedAnswer {
     pub refusal: u16,
     pub kind: u16,
@@ -114,7 +116,7 @@ pub struct FedAnswer {
 // `fed` is what the feed answers. Cause 1 is that nothing was heard in the window, 2 that a miss is shown, with V and the value
 // expected; 0 where the answer is not silent.
 #[repr(C)]
-#[derive(Drop)]
+#[derive(Clone, Copy)]
 pub struct SilenceAnswer {
     pub fed: FedAnswer,
     pub cause: u16,
@@ -124,7 +126,7 @@ pub struct SilenceAnswer {
 
 // Kind 1 is a record, with what its kind uses of it, 2 the end of the trace; 0 where refused.
 #[repr(C)]
-#[derive(Drop)]
+#[derive(Clone, Copy)]
 pub struct RecordAnswer {
     pub refusal: u16,
     pub kind: u16,

@@ -1,5 +1,7 @@
 // The text that the program `tables` prints: Table 10.1-1 of TS 36.213 from the rows that replies look up (`frame::window_of`),
 // Tables 10.1-2 to 10.1-4 from the rows that the engine's lookups are proved equal to (`symbols::table_row`).
+#![tactic(auto)]
+
 ghost use Rattle.std.specs.Prelude.{◌≤◌, ◌<◌, ◌≡◌, [], length, get_or};
 ghost use Rattle.frame.specs.Table.{window_of};
 ghost use Rattle.io.specs.Counts.{IsPrefixLen};

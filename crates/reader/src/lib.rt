@@ -1,4 +1,6 @@
 // The records of a trace (document 02, U3), and a reader that keeps a lent trace and the number of the next record together.
+#![tactic(auto)]
+
 mod records;
 
 ghost use Rattle.std.specs.Prelude.{◌≡◌};
@@ -9,7 +11,7 @@ use heard::{Heard, Slot};
 pub use records::{heard_in, record_at};
 
 // What a reader gives: the refusal, 21 or 22; a record, every field and bit that its kind does not use being 0; or the end.
-#[derive(Drop)]
+#[derive(Clone, Copy)]
 pub enum Record {
     Refused(u16),
     At(Slot),
@@ -18,7 +20,7 @@ pub enum Record {
 
 // A lent trace and the number of the next record, from 0. The functions over it take the struct apart and put it together; the work
 // is in `record_at`, on a plain slice.
-#[derive(Drop)]
+#[derive(Clone, Copy)]
 pub struct Reader<'a> {
     pub trace: &'a [u8],
     pub next: usize,

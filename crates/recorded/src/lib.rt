@@ -1,1 +1,2 @@
 // No code: what the third demand says of a recorded drive. specs/ has the statement, proofs/ its proof.
+#![tactic(auto)]

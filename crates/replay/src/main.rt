@@ -1,5 +1,7 @@
 // Reads a trace, writes the bytes of the windows that its replay completes, and then says on standard error what was refused
 // (document 02, U3). The longest trace has 65,535 bytes: one more is asked for, so that a longer file is seen and refused 21.
+#![tactic(auto)]
+
 use libc::{STDERR_FILENO, STDIN_FILENO, STDOUT_FILENO};
 
 fn main() {

@@ -1,5 +1,7 @@
 // Reads a trace and writes a line for each window that its replay completes, and then one for what was refused (document 02, U3).
 // The longest trace has 65,535 bytes: one more is asked for, so that a longer file is seen and refused 21.
+#![tactic(auto)]
+
 use libc::{STDIN_FILENO, STDOUT_FILENO};
 
 fn main() {

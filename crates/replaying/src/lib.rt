@@ -1,5 +1,7 @@
 // The replay of a recorded drive (document 02, U3): a handset made from the trace's settings and fed its records one by one, and
 // eight bytes for each window into a lent output.
+#![tactic(auto)]
+
 ghost use Rattle.std.specs.Prelude.{◌+◌, ◌*◌, ◌≤◌, ◌≡◌, length};
 ghost use Rattle.replaying.specs.Ready.{Ready};
 ghost use Rattle.replaying.specs.Replay.{refusal_in, brought_in, played, start_refusal, ended_as, replay_of, written, output_of};
@@ -18,7 +20,7 @@ const STOPPED: u16 = 2;
 // What a replay answers: the refusal, 0 for none; the kind, 0 refused before any record, 1 done, 2 stopped at a record; the number
 // of the record that was refused, from 0; and how many windows were written.
 #[repr(C)]
-#[derive(Drop)]
+#[derive(Clone, Copy)]
 pub struct Replayed {
     pub refusal: u16,
     pub kind: u16,

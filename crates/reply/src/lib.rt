@@ -1,4 +1,6 @@
 // The reply of a window (document 01, "The bundled reply" and "The multiplexed reply"; document 02, U1 and U9).
+#![tactic(auto)]
+
 mod answers;
 
 pub use answers::answer_in;
@@ -6,7 +8,7 @@ use resource::Resource;
 
 // A reply: its kind, 1 bundled or 2 multiplexed, its PUCCH resource, that of the first antenna port, its two bits, the second 0 in a
 // one-bit reply, and the second port's resource, 0 where the handset has one port.
-#[derive(Drop)]
+#[derive(Clone, Copy)]
 pub struct Reply {
     pub kind: u16,
     pub resource: Resource,
@@ -16,7 +18,7 @@ pub struct Reply {
 }
 
 // What a feed is answered (document 01, "The running handset").
-#[derive(Drop)]
+#[derive(Clone, Copy)]
 pub enum Answer {
     Taken,
     NoWindow,

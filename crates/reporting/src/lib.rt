@@ -1,5 +1,7 @@
 // The text of the programs over a trace, `replay`, `replay-text` and `spell`: a line for each window that a replay wrote, and one for
 // a refusal.
+#![tactic(auto)]
+
 ghost use Rattle.std.specs.Prelude.{◌≡◌};
 ghost use Rattle.io.specs.Counts.{IsPrefixLen};
 ghost use Rattle.line.specs.Put.{paged, added};

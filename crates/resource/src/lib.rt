@@ -1,5 +1,7 @@
 // The PUCCH resource of a PDCCH, a grant or a release, and its place back from a resource (document 01, "Resources"); the resources of
 // both antenna ports are in ports.rt (document 02, U9).
+#![tactic(auto)]
+
 mod ports;
 
 ghost use Rattle.std.specs.Prelude.{◌≡◌, ◌≤◌, ltb};
@@ -14,12 +16,12 @@ pub use ports::{ports_of, second_port};
 // The number of a PDCCH's first CCE. CCEs and PUCCH resources are counted apart: only the map and its
 // inverse lead from one count to the other.
 #[repr(C)]
-#[derive(Drop)]
+#[derive(Clone, Copy)]
 pub struct Cce(u16);
 
 // The number of a PUCCH resource.
 #[repr(C)]
-#[derive(Drop)]
+#[derive(Clone, Copy)]
 pub struct Resource(u16);
 
 impl Cce {
@@ -51,21 +53,21 @@ impl Resource {
 }
 
 // The answer of the resource call.
-#[derive(Drop)]
+#[derive(Clone, Copy)]
 pub enum Mapped {
     At(Resource),
     Refused(u16),
 }
 
 // The answer of the resource call for both antenna ports: the first port's resource and the second port's, 0 where there is one port.
-#[derive(Drop)]
+#[derive(Clone, Copy)]
 pub enum PortsMapped {
     At(Resource, Resource),
     Refused(u16),
 }
 
 // The answer of the inverse: position and first CCE.
-#[derive(Drop)]
+#[derive(Clone, Copy)]
 pub enum Inverted {
     At(u16, Cce),
     Refused(u16),
@@ -174,7 +176,7 @@ fn edge_of(nrb: u16, p: u16) -> u16
 }
 
 // A region of CCEs: its number p and its edges N_p and N_(p+1). Number 4 is no region: all four lie below.
-#[derive(Drop)]
+#[derive(Clone, Copy)]
 struct Region {
     number: u16,
     low: u16,

@@ -1,4 +1,6 @@
 // The cause of a silence, beside the feed (document 02, U11).
+#![tactic(auto)]
+
 ghost use Rattle.std.specs.Prelude.{◌≡◌};
 ghost use Rattle.silence.specs.Cause.{window_seen, silence_cause, cause_beside, explain_of};
 
@@ -9,7 +11,7 @@ use reply::Answer;
 
 // Beside an answer that is not silent there is no cause. A silence's is that nothing was heard in the window, or that a miss is
 // shown, with V and the value expected.
-#[derive(Drop)]
+#[derive(Clone, Copy)]
 pub enum Cause {
     NotSilent,
     NothingHeard,
@@ -17,7 +19,7 @@ pub enum Cause {
 }
 
 // What the feed answers, with the handset after it, and the cause beside a silent answer.
-#[derive(Drop)]
+#[derive(Clone, Copy)]
 pub struct Explained {
     pub fed: Fed,
     pub cause: Cause,

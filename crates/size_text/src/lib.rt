@@ -1,4 +1,6 @@
 // The text of Table 7.1.7.2.1-1 that the program `tables` prints, line by line, from the sizes that `sizes::block_size` gives.
+#![tactic(auto)]
+
 ghost use Rattle.std.specs.Prelude.{◌<◌, ◌≡◌, []};
 ghost use Rattle.io.specs.Counts.{IsPrefixLen};
 ghost use Rattle.line.specs.Put.{paged, added};

@@ -1,4 +1,6 @@
 // The transport block sizes of TS 36.213: Table 7.1.7.2.1-1, and the column that is read for a block (section 7.1.7).
+#![tactic(auto)]
+
 ghost use Rattle.std.specs.Prelude.{◌≡◌};
 ghost use Rattle.sizes.specs.Table.{block_size, table_column, flat, size_in};
 

@@ -1,5 +1,7 @@
 // Reads a trace, writes it in its one spelling, and says on standard error what was refused (document 02, U4): two labs compare their
 // traces with `cmp`. The longest trace has 65,535 bytes: one more is asked for, so that a longer file is seen and refused 21.
+#![tactic(auto)]
+
 use libc::{STDERR_FILENO, STDIN_FILENO, STDOUT_FILENO};
 
 fn main() {

@@ -1,5 +1,7 @@
 // One spelling of a trace (document 02, U4): any trace that a replay would run to its end, written with its settings at 8, its records
 // at 18 and every unused field and bit 0, so that two traces are alike exactly if what is written of them is equal.
+#![tactic(auto)]
+
 mod bytes;
 mod stops;
 
@@ -14,7 +16,7 @@ const DONE: u16 = 1;
 const STOPPED: u16 = 2;
 
 // What a trace is refused for, its output apart: the refusal, 0 for none; the kind; and the number of the record that is refused, from 0.
-#[derive(Drop)]
+#[derive(Clone, Copy)]
 pub struct Stop {
     pub refusal: u16,
     pub kind: u16,
@@ -23,7 +25,7 @@ pub struct Stop {
 
 // What writing answers: the same, and how many bytes were written.
 #[repr(C)]
-#[derive(Drop)]
+#[derive(Clone, Copy)]
 pub struct Written {
     pub refusal: u16,
     pub kind: u16,

@@ -1,5 +1,7 @@
 // The station's reading of a reply (document 01, "The station's reading"; document 02, U1 and U2). The settings' mode is that
 // of the reply's window (U8).
+#![tactic(auto)]
+
 ghost use Rattle.std.specs.Prelude.{◌≡◌};
 ghost use Rattle.frame.specs.Settings.{or_else, window_refusal};
 ghost use Rattle.resource.specs.Calls.{size_of, inverse_sized};
@@ -11,14 +13,14 @@ use resource::{Cce, Inverted, Resource};
 use symbols::Delivery;
 
 // What a reply is read as: the PDCCH at a position, with its first CCE, or the scheduled block at a position.
-#[derive(Drop)]
+#[derive(Clone, Copy)]
 pub enum Place {
     Pdcch(u16, Cce),
     Block(u16),
 }
 
 // What the reading is told of the window: nothing, or the position of the scheduled block that was sent in it.
-#[derive(Drop)]
+#[derive(Clone, Copy)]
 pub enum Told {
     NotTold,
     At(u16),
@@ -26,7 +28,7 @@ pub enum Told {
 
 // What a reply says: what it is read as, with the ACK bits of a bundled reply, or with the delivered positions of a multiplexed one,
 // bit p for position p.
-#[derive(Drop)]
+#[derive(Clone, Copy)]
 pub enum Reading {
     Bundled(Place, u16, u16),
     Multiplexed(Place, u16),
@@ -76,7 +78,7 @@ fn read_at(s: Settings, size: u16, place: Place, b0: u16, b1: u16) -> Reading
 
 // What a reply is read as, or its refusal: `place` says nothing where it is refused, and `refusal` nothing where not. A struct and
 // no enum, for speed: the compiler holds its fields apart, and would pack an enum over Place into one register.
-#[derive(Drop)]
+#[derive(Clone, Copy)]
 struct Placed {
     refused: bool,
     refusal: u16,

@@ -1,12 +1,14 @@
 // Channel selection (document 01, "The multiplexed reply"): Tables 10.1-2 to 10.1-4 of TS 36.213, one row of source for each row
 // of the print, in its order; the symbol of a window's state; and what a symbol delivers ("The station's reading").
+#![tactic(auto)]
+
 ghost use Rattle.std.specs.Prelude.{◌≡◌, ◌+◌, ◌/◌, ◌%◌, ◌<◌, get_or};
 ghost use Rattle.symbols.specs.Coded.{coded_table_row, blank_row, said_of, number_of, states_of, set_number};
 ghost use Rattle.symbols.specs.Delivered.{delivery_of};
 ghost use Rattle.symbols.specs.Selection.{table2, table3, table4, table_of, symbol_of};
 
 // A position's state: A, N or D.
-#[derive(Drop)]
+#[derive(Clone, Copy)]
 pub enum State {
     Ack,
     Nack,
@@ -14,7 +16,7 @@ pub enum State {
 }
 
 // A symbol (document 01's term): what is sent for a window's state, index and the bits b0, b1; or nothing.
-#[derive(Drop)]
+#[derive(Clone, Copy)]
 pub enum Symbol {
     Sent(u16, u16, u16),
     Silent,
@@ -35,13 +37,13 @@ pub const BLANK: u16 = 4;
 const NA: u16 = 9;
 
 // A row: HARQ-ACK(0), HARQ-ACK(1), .., then the index, b0 and b1.
-#[derive(Drop)]
+#[derive(Clone, Copy)]
 struct Row2(u16, u16, u16, u16, u16);
 
-#[derive(Drop)]
+#[derive(Clone, Copy)]
 struct Row3(u16, u16, u16, u16, u16, u16);
 
-#[derive(Drop)]
+#[derive(Clone, Copy)]
 struct Row4(u16, u16, u16, u16, u16, u16, u16);
 
 // Tables 10.1-2 to 10.1-4 are read a row at a time by `table_row`, for print. Replies and readings use lookups derived from the
@@ -98,7 +100,7 @@ const TABLE4: [Row4; 20] = [
 
 // Derived from the tables: the numbers of the symbols of states 9 k to 9 k + 8 in row k. A state's number has a base-3 digit for
 // each position, position 0 first: 0 for A, 1 for N, 2 for D. A symbol's number is index × 4 + b0 × 2 + b1; 16 where silent.
-#[derive(Drop)]
+#[derive(Clone, Copy)]
 struct SymbolNumbers([u16; 9]);
 
 // M = 2.
@@ -125,7 +127,7 @@ const SYMBOLS4: [SymbolNumbers; 9] = [
 ];
 
 // Derived from the tables: what the symbols with numbers 0 to 15 deliver; 16 for a symbol in no row. Bit p is set for position p.
-#[derive(Drop)]
+#[derive(Clone, Copy)]
 struct Sets([u16; 16]);
 
 // M = 2, 3 and 4.
@@ -136,7 +138,7 @@ const DELIVERED: [Sets; 3] = [
 ];
 
 // A row of the tables in one form for every M.
-#[derive(Drop)]
+#[derive(Clone, Copy)]
 pub struct TableRow {
     pub cells: [u16; 4],
     pub says: Symbol,
@@ -254,7 +256,7 @@ pub fn symbol_of(size: u16, code: u16) -> Symbol
 }
 
 // What a symbol delivers.
-#[derive(Drop)]
+#[derive(Clone, Copy)]
 pub enum Delivery {
     // The positions that are A in every state whose symbol this is: bit p is set for position p.
     Set(u16),

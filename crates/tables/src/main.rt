@@ -1,5 +1,7 @@
 // Writes Tables 10.1-1 to 10.1-4 and 7.1.7.2.1-1 of TS 36.213, to be read against the print: the first from the rows that replies
 // look up, the next three from the rows that the engine's lookups are proved equal to, the last from the sizes that are looked up.
+#![tactic(auto)]
+
 ghost use Rattle.io.specs.Counts.{IsPrefixLen};
 
 use libc::STDOUT_FILENO;

@@ -1,4 +1,6 @@
 // Reads one digit 0 to 6 and a newline, and writes the windows of that configuration (document 01, "Buyers' access").
+#![tactic(auto)]
+
 use libc::{STDIN_FILENO, STDOUT_FILENO};
 
 // Three bytes are asked for, so that a third one is seen and refused.
