@@ -13,7 +13,7 @@ use Rattle.claims.proofs.bits.claims_in_bits.Goals as goal
 
 pub returns-then-refusal-ne0 : goal.returns-then-refusal-ne0
 unfolding bit_scratch_of
-returns-then-refusal-ne0 c = refused bit_room_of bit_marked_up_to _ _ _ _ _ c.window_refusal-refusal.ensures c.if-refusal-ne0.true
+returns-then-refusal-ne0 c = let each = refused bit_room_of bit_marked_up_to _ _ _ _ _ c.window_refusal-refusal.ensures c.if-refusal-ne0.true in record { value = each.0; scratch_after = each.1; }
 
 pub window_in-w-requires : goal.window_in-w-requires
 window_in-w-requires c = sym c.window_refusal-refusal.ensures ∙ c.if-refusal-ne0.false
@@ -28,7 +28,7 @@ unfolding bit_scratch_of
 returns-then-scratch-room c =
     let accepted : let a = c.args in window_refusal a.s a.n ≡ 0 = sym c.window_refusal-refusal.ensures ∙ c.if-refusal-ne0.false in
     let e = c.window_in-w.ensures in
-    short bit_room_of bit_marked_up_to _ _ _ _ accepted _ e _ (bit_room_holds _ _ accepted _ e) c.if-scratch-room.true
+let each = short bit_room_of bit_marked_up_to _ _ _ _ accepted _ e _ (bit_room_holds _ _ accepted _ e) c.if-scratch-room.true in record { value = each.0; scratch_after = each.1; }
 
 pub first_bad-bad-requires : goal.first_bad-bad-requires
 first_bad-bad-requires c = let w =
@@ -40,7 +40,7 @@ unfolding bit_scratch_of
 returns-then-bad-claims c =
     let accepted : let a = c.args in window_refusal a.s a.n ≡ 0 = sym c.window_refusal-refusal.ensures ∙ c.if-refusal-ne0.false in
     let e = c.window_in-w.ensures in
-    bad_claim bit_room_of bit_marked_up_to _ _ _ _ accepted _ e _ (bit_room_holds _ _ accepted _ e) c.if-scratch-room.false _ c.first_bad-bad.ensures c.if-bad-claims.true
+let each = bad_claim bit_room_of bit_marked_up_to _ _ _ _ accepted _ e _ (bit_room_holds _ _ accepted _ e) c.if-scratch-room.false _ c.first_bad-bad.ensures c.if-bad-claims.true in record { value = each.0; scratch_after = each.1; }
 
 pub slice_bounds-clear-end-2 : goal.slice_bounds-clear-end-2
 slice_bounds-clear-end-2 c = sym (length-take-le _ _ c.if-scratch-room.false)
@@ -57,13 +57,13 @@ unfolding bit_scratch_of
 returns-then-clash-claims c =
     let accepted : let a = c.args in window_refusal a.s a.n ≡ 0 = sym c.window_refusal-refusal.ensures ∙ c.if-refusal-ne0.false in
     let e = c.window_in-w.ensures in
-    clashed bit_room_of bit_marked_up_to _ _ _ _ accepted _ e _ (bit_room_holds _ _ accepted _ e) c.if-scratch-room.false _ c.first_bad-bad.ensures c.if-bad-claims.false
-    _ c.clear.ensures kept _ c.mark_bits-clash.ensures.0 _ c.mark_bits-clash.ensures.1 c.if-clash-claims.true
+let each = clashed bit_room_of bit_marked_up_to _ _ _ _ accepted _ e _ (bit_room_holds _ _ accepted _ e) c.if-scratch-room.false _ c.first_bad-bad.ensures c.if-bad-claims.false
+    _ c.clear.ensures kept _ c.mark_bits-clash.ensures.value _ c.mark_bits-clash.ensures.scratch_after c.if-clash-claims.true in record { value = each.0; scratch_after = each.1; }
 
 pub returns : goal.returns
 unfolding bit_scratch_of
 returns c =
     let accepted : let a = c.args in window_refusal a.s a.n ≡ 0 = sym c.window_refusal-refusal.ensures ∙ c.if-refusal-ne0.false in
     let e = c.window_in-w.ensures in
-    clean bit_room_of bit_marked_up_to _ _ _ _ accepted _ e _ (bit_room_holds _ _ accepted _ e) c.if-scratch-room.false _ c.first_bad-bad.ensures c.if-bad-claims.false
-    _ c.clear.ensures kept _ c.mark_bits-clash.ensures.0 _ c.mark_bits-clash.ensures.1 c.if-clash-claims.false
+let each = clean bit_room_of bit_marked_up_to _ _ _ _ accepted _ e _ (bit_room_holds _ _ accepted _ e) c.if-scratch-room.false _ c.first_bad-bad.ensures c.if-bad-claims.false
+    _ c.clear.ensures kept _ c.mark_bits-clash.ensures.value _ c.mark_bits-clash.ensures.scratch_after c.if-clash-claims.false in record { value = each.0; scratch_after = each.1; }

@@ -9,31 +9,31 @@ use Rattle.reply.proofs.answers.multiplexed_answer.Goals as goal
 
 pub bounds-k-i : goal.bounds-k-i
 bounds-k-i c =
-    let small : c.in_Sent.i < c.args.w.size = index_small c.args.s _ _ _ c.requires _ c.code_of-code.ensures _ c.symbol_of-y.ensures _ _ _
+    let small : c.in-Sent.i < c.args.w.size = index_small c.args.s _ _ _ c.requires _ c.code_of-code.ensures _ c.symbol_of-y.ensures _ _ _
     c.in-Sent.is in
     omega (arith, small, size_small _ _ _ c.requires)
 
 pub overflow_sub-t : goal.overflow_sub-t
 overflow_sub-t c =
-    let small : c.in_Sent.i < c.args.w.size = index_small c.args.s _ _ _ c.requires _ c.code_of-code.ensures _ c.symbol_of-y.ensures _ _ _
+    let small : c.in-Sent.i < c.args.w.size = index_small c.args.s _ _ _ c.requires _ c.code_of-code.ensures _ c.symbol_of-y.ensures _ _ _
     c.in-Sent.is in
     (k_range _ _ _ c.requires _ small).0
 
 pub overflow_cast-t-in-Sent : goal.overflow_cast-t-in-Sent
 overflow_cast-t-in-Sent c =
-    let small : c.in_Sent.i < c.args.w.size = index_small c.args.s _ _ _ c.requires _ c.code_of-code.ensures _ c.symbol_of-y.ensures _ _ _
+    let small : c.in-Sent.i < c.args.w.size = index_small c.args.s _ _ _ c.requires _ c.code_of-code.ensures _ c.symbol_of-y.ensures _ _ _
     c.in-Sent.is in
     omega (arith, k_range _ _ _ c.requires _ small)
 
 pub offset_bounds-past-k : goal.offset_bounds-past-k
 offset_bounds-past-k c =
-    let small : c.in_Sent.i < c.args.w.size = index_small c.args.s _ _ _ c.requires _ c.code_of-code.ensures _ c.symbol_of-y.ensures _ _ _
+    let small : c.in-Sent.i < c.args.w.size = index_small c.args.s _ _ _ c.requires _ c.code_of-code.ensures _ c.symbol_of-y.ensures _ _ _
     c.in-Sent.is in
     omega (arith, k_range _ _ _ c.requires _ small)
 
 pub bounds-past-k : goal.bounds-past-k
 bounds-past-k c =
-    let small : c.in_Sent.i < c.args.w.size = index_small c.args.s _ _ _ c.requires _ c.code_of-code.ensures _ c.symbol_of-y.ensures _ _ _
+    let small : c.in-Sent.i < c.args.w.size = index_small c.args.s _ _ _ c.requires _ c.code_of-code.ensures _ c.symbol_of-y.ensures _ _ _
     c.in-Sent.is in
     omega (arith, k_range _ _ _ c.requires _ small)
 
