@@ -100,7 +100,7 @@ module _ (s : Settings) (n : ℕ) (accepted : window_refusal s n ≡ 0) (claims 
         front : take (bit_room_of s n) new ≡ bytes_from (marked s n claims e) (bit_room_of s n) 0
         front =
             ext_get_or 0 (take (bit_room_of s n) new) (bytes_from (marked s n claims e) (bit_room_of s n) 0)
-              (length-take-le (bit_room_of s n) new room_here ∙ sym (bytes_length (marked s n claims e) (bit_room_of s n) 0)) λ j h.
+            (length-take-le (bit_room_of s n) new room_here ∙ sym (bytes_length (marked s n claims e) (bit_room_of s n) 0)) λ j h.
             let below : j < bit_room_of s n = rw (length-take-le (bit_room_of s n) new room_here) at h in
             get_or-take (bit_room_of s n) new j 0 below
             ∙ bits_only (marked s n claims e) 8 (8 * j) (get_or new j 0) (b.bytes j below) (at_bit j below)
