@@ -12,7 +12,7 @@ use Rattle.claims.proofs.claims_of.Goals as goal
 
 pub returns-then-refusal-ne0 : goal.returns-then-refusal-ne0
 unfolding scratch_of
-returns-then-refusal-ne0 c = let each = refused room_of marked_up_to _ _ _ _ _ c.window_refusal-refusal.ensures c.if-refusal-ne0.true in record { value = each.0; scratch_after = each.1; }
+returns-then-refusal-ne0 c = let each = refused room_of marked_up_to _ _ _ _ _ c.window_refusal-refusal.ensures c.if-refusal-ne0.true in record { value = each.0; scratch_after = each.1 }
 
 pub window_in-w-requires : goal.window_in-w-requires
 window_in-w-requires c = sym c.window_refusal-refusal.ensures ∙ c.if-refusal-ne0.false
@@ -22,19 +22,19 @@ unfolding scratch_of
 returns-then-scratch-room c =
     let accepted : let a = c.args in window_refusal a.s a.n ≡ 0 = sym c.window_refusal-refusal.ensures ∙ c.if-refusal-ne0.false in
     let e = c.window_in-w.ensures in
-let each = short room_of marked_up_to _ _ _ _ accepted _ e _ (room _ _ accepted _ e) c.if-scratch-room.true in record { value = each.0; scratch_after = each.1; }
+    let each = short room_of marked_up_to _ _ _ _ accepted _ e _ (room _ _ accepted _ e) c.if-scratch-room.true in record { value = each.0; scratch_after = each.1 }
 
 pub first_bad-bad-requires : goal.first_bad-bad-requires
-first_bad-bad-requires c = let w =
+first_bad-bad-requires c =
     let accepted : let a = c.args in window_refusal a.s a.n ≡ 0 = sym c.window_refusal-refusal.ensures ∙ c.if-refusal-ne0.false in
-    c in window_read _ _ (accepted w) _ w.window-in.ensures
+    window_read _ _ accepted _ c.window_in-w.ensures
 
 pub returns-then-bad-claims : goal.returns-then-bad-claims
 unfolding scratch_of
 returns-then-bad-claims c =
     let accepted : let a = c.args in window_refusal a.s a.n ≡ 0 = sym c.window_refusal-refusal.ensures ∙ c.if-refusal-ne0.false in
     let e = c.window_in-w.ensures in
-let each = bad_claim room_of marked_up_to _ _ _ _ accepted _ e _ (room _ _ accepted _ e) c.if-scratch-room.false _ c.first_bad-bad.ensures c.if-bad-claims.true in record { value = each.0; scratch_after = each.1; }
+    let each = bad_claim room_of marked_up_to _ _ _ _ accepted _ e _ (room _ _ accepted _ e) c.if-scratch-room.false _ c.first_bad-bad.ensures c.if-bad-claims.true in record { value = each.0; scratch_after = each.1 }
 
 pub slice_bounds-clear-end-2 : goal.slice_bounds-clear-end-2
 slice_bounds-clear-end-2 c = sym (length-take-le _ _ c.if-scratch-room.false)
@@ -51,13 +51,13 @@ unfolding scratch_of
 returns-then-clash-claims c =
     let accepted : let a = c.args in window_refusal a.s a.n ≡ 0 = sym c.window_refusal-refusal.ensures ∙ c.if-refusal-ne0.false in
     let e = c.window_in-w.ensures in
-let each = clashed room_of marked_up_to _ _ _ _ accepted _ e _ (room _ _ accepted _ e) c.if-scratch-room.false _ c.first_bad-bad.ensures c.if-bad-claims.false
-    _ c.clear.ensures kept _ c.mark-clash.ensures.value _ c.mark-clash.ensures.scratch_after c.if-clash-claims.true in record { value = each.0; scratch_after = each.1; }
+    let each = clashed room_of marked_up_to _ _ _ _ accepted _ e _ (room _ _ accepted _ e) c.if-scratch-room.false _ c.first_bad-bad.ensures c.if-bad-claims.false
+    _ c.clear.ensures kept _ c.mark-clash.ensures.value _ c.mark-clash.ensures.scratch_after c.if-clash-claims.true in record { value = each.0; scratch_after = each.1 }
 
 pub returns : goal.returns
 unfolding scratch_of
 returns c =
     let accepted : let a = c.args in window_refusal a.s a.n ≡ 0 = sym c.window_refusal-refusal.ensures ∙ c.if-refusal-ne0.false in
     let e = c.window_in-w.ensures in
-let each = clean room_of marked_up_to _ _ _ _ accepted _ e _ (room _ _ accepted _ e) c.if-scratch-room.false _ c.first_bad-bad.ensures c.if-bad-claims.false
-    _ c.clear.ensures kept _ c.mark-clash.ensures.value _ c.mark-clash.ensures.scratch_after c.if-clash-claims.false in record { value = each.0; scratch_after = each.1; }
+    let each = clean room_of marked_up_to _ _ _ _ accepted _ e _ (room _ _ accepted _ e) c.if-scratch-room.false _ c.first_bad-bad.ensures c.if-bad-claims.false
+    _ c.clear.ensures kept _ c.mark-clash.ensures.value _ c.mark-clash.ensures.scratch_after c.if-clash-claims.false in record { value = each.0; scratch_after = each.1 }

@@ -8,8 +8,7 @@ use Rattle.frame.specs.Settings.{settings_refusal}
 use Rattle.handset.specs.declared.Handset.{Handset}
 use Rattle.handset.specs.declared.Made.{Made}
 use Rattle.handset.specs.Make.{fresh, no_settings, make_of}
-use Rattle.handset.proofs.making.make.Statement.{statement}
-use Rattle.handset.proofs.making.make.Tie as tie
+use Rattle.handset.proofs.making.make.Goals as goal
 
 refused : (s : Settings) (r : ℕ) (h : Handset) → r ≡ settings_refusal s → (r ≡ 0 → ⊥) → h ≡ fresh no_settings
     → ◌≡◌ {A = Made} (record { refusal = r; handset = h }) (make_of s)
@@ -21,22 +20,8 @@ made : (s : Settings) (r : ℕ) (h : Handset) → r ≡ settings_refusal s → r
 unfolding make_of
 made s r h e k f = rw (← e, eq-eqb r 0 k, f)
 
-settings-refusal-requires : tie.Need-settings-refusal-requires
-settings-refusal-requires c κs = search rules
+pub returns-then-refusal-ne0 : goal.returns-then-refusal-ne0
+returns-then-refusal-ne0 c = refused _ _ _ c.settings_refusal-refusal.ensures c.if-refusal-ne0.true c.fresh_of-handset.ensures
 
-fresh-of-requires : tie.Need-fresh-of-requires
-fresh-of-requires c κs = search rules
-
-returns : tie.Need-returns
-returns c = refused _ _ _ c.before.before.settings-refusal.ensures c.before.if1.true c.fresh-of.ensures
-
-fresh-of-requires-2 : tie.Need-fresh-of-requires-2
-fresh-of-requires-2 c κs = search rules
-
-returns-2 : tie.Need-returns-2
-returns-2 c = made _ _ _ c.before.before.settings-refusal.ensures c.before.if1.false c.fresh-of2.ensures
-
-pub make_spec : {M : Type 1} → statement M
-make_spec =
-    tie.close
-    (tie.spec settings-refusal-requires fresh-of-requires returns fresh-of-requires-2 returns-2)
+pub returns : goal.returns
+returns c = made _ _ _ c.settings_refusal-refusal.ensures c.if-refusal-ne0.false c.fresh_of-handset-2.ensures

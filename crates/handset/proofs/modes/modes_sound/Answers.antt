@@ -7,22 +7,12 @@ use borrow.Author.Rules.{rules}
 use Rattle.frame.specs.declared.Settings.{Settings}
 use Rattle.frame.specs.Settings.{new_mode_refusal, in_mode}
 use Rattle.handset.specs.Modes.{modes_sound}
-use Rattle.handset.proofs.modes.modes_sound.Statement.{statement}
-use Rattle.handset.proofs.modes.modes_sound.Tie as tie
+use Rattle.handset.proofs.modes.modes_sound.Goals as goal
 
 same : (s : Settings) (modes : ℕ) (t : Settings) (r : ℕ) → t ≡ in_mode s 1 → r ≡ new_mode_refusal t
     → (eqb (modes % 8192) 0 || eqb r 0) ≡ modes_sound s modes
 unfolding modes_sound
 same s modes t r e f = rw (f, e)
 
-in-mode-requires : tie.Need-in-mode-requires
-in-mode-requires c κs = search rules
-
-new-mode-refusal-requires : tie.Need-new-mode-refusal-requires
-new-mode-refusal-requires c κs = search rules
-
-returns : tie.Need-returns
-returns c = same _ _ _ _ c.before.in-mode.ensures c.new-mode-refusal.ensures
-
-pub modes-sound-spec : {M : Type 1} → statement M
-modes-sound-spec = tie.close (tie.spec in-mode-requires new-mode-refusal-requires returns)
+pub returns : goal.returns
+returns c = same _ _ _ _ c.in_mode.ensures c.new_mode_refusal-multiplexing.ensures

@@ -7,8 +7,7 @@ use Rattle.frame.specs.Settings.{in_mode}
 use Rattle.handset.specs.declared.Changed.{Changed}
 use Rattle.handset.specs.declared.Handset.{Handset}
 use Rattle.handset.specs.Change.{change_refusal, changed_as, change_of}
-use Rattle.handset.proofs.changing.change_mode.Statement.{statement}
-use Rattle.handset.proofs.changing.change_mode.Tie as tie
+use Rattle.handset.proofs.changing.change_mode.Goals as goal
 
 refused_as : (h : Handset) (mode r k : ℕ) → r ≡ k → (r ≡ 0 → ⊥) → ◌≡◌ {A = Changed} (record { refusal = r; handset = h }) (changed_as k h mode)
 refused_as h mode r zero e k = absurd (k e)
@@ -23,19 +22,8 @@ changed : (h : Handset) (mode r : ℕ) → r ≡ change_refusal h mode → r ≡
 unfolding change_of
 changed h mode r e none s f = rw (← e, none, f)
 
-change-refusal-requires : tie.Need-change-refusal-requires
-change-refusal-requires c κs = search rules
+pub returns-then-refusal-ne0 : goal.returns-then-refusal-ne0
+returns-then-refusal-ne0 c = refused _ _ _ c.change_refusal-refusal.ensures c.if-refusal-ne0.true
 
-returns : tie.Need-returns
-returns c = refused _ _ _ c.before.change-refusal.ensures c.if1.true
-
-in-mode-requires : tie.Need-in-mode-requires
-in-mode-requires c κs = search rules
-
-returns-2 : tie.Need-returns-2
-returns-2 c =
-    let branch = c.before.before.before in
-    changed _ _ _ branch.before.change-refusal.ensures branch.if1.false _ c.before.in-mode.ensures
-
-pub change-mode-spec : {M : Type 1} → statement M
-change-mode-spec = tie.close (tie.spec change-refusal-requires returns in-mode-requires returns-2)
+pub returns : goal.returns
+returns c = changed _ _ _ c.change_refusal-refusal.ensures c.if-refusal-ne0.false _ c.in_mode-settings.ensures

@@ -11,8 +11,7 @@ use Rattle.reply.specs.Replies.{window_answer}
 use Rattle.handset.specs.declared.Handset.{Handset}
 use Rattle.handset.specs.Feed.{answer_of, window_settings, next_answer}
 use Rattle.handset.specs.Modes.{in_window_mode}
-use Rattle.handset.proofs.feeding.next_answer.Statement.{statement}
-use Rattle.handset.proofs.feeding.next_answer.Tie as tie
+use Rattle.handset.proofs.feeding.next_answer.Goals as goal
 
 taken : (h : Handset) → downlink h.settings.config h.next ≡ true → Taken ≡ next_answer h
 unfolding next_answer answer_of window_settings
@@ -23,22 +22,8 @@ answered : (h : Handset) (s : Settings) (a : Answer) → downlink h.settings.con
 unfolding next_answer answer_of window_settings
 answered h s a e g f = rw (e, ← g) f
 
-is-downlink-requires : tie.Need-is-downlink-requires
-is-downlink-requires c κs = search rules
+pub returns-then-is_downlink : goal.returns-then-is_downlink
+returns-then-is_downlink c = taken _ (sym c.is_downlink.ensures ∙ c.if-is_downlink.true)
 
-returns : tie.Need-returns
-returns c = taken _ (sym c.before.is-downlink.ensures ∙ c.if1.true)
-
-window-settings-requires : tie.Need-window-settings-requires
-window-settings-requires c κs = search rules
-
-answer-in-requires : tie.Need-answer-in-requires
-answer-in-requires c κs = search rules
-
-returns-2 : tie.Need-returns-2
-returns-2 c =
-    let branch = c.before.before.before in
-    answered _ _ _ (sym branch.before.is-downlink.ensures ∙ branch.if1.false) c.before.window-settings.ensures c.answer-in.ensures
-
-pub next-answer-spec : {M : Type 1} → statement M
-next-answer-spec = tie.close (tie.spec is-downlink-requires returns window-settings-requires answer-in-requires returns-2)
+pub returns : goal.returns
+returns c = answered _ _ _ (sym c.is_downlink.ensures ∙ c.if-is_downlink.false) c.window_settings-then.ensures c.answer_in.ensures

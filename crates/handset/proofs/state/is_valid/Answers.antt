@@ -14,8 +14,7 @@ use Rattle.resource.specs.Formula.{edge}
 use Rattle.heard.specs.declared.Slot.{Slot}
 use Rattle.handset.specs.Checked.{slot_valid}
 use Rattle.handset.proofs.Together.{heard_together, valid_together}
-use Rattle.handset.proofs.state.is_valid.Statement.{statement}
-use Rattle.handset.proofs.state.is_valid.Tie as tie
+use Rattle.handset.proofs.state.is_valid.Goals as goal
 
 -- The code's tests are those of the law.
 module _ (s : Settings) (n : ℕ) (t : Slot) where
@@ -28,48 +27,9 @@ module _ (s : Settings) (n : ℕ) (t : Slot) where
       ≡ slot_valid s n t
   same some c ec cce below short eh set es down ed = rw (below, ec, eh, es, ed) (sym (valid_together s n t ∙ rw (ne_eqb t.kind 0 some)))
 
-returns : tie.Need-returns
-returns c = nothing _ _ _ c.if1.true
+pub returns-then-t-eq0 : goal.returns-then-t-eq0
+returns-then-t-eq0 c = nothing _ _ _ c.if-t-eq0.true
 
-cast-two : tie.Need-overflow-cast-two
-cast-two c = search rules
-
-cast-new : tie.Need-overflow-cast-new
-cast-new c = search rules
-
-new-requires : tie.Need-new-requires
-new-requires c κs = search rules
-
-is-cce-requires : tie.Need-is-cce-requires
-is-cce-requires c κs = search rules
-
-is-too-short-requires : tie.Need-is-too-short-requires
-is-too-short-requires c κs = search rules
-
-has-scheduled-requires : tie.Need-has-scheduled-requires
-has-scheduled-requires c κs = search rules
-
-is-downlink-requires : tie.Need-is-downlink-requires
-is-downlink-requires c κs = search rules
-
-returns-2 : tie.Need-returns-2
-returns-2 c =
-    let set = c.before.before in
-    let short = set.before.before.before in
-    let cce = short.before.before.before in
-    same _ _ _ cce.before.before.before.before.before.if1.false _ cce.before.new.ensures _ cce.is-cce.ensures _ short.is-too-short.ensures
-    _ set.has-scheduled.ensures _ c.is-downlink.ensures
-
-pub is-valid-spec : {M : Type 1} → statement M
-is-valid-spec =
-    tie.close
-    (tie.spec
-    returns
-    cast-two
-    cast-new
-    new-requires
-    is-cce-requires
-    is-too-short-requires
-    has-scheduled-requires
-    is-downlink-requires
-    returns-2)
+pub returns : goal.returns
+returns c = same _ _ _ c.if-t-eq0.false _ c.new-cce.ensures _ c.is_cce.ensures _ c.is_too_short.ensures
+    _ c.has_scheduled.ensures _ c.is_downlink.ensures

@@ -8,8 +8,7 @@ use Rattle.heard.specs.declared.Heard.{Heard}
 use Rattle.handset.specs.declared.Fed.{Fed}
 use Rattle.handset.specs.declared.Handset.{Handset}
 use Rattle.handset.specs.Feed.{next_answer, pushed, feed_refusal, fed_as, feed_of}
-use Rattle.handset.proofs.feeding.feed.Statement.{statement}
-use Rattle.handset.proofs.feeding.feed.Tie as tie
+use Rattle.handset.proofs.feeding.feed.Goals as goal
 
 refused_as : (h : Handset) (x : Heard) (r k : ℕ) → r ≡ k → (r ≡ 0 → ⊥)
     → ◌≡◌ {A = Fed} (record { answer = Refused r; handset = h }) (fed_as k h x)
@@ -26,22 +25,11 @@ taken : (h : Handset) (x : Heard) (a : Answer) (g : Handset) → feed_refusal h 
 unfolding feed_of
 taken h x a g e f p = rw (e, f, p)
 
-feed-refusal-requires : tie.Need-feed-refusal-requires
-feed-refusal-requires c κs = search rules
+pub returns-then-refusal-ne0 : goal.returns-then-refusal-ne0
+returns-then-refusal-ne0 c = refused _ _ _ c.feed_refusal-refusal.ensures c.if-refusal-ne0.true
 
-returns : tie.Need-returns
-returns c = refused _ _ _ c.before.feed-refusal.ensures c.if1.true
+pub push-handset-requires : goal.push-handset-requires
+push-handset-requires c = sym c.feed_refusal-refusal.ensures ∙ c.if-refusal-ne0.false
 
-next-answer-requires : tie.Need-next-answer-requires
-next-answer-requires c κs = search rules
-
-push-requires : tie.Need-push-requires
-push-requires c κs = sym c.before.before.feed-refusal.ensures ∙ c.before.if1.false
-
-returns-2 : tie.Need-returns-2
-returns-2 c =
-    let branch = c.before.before in
-    taken _ _ _ _ (sym branch.before.feed-refusal.ensures ∙ branch.if1.false) c.before.next-answer.ensures c.push.ensures
-
-pub feed-spec : {M : Type 1} → statement M
-feed-spec = tie.close (tie.spec feed-refusal-requires returns next-answer-requires push-requires returns-2)
+pub returns : goal.returns
+returns c = taken _ _ _ _ (sym c.feed_refusal-refusal.ensures ∙ c.if-refusal-ne0.false) c.next_answer-answer.ensures c.push-handset.ensures
