@@ -26,10 +26,10 @@ returns-then-refusal-ne0 c = let each = stops _ _ _ _ c.requires _ _ _ _ c.loop-
 
 pub put_answer-at-requires : goal.put_answer-at-requires
 put_answer-at-requires c = let none = sym (c.refusal_in-refusal.ensures ∙ ap (λ (f : Fed). refusal_in f.answer) c.feed-fed.ensures) ∙ c.if-refusal-ne0.false in
-    let each = rw c.feed-fed.ensures (
-      fits _ _ _ _ c.requires _ _ _ _ c.loop-i.invariant c.loop-i-test.true _ c.heard_at-x.ensures none,
-      room _ _ _ _ c.requires _ _ _ _ c.loop-i.invariant c.loop-i-test.true _ c.heard_at-x.ensures none,
-    ) in record { n_bound = each.0; answer_in_bounds = each.1 }
+    record {
+      n_bound = rw c.feed-fed.ensures (fits _ _ _ _ c.requires _ _ _ _ c.loop-i.invariant c.loop-i-test.true _ c.heard_at-x.ensures none);
+      answer_in_bounds = rw c.feed-fed.ensures (room _ _ _ _ c.requires _ _ _ _ c.loop-i.invariant c.loop-i-test.true _ c.heard_at-x.ensures none);
+    }
 
 pub loop-i-smaller : goal.loop-i-smaller
 loop-i-smaller c =
