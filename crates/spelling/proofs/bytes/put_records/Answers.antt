@@ -23,9 +23,5 @@ loop-i-preserved c =
     let after : c.number_after-i.result ≡ c.loop-i.i + 1 = c.number_after-i.ensures ∙ next_number _ (omega arith) in
     rw after (goes_on _ _ _ c.requires _ _ c.loop-i.invariant c.loop-i-test.true _ c.read_at.ensures _ c.put_record.ensures)
 
--- TODO need same-length
--- same_length : tie.Need-same-length invariant-loop decreases-loop
--- same_length c = c.before.loop.invariant.same
-
 pub returns : goal.returns
 returns c = ends _ _ _ c.requires _ _ c.loop-i.invariant c.loop-i-test.false
