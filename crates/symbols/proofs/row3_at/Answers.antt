@@ -2,14 +2,12 @@
 use mathlib.Core.List.{[], ◌∷◌, map}
 use mathlib.Core.Path.{refl, ◌∙◌}
 use native.Mathlib.Omega.{arith}
-use borrow.Author.Rules.{rules}
 use Rattle.symbols.specs.declared.Row3.{Row3}
 use Rattle.symbols.specs.declared.TableRow.{TableRow}
 use Rattle.symbols.specs.Coded.{cell_at, said_at, said_of}
 use Rattle.symbols.specs.Selection.{Row, table3}
 use Rattle.symbols.proofs.Tables.{entry, past}
-use Rattle.symbols.proofs.row3_at.Statement.{statement}
-use Rattle.symbols.proofs.row3_at.Tie as tie
+use Rattle.symbols.proofs.row3_at.Goals as goal
 
 -- the row of source for a row of the print
 abbrev source : Row → Row3
@@ -19,28 +17,13 @@ source r = record { 0 = cell_at r 0; 1 = cell_at r 1; 2 = cell_at r 2; 3 = said_
 abbrev wide : Row3 → TableRow
 wide r = record { cells = r.0 ∷ r.1 ∷ r.2 ∷ 4 ∷ []; says = said_of r.3 r.4 r.5 }
 
-blank-row-requires : tie.Need-blank-row-requires
-blank-row-requires c κs = search rules
-
-returns : tie.Need-returns
+pub returns-then-i-gt10 : goal.returns-then-i-gt10
 unfolding table3
-returns c = c.blank-row.ensures ∙ past table3 c.before.before.args.i (omega arith)
+returns-then-i-gt10 c = c.blank_row.ensures ∙ past table3 c.args.i (omega arith)
 
-mul-r : tie.Need-overflow-mul-r
-mul-r c = search rules
-
-array-copy-out-r : tie.Need-array-copy-out-r
-array-copy-out-r c = search rules
-
-said-requires : tie.Need-said-requires
-said-requires c κs = search rules
-
-returns-2 : tie.Need-returns-2
+pub returns : goal.returns
 unfolding table3
-returns-2 c =
-    let i = c.before.before.before.args.i in
+returns c =
+    let i = c.args.i in
     let zeros : Row3 = record { 0 = 0; 1 = 0; 2 = 0; 3 = 0; 4 = 0; 5 = 0 } in
     rw c.said.ensures (entry wide (map source table3) table3 refl i zeros (omega arith))
-
-pub row3-at-spec : {M : Type 1} → statement M
-row3-at-spec = tie.close (tie.spec blank-row-requires returns mul-r array-copy-out-r said-requires returns-2)

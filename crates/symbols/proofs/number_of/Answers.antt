@@ -12,8 +12,7 @@ use Rattle.symbols.specs.Selection.{table2, table3, table4, table_of, symbol_of}
 use Rattle.symbols.proofs.Codes.{states_length, states_mod}
 use Rattle.symbols.proofs.States.{other_silent}
 use Rattle.symbols.proofs.Tables.{numbered, up_to}
-use Rattle.symbols.proofs.number_of.Statement.{statement}
-use Rattle.symbols.proofs.number_of.Tie as tie
+use Rattle.symbols.proofs.number_of.Goals as goal
 
 -- the number of the symbol of a state with that number
 number : ℕ → ℕ → ℕ
@@ -44,94 +43,25 @@ outside : (size code : ℕ) → (size ≡ 2 → ⊥) → (size ≡ 3 → ⊥) �
 outside size code two three four =
     ap number_of (sym (other_silent (states_of size code) (rw states_length two) (rw states_length three) (rw states_length four)))
 
-cast-c : tie.Need-overflow-cast-c
-cast-c c = search rules
-
-mul-r : tie.Need-overflow-mul-r
-mul-r c = search rules
-
-array-copy-out-r : tie.Need-array-copy-out-r
-array-copy-out-r c = search rules
-
-mul-result : tie.Need-overflow-mul-result
-mul-result c = search rules
-
-array-read-result : tie.Need-array-read-result
-array-read-result c = search rules
-
-returns : tie.Need-returns
+pub returns-then-size-eq2 : goal.returns-then-size-eq2
 unfolding number row-numbers symbol_of table_of table2
-returns c =
-    let a = c.before.before.before.args in
-    number_at 2 1 a.size a.code c.before.before.if1.true (omega arith)
+returns-then-size-eq2 c =
+    let a = c.args in
+    number_at 2 1 a.size a.code c.if-size-eq2.true (omega arith)
 
-cast-c-2 : tie.Need-overflow-cast-c-2
-cast-c-2 c = search rules
-
-mul-r-2 : tie.Need-overflow-mul-r-2
-mul-r-2 c = search rules
-
-array-copy-out-r-2 : tie.Need-array-copy-out-r-2
-array-copy-out-r-2 c = search rules
-
-mul-result-2 : tie.Need-overflow-mul-result-2
-mul-result-2 c = search rules
-
-array-read-result-2 : tie.Need-array-read-result-2
-array-read-result-2 c = search rules
-
-returns-2 : tie.Need-returns-2
+pub returns-then-size-eq3 : goal.returns-then-size-eq3
 unfolding number row-numbers symbol_of table_of table3
-returns-2 c =
-    let a = c.before.before.before.before.args in
-    number_at 3 3 a.size a.code c.before.before.if2.true (omega arith)
+returns-then-size-eq3 c =
+    let a = c.args in
+    number_at 3 3 a.size a.code c.if-size-eq3.true (omega arith)
 
-cast-c-3 : tie.Need-overflow-cast-c-3
-cast-c-3 c = search rules
-
-mul-r-3 : tie.Need-overflow-mul-r-3
-mul-r-3 c = search rules
-
-array-copy-out-r-3 : tie.Need-array-copy-out-r-3
-array-copy-out-r-3 c = search rules
-
-mul-result-3 : tie.Need-overflow-mul-result-3
-mul-result-3 c = search rules
-
-array-read-result-3 : tie.Need-array-read-result-3
-array-read-result-3 c = search rules
-
-returns-3 : tie.Need-returns-3
+pub returns-then-size-eq4 : goal.returns-then-size-eq4
 unfolding number row-numbers symbol_of table_of table4
-returns-3 c =
-    let a = c.before.before.before.before.before.args in
-    number_at 4 9 a.size a.code c.before.before.if3.true (omega arith)
+returns-then-size-eq4 c =
+    let a = c.args in
+    number_at 4 9 a.size a.code c.if-size-eq4.true (omega arith)
 
-returns-4 : tie.Need-returns-4
-returns-4 c =
-    let a = c.before.before.before.args in
+pub returns : goal.returns
+returns c =
+    let a = c.args in
     outside a.size a.code (search rules) (search rules) (search rules)
-
-pub number-of-spec : {M : Type 1} → statement M
-number-of-spec =
-    tie.close
-    (tie.spec
-    cast-c
-    mul-r
-    array-copy-out-r
-    mul-result
-    array-read-result
-    returns
-    cast-c-2
-    mul-r-2
-    array-copy-out-r-2
-    mul-result-2
-    array-read-result-2
-    returns-2
-    cast-c-3
-    mul-r-3
-    array-copy-out-r-3
-    mul-result-3
-    array-read-result-3
-    returns-3
-    returns-4)

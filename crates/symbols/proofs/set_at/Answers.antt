@@ -9,8 +9,7 @@ use Rattle.symbols.specs.Coded.{set_number}
 use Rattle.symbols.specs.Delivered.{in_some_row, delivered_at, delivered_set}
 use Rattle.symbols.specs.Selection.{table2, table3, table4, table_of, symbol_of}
 use Rattle.symbols.proofs.Tables.{numbered, up_to}
-use Rattle.symbols.proofs.set_at.Statement.{statement}
-use Rattle.symbols.proofs.set_at.Tie as tie
+use Rattle.symbols.proofs.set_at.Goals as goal
 
 -- what symbol x delivers for M = m + 2
 set : ℕ → ℕ → ℕ
@@ -23,21 +22,6 @@ sets-at : (m x : ℕ) → m < 3 → x < 16 → get_or (get_or (map sets (up_to 3
 unfolding sets
 sets-at m x hm hx = ap (λ (r : Sets). get_or r.0 x 0) (numbered sets 3 m (record { 0 = [] }) hm) ∙ numbered (set m) 16 x 0 hx
 
-mul-r : tie.Need-overflow-mul-r
-mul-r c = search rules
-
-array-copy-out-r : tie.Need-array-copy-out-r
-array-copy-out-r c = search rules
-
-mul-result : tie.Need-overflow-mul-result
-mul-result c = search rules
-
-array-read-result : tie.Need-array-read-result
-array-read-result c = search rules
-
-returns : tie.Need-returns
+pub returns : goal.returns
 unfolding set sets set_number in_some_row delivered_at delivered_set symbol_of table_of table2 table3 table4
-returns c = sets-at c.before.before.args.m c.before.before.args.x (search rules) (search rules)
-
-pub set-at-spec : {M : Type 1} → statement M
-set-at-spec = tie.close (tie.spec mul-r array-copy-out-r mul-result array-read-result returns)
+returns c = sets-at c.args.m c.args.x (search rules) (search rules)

@@ -19,8 +19,7 @@ use Rattle.symbols.specs.Selection.{symbol_of}
 use Rattle.symbols.proofs.Codes.{number_parts}
 use Rattle.symbols.proofs.Reading.{in_no_row, set_below}
 use Rattle.symbols.proofs.Rows.{sent_size, index_heard, bits_small}
-use Rattle.symbols.proofs.delivered.Statement.{statement}
-use Rattle.symbols.proofs.delivered.Tie as tie
+use Rattle.symbols.proofs.delivered.Goals as goal
 
 set_small : (size i b0 b1 : ℕ) → size ≤ 4 → delivered_set size i b0 b1 < 16
 unfolding delivered_set
@@ -50,71 +49,31 @@ read size i b0 b1 r h found =
     go true e = rw (e, lt-ltb (delivered_set size i b0 b1) 16 (set_small size i b0 b1 h.1))
     go false e = rw e
 
-returns : tie.Need-returns
-returns c = outside _ _ _ _ (λ inside. omega arith)
+pub returns-then-size-lt2 : goal.returns-then-size-lt2
+returns-then-size-lt2 c = outside _ _ _ _ (λ inside. omega arith)
 
-returns-2 : tie.Need-returns-2
-returns-2 c = outside _ _ _ _ (λ inside. omega arith)
+pub returns-then-size-gt4 : goal.returns-then-size-gt4
+returns-then-size-gt4 c = outside _ _ _ _ (λ inside. omega arith)
 
-returns-3 : tie.Need-returns-3
-returns-3 c = outside _ _ _ _ (λ inside. omega arith)
+pub returns-then-i-gt3 : goal.returns-then-i-gt3
+returns-then-i-gt3 c = outside _ _ _ _ (λ inside. omega arith)
 
-returns-4 : tie.Need-returns-4
-returns-4 c = outside _ _ _ _ (λ inside. omega arith)
+pub returns-then-b0-gt1 : goal.returns-then-b0-gt1
+returns-then-b0-gt1 c = outside _ _ _ _ (λ inside. omega arith)
 
-returns-5 : tie.Need-returns-5
-returns-5 c = outside _ _ _ _ (λ inside. omega arith)
+pub returns-then-b1-gt1 : goal.returns-then-b1-gt1
+returns-then-b1-gt1 c = outside _ _ _ _ (λ inside. omega arith)
 
-cast-set-at : tie.Need-overflow-cast-set-at
-cast-set-at c = search rules
-
-mul-set-at : tie.Need-overflow-mul-set-at
-mul-set-at c = search rules
-
-mul-set-at-2 : tie.Need-overflow-mul-set-at-2
-mul-set-at-2 c = search rules
-
-add-set-at : tie.Need-overflow-add-set-at
-add-set-at c = search rules
-
-add-set-at-2 : tie.Need-overflow-add-set-at-2
-add-set-at-2 c = search rules
-
-cast-set-at-2 : tie.Need-overflow-cast-set-at-2
-cast-set-at-2 c = search rules
-
-set-at-requires : tie.Need-set-at-requires
-set-at-requires c κs = search rules
-
-returns-6 : tie.Need-returns-6
-returns-6 c =
-    let a = c.before.before.before.before.before.before.before.args in
+pub returns-then-set-lt16 : goal.returns-then-set-lt16
+returns-then-set-lt16 c =
+    let a = c.args in
     sym
-    (read a.size a.i a.b0 a.b1 c.before.set_at.result (search rules) c.before.set_at.ensures
-    ∙ rw (lt-ltb _ _ c.if6.true))
+    (read a.size a.i a.b0 a.b1 c.set_at-set.result (search rules) c.set_at-set.ensures
+    ∙ rw (lt-ltb _ _ c.if-set-lt16.true))
 
-returns-7 : tie.Need-returns-7
-returns-7 c =
-    let a = c.before.before.before.before.before.before.before.args in
+pub returns-else-set-lt16 : goal.returns-else-set-lt16
+returns-else-set-lt16 c =
+    let a = c.args in
     sym
-    (read a.size a.i a.b0 a.b1 c.before.set_at.result (search rules) c.before.set_at.ensures
-    ∙ rw (le-ltb _ _ c.if6.false))
-
-pub delivered-spec : {M : Type 1} → statement M
-delivered-spec =
-    tie.close
-    (tie.spec
-    returns
-    returns-2
-    returns-3
-    returns-4
-    returns-5
-    cast-set-at
-    mul-set-at
-    mul-set-at-2
-    add-set-at
-    add-set-at-2
-    cast-set-at-2
-    set-at-requires
-    returns-6
-    returns-7)
+    (read a.size a.i a.b0 a.b1 c.set_at-set.result (search rules) c.set_at-set.ensures
+    ∙ rw (le-ltb _ _ c.if-set-lt16.false))
