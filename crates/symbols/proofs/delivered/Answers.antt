@@ -65,15 +65,13 @@ pub returns-then-b1-gt1 : goal.returns-then-b1-gt1
 returns-then-b1-gt1 c = outside _ _ _ _ (λ inside. omega arith)
 
 pub returns-then-set-lt16 : goal.returns-then-set-lt16
-returns-then-set-lt16 c =
-    let a = c.args in
+returns-then-set-lt16 c = let a = c.args in
     sym
     (read a.size a.i a.b0 a.b1 c.set_at-set.result (search rules) c.set_at-set.ensures
     ∙ rw (lt-ltb _ _ c.if-set-lt16.true))
 
 pub returns-else-set-lt16 : goal.returns-else-set-lt16
-returns-else-set-lt16 c =
-    let a = c.args in
+returns-else-set-lt16 c = let a = c.args in
     sym
     (read a.size a.i a.b0 a.b1 c.set_at-set.result (search rules) c.set_at-set.ensures
     ∙ rw (le-ltb _ _ c.if-set-lt16.false))

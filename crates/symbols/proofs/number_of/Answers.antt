@@ -45,23 +45,19 @@ outside size code two three four =
 
 pub returns-then-size-eq2 : goal.returns-then-size-eq2
 unfolding number row-numbers symbol_of table_of table2
-returns-then-size-eq2 c =
-    let a = c.args in
+returns-then-size-eq2 c = let a = c.args in
     number_at 2 1 a.size a.code c.if-size-eq2.true (omega arith)
 
 pub returns-then-size-eq3 : goal.returns-then-size-eq3
 unfolding number row-numbers symbol_of table_of table3
-returns-then-size-eq3 c =
-    let a = c.args in
+returns-then-size-eq3 c = let a = c.args in
     number_at 3 3 a.size a.code c.if-size-eq3.true (omega arith)
 
 pub returns-then-size-eq4 : goal.returns-then-size-eq4
 unfolding number row-numbers symbol_of table_of table4
-returns-then-size-eq4 c =
-    let a = c.args in
+returns-then-size-eq4 c = let a = c.args in
     number_at 4 9 a.size a.code c.if-size-eq4.true (omega arith)
 
 pub returns : goal.returns
-returns c =
-    let a = c.args in
+returns c = let a = c.args in
     outside a.size a.code (search rules) (search rules) (search rules)

@@ -2,6 +2,7 @@
 use mathlib.Core.List.{[], ◌∷◌, map}
 use mathlib.Core.Path.{refl, ◌∙◌}
 use native.Mathlib.Omega.{arith}
+use borrow.Author.Rules.{rules}
 use Rattle.symbols.specs.declared.Row2.{Row2}
 use Rattle.symbols.specs.declared.TableRow.{TableRow}
 use Rattle.symbols.specs.Coded.{cell_at, said_at, said_of}
@@ -23,7 +24,6 @@ returns-then-i-gt5 c = c.blank_row.ensures ∙ past table2 c.args.i (omega arith
 
 pub returns : goal.returns
 unfolding table2
-returns c =
-    let i = c.args.i in
+returns c = let i = c.args.i in
     let zeros : Row2 = record { 0 = 0; 1 = 0; 2 = 0; 3 = 0; 4 = 0 } in
     rw c.said.ensures (entry wide (map source table2) table2 refl i zeros (omega arith))

@@ -17,6 +17,5 @@ unfolding table_of
 returns-then-size-eq4 c = rw c.if-size-eq4.true c.row4_at.ensures
 
 pub returns : goal.returns
-returns c =
-    let size = c.args.size in
+returns c = let size = c.args.size in
     rw (no_table size (search rules) (search rules) (search rules)) c.blank_row.ensures
