@@ -42,7 +42,7 @@ use Rattle.station.specs.declared.Reading.{Reading}
 use Rattle.station.specs.declared.Reading.TheVariants as reading
 use Rattle.station.specs.Readings.{bad_bits, bundled_reading, read_at}
 use Rattle.agreement.specs.Run.{RuleFrom, Brings}
-use Rattle.agreement.specs.Window.{Entry, at, is_pdcch, any_of, BlockAt, lost_before, unheard, heard_at, as_last, last_heard, decoded_first, decoded_second, EveryHeard, BundledReply, Bundled}
+use Rattle.agreement.specs.Window.{Entry, is_pdcch, any_of, BlockAt, lost_before, unheard, heard_at, as_last, last_heard, decoded_first, decoded_second, EveryHeard, BundledReply, Bundled}
 use Rattle.agreement.proofs.Counted.{seen_folded, u_counted, v_numbered, entries_few, block_heard_holds}
 use Rattle.agreement.proofs.Entries.{OfWindow, of_window, in_time_holds, entry, last_of, some_last, none_last, block_at, some_of}
 use Rattle.agreement.proofs.Exactly.{sent_exactly}

@@ -3,11 +3,10 @@
 use Prim.Native.Nat.{ℕ, zero, suc, ◌-◌, ◌%◌, ◌≤◌}
 use mathlib.Core.Bool.{Bool, true, false, cond}
 use mathlib.Core.List.{List, [], ◌∷◌}
-use mathlib.Core.Path.{◌≡◌, refl, sym, ap, ◌∙◌}
-use native.Mathlib.Nat.{not-suc-le-zero}
+use mathlib.Core.Path.{◌≡◌, refl, ap, ◌∙◌}
 use native.Mathlib.Omega.{arith}
 use lib.Dec.{T, eqb, leb, eqb→eq}
-use lib.ListN.{length, get_or}
+use lib.ListN.{get_or}
 use borrow.Author.Tests.{eqb-true}
 use Rattle.frame.specs.declared.Settings.{Settings}
 use Rattle.frame.specs.Earliest.{earliest_k}
@@ -25,7 +24,7 @@ use Rattle.heard.specs.declared.Heard.TheVariants.{Nothing, Granted, Scheduled, 
 use Rattle.heard.specs.Heard.{uplink_refusal, short_refusal, data_refusal, carried_refusal, pdcch_refusal, unset_refusal, heard_refusal, second_refusal, cause_of}
 use Rattle.handset.specs.Modes.{mode_ago, modes_before, modes_pushed, modes_sound}
 use Rattle.handset.proofs.ModeBits.{newest_mode, older_mode, made_mode, modes_exactly}
-use Rattle.agreement.specs.Run.{Item, feed, change, cause_after, standing, modes_from, modes_in_run, stood_ago, largest, window_at, window_mode, settings_in, Schedule}
+use Rattle.agreement.specs.Run.{Item, feed, change, cause_after, standing, modes_from, modes_in_run, largest, window_at, window_mode, settings_in, Schedule}
 
 -- What is brought is refused alike in every mode: no cause of a feed looks at it.
 heard_in_holds : (s : Settings) (m n : ℕ) (x : Heard) → heard_refusal (in_mode s m) n x ≡ heard_refusal s n x

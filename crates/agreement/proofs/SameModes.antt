@@ -1,7 +1,6 @@
 -- Document 02, U8, moved nothing for a run without changes of mode: every window's mode is the one that the handset was made with.
 -- Assumes nothing.
 use Prim.Native.Nat.{ℕ, zero, suc, ◌-◌}
-use mathlib.Core.Bool.{Bool, true, false, cond, false≢true}
 use mathlib.Core.List.{List, [], ◌∷◌}
 use mathlib.Core.Path.{◌≡◌, refl, ap}
 use lib.Dec.{eqb, leb}

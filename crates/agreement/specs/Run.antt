@@ -1,7 +1,7 @@
 -- The runs of demand 3: document 01, "The runs of demand 3"; document 02, U1, U8 and U9. Their sentences stand above the definitions that
 -- they give.
 -- Assumes nothing.
-use Rattle.std.specs.Prelude.{ℕ, ◌-◌, ◌%◌, ◌+◌, ◌<◌, true, false, cond, List, [], ◌∷◌, map, ◌⊎◌, ◌≡◌, eqb, leb, ltb, length, get_or, take}
+use Rattle.std.specs.Prelude.{ℕ, ◌-◌, ◌%◌, ◌+◌, ◌<◌, true, cond, List, [], ◌∷◌, map, ◌⊎◌, ◌≡◌, eqb, leb, ltb, length, get_or, take}
 use Rattle.frame.specs.declared.Settings.{Settings}
 use Rattle.frame.specs.Order.{member, times_of}
 use Rattle.frame.specs.Settings.{new_mode_refusal, in_mode}

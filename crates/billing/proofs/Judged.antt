@@ -1,20 +1,18 @@
 -- The verdict of feedback_confirmed in the runs of demand 3 (specs/Verdict.antt): a truthful station is not refused, and each block that is
 -- called confirmed was decoded.
 -- Assumes nothing.
-use Prim.Native.Nat.{ℕ, ◌/◌, ◌%◌, ◌^◌, ◌<◌}
-use mathlib.Core.Bool.{true}
-use mathlib.Core.Logic.{◌↔◌}
-use mathlib.Core.Path.{◌≡◌, sym, ◌∙◌}
+use Prim.Native.Nat.{ℕ}
+use mathlib.Core.Path.{◌≡◌, ◌∙◌}
 use Rattle.station.specs.declared.Reading.{Reading}
 use Rattle.confirmation.specs.Confirmed.{confirmed}
 use Rattle.confirmation.proofs.Same.{confirmed_same}
 use Rattle.confirming.specs.declared.Confirmed.{Confirmed}
-use Rattle.confirming.specs.Blocks.{reading_refusal, confirmed_of}
+use Rattle.confirming.specs.Blocks.{confirmed_of}
 use Rattle.confirming.specs.Exactly.{reply_read, HasConfirmed}
 use Rattle.confirming.proofs.Answers.{blocks_confirmed}
 use Rattle.agreement.specs.Demand3.{feedback_engine}
 use Rattle.agreement.proofs.Conclusions.{scheduler_may_conclude}
-use Rattle.billing.specs.Billing.{Billable, decoded_there}
+use Rattle.billing.specs.Billing.{Billable}
 use Rattle.billing.specs.Verdict.{confirm_at, IsConfirmed, WasDecoded, Verdict, Judged}
 use Rattle.billing.proofs.Billed.{n, K, sent, recorded, own, same, none_called, read, never_refused}
 use Rattle.billing.proofs.Same.{same_told}

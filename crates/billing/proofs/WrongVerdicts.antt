@@ -6,14 +6,12 @@
 --   first_decoded    every first block of the window                                  not_every_first
 --   second_decoded   every second block of the window                                 not_every_second
 -- Assumes nothing.
-use Prim.Native.Nat.{ℕ}
 use mathlib.Core.Bool.{false≢true}
-use mathlib.Core.Path.{◌≡◌, refl}
+use mathlib.Core.Path.{refl}
 use native.Mathlib.Omega.{arith}
 use Rattle.confirming.specs.declared.Confirmed.{Confirmed}
 use Rattle.confirming.specs.Blocks.{confirmed_of}
 use Rattle.agreement.specs.Demand3.{feedback_engine}
-use Rattle.engines.proofs.Computing.{schedules}
 use Rattle.billing.specs.Verdict.{Confirming, Judged}
 use Rattle.billing.proofs.WorkedBills.{crediting, both_heard, fifth_heard, first_grant}
 

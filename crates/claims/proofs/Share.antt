@@ -15,7 +15,6 @@ use Rattle.frame.proofs.Bools.{both}
 use Rattle.frame.proofs.Ports.{second_of_two, two_have_second}
 use Rattle.resource.specs.declared.Mapped.{Mapped}
 use Rattle.resource.specs.declared.Mapped.TheVariants as mapped
-use Rattle.resource.specs.declared.Resource.{Resource}
 use Rattle.resource.specs.Calls.{size_of}
 use Rattle.resource.specs.Formula.{edge}
 use Rattle.resource.proofs.OneToOne.{calls_one_to_one}

@@ -10,11 +10,10 @@ use native.Mathlib.Numerals.{add-one}
 use native.Mathlib.Omega.{arith}
 use lib.ListN.{length, get_or, set, length-set}
 use borrow.Author.Count.{below_more}
-use Rattle.frame.specs.declared.Settings.{Settings}
 use Rattle.frame.proofs.Accepted.{unmet}
 use Rattle.claims.specs.declared.ClaimedWindow.{ClaimedWindow}
 use Rattle.claims.specs.Bits.{bit_room_of, bit_marked_up_to}
-use Rattle.claims.specs.Claims.{ports_more, room_of, is_bad, earlier, first_clash, marked, marked_up_to}
+use Rattle.claims.specs.Claims.{ports_more, room_of, earlier, first_clash, marked, marked_up_to}
 use Rattle.claims.specs.Forms.{bit_at}
 use Rattle.claims.specs.Marking.{Has, Ready, with_bit, Offset}
 use Rattle.claims.proofs.BitMarks as bits

@@ -1,14 +1,12 @@
 -- What is refused before the reply is looked at, from one pass over the records.
 -- Assumes nothing.
 use Prim.Native.Nat.{ℕ, zero, suc, ◌<◌, ◌≤◌}
-use mathlib.Core.Bool.{Bool, true, false, cond}
 use mathlib.Core.List.{List, map}
-use mathlib.Core.Path.{◌≡◌, refl, sym, ap, ◌∙◌}
+use mathlib.Core.Path.{◌≡◌, sym, ap, ◌∙◌}
 use native.Mathlib.Omega.{arith}
-use lib.Dec.{eqb, ltb}
 use borrow.Author.Tests.{lt-ltb, le-ltb, ne_eqb}
 use Rattle.frame.specs.declared.Settings.{Settings}
-use Rattle.frame.specs.Settings.{or_else, window_refusal}
+use Rattle.frame.specs.Settings.{window_refusal}
 use Rattle.frame.specs.Table.{window_of}
 use Rattle.frame.proofs.Causes.{refused_first, refused_next}
 use Rattle.station.specs.declared.Reading.{Reading}

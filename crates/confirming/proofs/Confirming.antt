@@ -1,31 +1,30 @@
 -- The blocks that a reading confirms, found position by position, are those of the definition.
 -- Assumes nothing.
-use Prim.Native.Nat.{ℕ, suc, ◌+◌, ◌-◌, ◌*◌, ◌/◌, ◌%◌, ◌^◌, ◌<◌, ◌≤◌}
+use Prim.Native.Nat.{ℕ, ◌+◌, ◌-◌, ◌*◌, ◌<◌, ◌≤◌}
 use mathlib.Core.Bool.{Bool, true, false, cond, ◌&&◌}
 use mathlib.Core.List.{List}
-use mathlib.Core.Path.{◌≡◌, refl, sym, ap, ◌∙◌}
+use mathlib.Core.Path.{◌≡◌, refl, ◌∙◌}
 use native.Mathlib.Omega.{arith}
-use lib.Dec.{eqb, ltb}
+use lib.Dec.{ltb}
 use lib.ListN.{length, get_or}
 use borrow.Author.Tests.{lt-ltb}
 use Rattle.frame.specs.declared.Window.{Window}
 use Rattle.frame.specs.Coded.{coded_window}
 use Rattle.frame.specs.Table.{window_of}
 use Rattle.frame.proofs.Read.{size_read, k_read}
-use Rattle.symbols.specs.Delivered.{set_of}
 use Rattle.station.specs.declared.Place.{Place}
 use Rattle.station.specs.declared.Reading.{Reading}
 use Rattle.station.specs.declared.Reading.TheVariants.{Bundled, Multiplexed, Refused}
 use Rattle.station.specs.Readings.{Names}
 use Rattle.confirmation.specs.declared.Send.{Send}
-use Rattle.confirmation.specs.Confirmed.{named_sent, holds_for, acknowledged, confirmed}
+use Rattle.confirmation.specs.Confirmed.{holds_for, acknowledged, confirmed}
 use Rattle.confirmation.specs.Sent.{blocks_of}
 use Rattle.confirmation.proofs.Confirmed.{refused_none}
 use Rattle.confirming.specs.declared.blocks.Named.{Named}
 use Rattle.confirming.specs.declared.Confirmed.{Confirmed}
 use Rattle.confirming.specs.declared.Sent.{Sent}
 use Rattle.confirming.specs.declared.SentWindow.{SentWindow}
-use Rattle.confirming.specs.Blocks.{reading_refusal, confirmed_by}
+use Rattle.confirming.specs.Blocks.{confirmed_by}
 use Rattle.confirming.specs.Coded.{holds_by, NamedBy, ReadsBy, says_by, confirms_by, set_from}
 use Rattle.confirming.specs.Records.{nothing_sent, send_of, sent_in}
 use Rattle.confirming.proofs.Records.{sent_at}

@@ -1,11 +1,11 @@
 -- What is kept of the place that a reading names says what the definitions say of it.
 -- Assumes nothing.
 use Prim.Native.Nat.{ℕ, ◌<◌, ◌≤◌}
-use mathlib.Core.Bool.{Bool, true, false, cond, ◌&&◌, false≢true}
+use mathlib.Core.Bool.{Bool, true, false, false≢true}
 use mathlib.Core.List.{List}
-use mathlib.Core.Path.{◌≡◌, refl, sym, ap, ◌∙◌}
+use mathlib.Core.Path.{◌≡◌, sym, ◌∙◌}
 use native.Mathlib.Omega.{arith}
-use lib.Dec.{eqb, leb, ltb}
+use lib.Dec.{leb}
 use lib.ListN.{length, get_or}
 use borrow.Author.Tests.{lt-ltb, le-ltb}
 use Rattle.frame.specs.declared.Window.{Window}
@@ -18,7 +18,7 @@ use Rattle.station.specs.declared.Place.{Place}
 use Rattle.station.specs.declared.Place.TheVariants.{Pdcch, Block}
 use Rattle.station.specs.Readings.{place_position}
 use Rattle.confirmation.specs.declared.Send.{Send}
-use Rattle.confirmation.specs.Confirmed.{named_sent, sent_up_to, holds_for}
+use Rattle.confirmation.specs.Confirmed.{named_sent, sent_up_to}
 use Rattle.confirmation.specs.Sent.{is_block, has_cce}
 use Rattle.confirming.specs.declared.blocks.Named.{Named}
 use Rattle.confirming.specs.declared.Sent.{Sent}

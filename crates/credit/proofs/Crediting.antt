@@ -1,13 +1,10 @@
 -- The credit of a reading, and what is refused before it.
 -- Assumes nothing.
 use Prim.Native.Nat.{ℕ, zero, suc}
-use mathlib.Core.Bool.{Bool, true, false, cond}
 use mathlib.Core.List.{List}
-use mathlib.Core.Path.{◌≡◌, refl, sym, ap, ◌∙◌}
-use native.Mathlib.Omega.{arith}
-use lib.Dec.{eqb}
+use mathlib.Core.Path.{◌≡◌, sym, ap, ◌∙◌}
 use lib.ListN.{length}
-use borrow.Author.Tests.{eq-eqb, ne_eqb}
+use borrow.Author.Tests.{ne_eqb}
 use Rattle.account.specs.declared.Account.{Account}
 use Rattle.account.specs.declared.Added.{Added}
 use Rattle.account.specs.Account.{add_of}
@@ -19,7 +16,6 @@ use Rattle.frame.proofs.Causes.{refused_first, refused_next}
 use Rattle.account.specs.Account.{account_refusal}
 use Rattle.station.specs.declared.Reading.{Reading}
 use Rattle.station.specs.Readings.{read_as, read_of}
-use Rattle.confirmation.specs.declared.Send.{Send}
 use Rattle.confirmation.specs.Sent.{told_of}
 use Rattle.confirming.specs.declared.Checked.{Checked}
 use Rattle.confirming.specs.declared.Confirmed.{Confirmed}

@@ -1,12 +1,12 @@
 -- 25 for the sizes of a window, record by record, and refusals one after the other.
 -- Assumes nothing.
-use Prim.Native.Nat.{ℕ, suc, ◌+◌, ◌<◌, ◌≤◌}
-use mathlib.Core.Bool.{Bool, true, false, cond, ◌||◌}
+use Prim.Native.Nat.{ℕ, ◌+◌, ◌<◌, ◌≤◌}
+use mathlib.Core.Bool.{Bool, true, false, ◌||◌}
 use mathlib.Core.List.{List}
-use mathlib.Core.Path.{◌≡◌, refl, sym, ap, ◌∙◌}
+use mathlib.Core.Path.{◌≡◌, ◌∙◌}
 use native.Mathlib.Numerals.{add-one}
 use native.Mathlib.Omega.{arith}
-use lib.ListN.{length, get_or, drop, take, drop_of_length-le, length-take}
+use lib.ListN.{length, get_or, drop, take, drop_of_length-le}
 use lib.Seq.{drop-cons, get_or-take, length-take-le}
 use Rattle.confirming.specs.declared.Sent.{Sent}
 use Rattle.confirming.specs.Records.{nothing_sent}

@@ -1,14 +1,13 @@
 -- Octets as the code finds them: a block, a record, a window.
 -- Assumes nothing.
-use Prim.Native.Nat.{ℕ, zero, suc, ◌+◌, ◌-◌, ◌*◌, ◌/◌, ◌%◌, ◌^◌, ◌<◌, ◌≤◌}
+use Prim.Native.Nat.{ℕ, zero, suc, ◌+◌, ◌*◌, ◌/◌, ◌^◌, ◌<◌, ◌≤◌}
 use mathlib.Core.Bool.{Bool, true, false, cond, ◌&&◌, and-false, and-true}
 use mathlib.Core.List.{List}
 use mathlib.Core.Path.{◌≡◌, refl, sym, ap, ◌∙◌}
 use native.Mathlib.Nat.{zero-div}
 use native.Mathlib.Numerals.{add-one}
 use native.Mathlib.Omega.{arith}
-use lib.Dec.{eqb, lit<}
-use lib.ListN.{length, get_or, take}
+use lib.ListN.{length, get_or}
 use lib.Seq.{get_or-take}
 use borrow.Author.Tests.{eq-eqb, ne_eqb}
 use Rattle.frame.specs.declared.Window.{Window}
@@ -20,12 +19,11 @@ use Rattle.frame.proofs.Read.{size_read, k_read}
 use Rattle.symbols.specs.Delivered.{set_of}
 use Rattle.symbols.proofs.Reading.{set_bit}
 use Rattle.station.specs.declared.Reading.{Reading}
-use Rattle.confirmation.specs.declared.Send.{Send}
 use Rattle.confirmation.specs.Confirmed.{confirmed}
 use Rattle.confirming.specs.declared.Sent.{Sent}
 use Rattle.confirming.specs.declared.SentWindow.{SentWindow}
 use Rattle.confirming.specs.Blocks.{confirmed_by}
-use Rattle.confirming.specs.Records.{nothing_sent, record_at, sent_in}
+use Rattle.confirming.specs.Records.{nothing_sent, sent_in}
 use Rattle.sizes.specs.Table.{flat, size_in, block_size, table_column}
 use Rattle.sizes.proofs.Sizes.{size_in_flat, size_most_holds}
 use Rattle.credit.specs.declared.octets.Blocks.{Blocks}

@@ -14,7 +14,6 @@ use Rattle.confirmation.specs.declared.Send.{Send}
 use Rattle.confirmation.specs.Confirmed.{sent_up_to, confirmed}
 use Rattle.confirmation.specs.Exactly.{WasSent, MultiplexedConfirmed}
 use Rattle.confirmation.specs.Sent.{is_pdcch, blocks_of}
-use Rattle.confirming.specs.declared.Sent.{Sent}
 use Rattle.confirming.specs.declared.SentWindow.{SentWindow}
 use Rattle.confirming.specs.Blocks.{reading_refusal}
 use Rattle.confirming.specs.Exactly.{send_at, reply_read}

@@ -1,15 +1,14 @@
 -- Handsets that go wrong where the mode changes (document 02, U8), with one fault each, and the field of the statement that shuts each of
 -- them out; WrongEngines.antt lists them.
 -- Assumes nothing.
-use Prim.Native.Nat.{ℕ, ◌+◌, ◌%◌, ◌<◌}
+use Prim.Native.Nat.{ℕ, ◌+◌, ◌%◌}
 use mathlib.Core.Bool.{Bool, true, cond, ◌&&◌}
 use mathlib.Core.List.{List, [], ◌∷◌}
 use mathlib.Core.Logic.{inl}
-use mathlib.Core.Path.{◌≡◌, refl, ap, ◌∙◌, sym}
+use mathlib.Core.Path.{refl, ap}
 use native.Mathlib.Omega.{arith}
 use lib.Dec.{eqb}
-use lib.ListN.{length, get_or}
-use Rattle.frame.specs.declared.Settings.{Settings}
+use lib.ListN.{get_or}
 use Rattle.frame.specs.Settings.{in_mode}
 use Rattle.frame.specs.Table.{window_of}
 use Rattle.heard.specs.declared.Heard.TheVariants.{Nothing}
@@ -24,12 +23,10 @@ use Rattle.handset.specs.declared.Handset.{Handset}
 use Rattle.handset.specs.Change.{in_new_mode, change_of}
 use Rattle.handset.specs.Make.{fresh}
 use Rattle.handset.specs.Modes.{mode_ago, modes_before}
-use Rattle.agreement.specs.Demand3.{Engine, fed_at, IsSubframe, reading_in, Demand3}
-use Rattle.agreement.specs.Run.{sent_ago, heard_ago, heard_in_run, window_at, settings_in}
-use Rattle.agreement.specs.Window.{in_time, Bundled, Multiplexed}
+use Rattle.agreement.specs.Demand3.{Engine, Demand3}
+use Rattle.agreement.specs.Run.{settings_in}
 use Rattle.engines.proofs.ChangedRuns.{between_windows, between_windows_holds, changed_first, changed_first_holds, refused_changes, refused_changes_holds}
 use Rattle.engines.proofs.Computing.{schedules, handsets}
-use Rattle.engines.proofs.Finite.{sending}
 use Rattle.engines.proofs.Worked.{Run, fed_nothing_at}
 use Rattle.engines.proofs.WrongEngines.{changed_by, knows_by, answering, same_answer, holds_in, BundledAt, MultiplexedAt}
 

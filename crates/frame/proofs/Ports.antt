@@ -1,7 +1,7 @@
 -- A handset has a second antenna port exactly if it has two.
 -- Assumes nothing.
 use mathlib.Core.Bool.{true, false}
-use mathlib.Core.Path.{◌≡◌, refl}
+use mathlib.Core.Path.{◌≡◌}
 use borrow.Author.Tests.{eqb-true, eq-eqb}
 use Rattle.frame.specs.declared.Settings.{Settings}
 use Rattle.frame.specs.Settings.{has_second_port}

@@ -1,11 +1,10 @@
 -- Every reply carries the resource of the second antenna port, whatever the settings and whatever was heard: document 02, U9.
 -- Assumes nothing.
 use Prim.Native.Nat.{ℕ}
-use mathlib.Core.Bool.{cond}
 use mathlib.Core.List.{List}
 use mathlib.Core.Path.{◌≡◌, refl, subst}
 use lib.Dec.{eqb}
-use lib.ListN.{length, get_or}
+use lib.ListN.{length}
 use Rattle.frame.specs.declared.Settings.{Settings}
 use Rattle.frame.specs.Settings.{bundles}
 use Rattle.frame.specs.Table.{window_of}

@@ -2,7 +2,7 @@
 -- Assumes nothing.
 use Prim.Native.Nat.{ℕ, ◌+◌, ◌≤◌, ◌<◌}
 use mathlib.Core.Bool.{true, false}
-use mathlib.Core.Path.{◌≡◌, refl}
+use mathlib.Core.Path.{◌≡◌}
 use native.Mathlib.Omega.{arith}
 use borrow.Author.Tests.{lt-ltb}
 use Rattle.frame.specs.declared.Settings.{Settings}
@@ -10,7 +10,6 @@ use Rattle.frame.specs.Settings.{has_second_port}
 use Rattle.frame.proofs.Accepted.{answered}
 use Rattle.frame.proofs.Ports.{two_have_second, one_has_none}
 use Rattle.resource.specs.declared.Mapped.TheVariants as mapped
-use Rattle.resource.specs.declared.PortsMapped.TheVariants as ports
 use Rattle.resource.specs.Calls.{resource_of}
 use Rattle.resource.specs.Ports.{second_port, ports_of, SecondPort}
 use Rattle.resource.proofs.Counts.{window_resources}

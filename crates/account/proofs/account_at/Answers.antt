@@ -1,7 +1,6 @@
 -- `account::account_at` meets its contract: of the octets in whole millions and a rest, quotient and remainder of the whole product are
 -- those that were put together. Assumes nothing.
 use native.Mathlib.Omega.{arith}
-use borrow.Author.Rules.{rules}
 use lib.Dec.{lit<}
 use Rattle.account.specs.Account.{account_at}
 use Rattle.account.proofs.Products.{whole, rest, part_most, whole_most}

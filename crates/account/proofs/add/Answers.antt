@@ -1,7 +1,6 @@
 -- `account::add` meets its contract. What is not refused has a price at which an account is made, and a total that fits. Assumes nothing.
 use mathlib.Core.Path.{sym, ◌∙◌}
 use native.Mathlib.Omega.{arith}
-use borrow.Author.Rules.{rules}
 use Rattle.account.proofs.Totals.{accepted, kept, more}
 use Rattle.account.proofs.add.Goals as goal
 

@@ -1,7 +1,6 @@
 -- `account::add_refusal` meets its contract: each return follows from the tests before it. Assumes nothing.
 use mathlib.Core.Path.{sym, ◌∙◌}
 use native.Mathlib.Omega.{arith}
-use borrow.Author.Rules.{rules}
 use Rattle.frame.proofs.Causes.{refused_first}
 use Rattle.account.specs.Account.{add_refusal}
 use Rattle.account.proofs.Totals.{past, within}

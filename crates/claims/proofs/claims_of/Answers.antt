@@ -2,7 +2,6 @@
 -- Assumes nothing.
 use mathlib.Core.Path.{◌≡◌, sym, ◌∙◌}
 use lib.Seq.{length-take-le}
-use borrow.Author.Rules.{rules}
 use Rattle.frame.specs.Settings.{window_refusal}
 use Rattle.claims.specs.Claims.{room_of, marked_up_to, scratch_of}
 use Rattle.claims.proofs.Checks.{refused, short, bad_claim, ready, clashed, clean}

@@ -1,12 +1,9 @@
 -- `claims::clear` meets its contract. The loop's invariant: the bytes before i are 0, the others as they were.
 -- The measure is the bytes left. Assumes nothing.
 use Prim.Native.Nat.{◌-◌, ◌≤◌}
-use mathlib.Core.List.{◌++◌, append-nil}
-use mathlib.Core.Path.{◌≡◌, refl}
-use native.Mathlib.Omega.{arith}
-use lib.ListN.{length, drop, replicate, length-set}
-use lib.Seq.{drop-length}
-use borrow.Author.Fill.{fill_none, fill_more}
+use mathlib.Core.List.{◌++◌}
+use mathlib.Core.Path.{◌≡◌}
+use lib.ListN.{length, drop, replicate}
 use Rattle.claims.proofs.clear.Given as goal
 
 abbrev pub invariant-loop-i : goal.invariant-loop-i

@@ -1,13 +1,9 @@
 -- `claims::first_bad` meets its contract. The loop's invariant: no claim before i is bad. The measure is the claims left.
 -- Assumes nothing.
-use Prim.Native.Nat.{ℕ, ◌-◌, ◌≤◌, ◌<◌}
-use mathlib.Core.Bool.{false}
-use mathlib.Core.Path.{◌≡◌, sym, ◌∙◌}
+use mathlib.Core.Path.{sym, ◌∙◌}
 use native.Mathlib.Omega.{arith}
-use lib.ListN.{length, get_or}
 use borrow.Author.Count.{below_more}
-use borrow.Author.Rules.{rules}
-use Rattle.claims.specs.Claims.{is_bad, first_bad}
+use Rattle.claims.specs.Claims.{first_bad}
 use Rattle.claims.proofs.First.{first_found, first_none}
 use Rattle.claims.proofs.first_bad.Goals as goal
 

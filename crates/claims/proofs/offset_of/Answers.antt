@@ -1,5 +1,4 @@
 -- `claims::offset_of` meets its contract: the claim's resource less N1, or 0 where the call refuses the claim. Assumes nothing.
-use borrow.Author.Rules.{rules}
 use Rattle.claims.proofs.Offsets.{from_n1, offset_given, offset_refused}
 use Rattle.claims.proofs.offset_of.Goals as goal
 

@@ -1,7 +1,6 @@
 -- `claims::window_in` meets its contract. Assumes nothing.
 use Prim.Native.Nat.{◌*◌, ◌≤◌}
 use native.Mathlib.Omega.{arith}
-use borrow.Author.Rules.{rules}
 use Rattle.frame.proofs.Bools.{cast_small}
 use Rattle.claims.proofs.Read.{resources_most, product, window_found}
 use Rattle.claims.proofs.window_in.Goals as goal

@@ -1,6 +1,5 @@
 -- `confirming::read_sent` meets its contract. Assumes nothing.
 use Rattle.confirming.proofs.Checking.{read_refused, read_told}
-use borrow.Author.Rules.{rules}
 use Rattle.confirming.proofs.read_sent.Goals as goal
 
 pub returns-then-checked-ne0 : goal.returns-then-checked-ne0

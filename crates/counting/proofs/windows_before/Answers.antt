@@ -3,7 +3,6 @@ use Prim.Native.Nat.{◌*◌, ◌/◌, ◌≤◌}
 use mathlib.Core.Path.{sym}
 use native.Mathlib.Nat.{mul-le-mul_left}
 use native.Mathlib.Omega.{arith}
-use borrow.Author.Rules.{rules}
 use Rattle.counting.proofs.Frames.{by_frames}
 use Rattle.counting.proofs.windows_before.Goals as goal
 

@@ -1,10 +1,8 @@
 -- `counting::windows_in` meets its contract. The loop's invariant: the windows of the subframes before i are counted. Assumes nothing.
-use Prim.Native.Nat.{◌-◌, ◌≤◌}
 use mathlib.Core.Bool.{not}
 use mathlib.Core.Path.{◌≡◌, refl}
 use lib.Dec.{eqb}
 use native.Mathlib.Omega.{arith}
-use borrow.Author.Rules.{rules}
 use Rattle.frame.proofs.Bools.{cast_small}
 use Rattle.counting.specs.Windows.{windows_before}
 use Rattle.counting.proofs.Frames.{one_more}

@@ -1,6 +1,5 @@
 -- `credit::added` meets its contract. Assumes nothing.
 use Rattle.credit.proofs.Crediting.{refused_sum, added_sum}
-use borrow.Author.Rules.{rules}
 use Rattle.credit.proofs.added.Goals as goal
 
 pub returns-then-sum-ne0 : goal.returns-then-sum-ne0

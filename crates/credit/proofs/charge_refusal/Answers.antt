@@ -2,7 +2,6 @@
 use native.Mathlib.Omega.{arith}
 use Rattle.frame.proofs.Causes.{refused_first, refused_next}
 use Rattle.frame.proofs.Windows.{window_size}
-use borrow.Author.Rules.{rules}
 use Rattle.credit.proofs.charge_refusal.Goals as goal
 
 pub sizes_refusal-sizes-requires : goal.sizes_refusal-sizes-requires

@@ -1,6 +1,5 @@
 -- `credit::credit` meets its contract: what was sent, then the charge, then the reply. Assumes nothing.
 use Rattle.credit.proofs.Crediting.{sent_refused, charge_refused, reading_told}
-use borrow.Author.Rules.{rules}
 use Rattle.credit.proofs.credit.Goals as goal
 
 pub returns-then-checked-ne0 : goal.returns-then-checked-ne0

@@ -1,6 +1,5 @@
 -- `credit::credit_reading` meets its contract. Assumes nothing.
 use Rattle.credit.proofs.Crediting.{reading_refused, reading_credited}
-use borrow.Author.Rules.{rules}
 use Rattle.credit.proofs.credit_reading.Goals as goal
 
 pub returns-then-confirmed-ne0 : goal.returns-then-confirmed-ne0

@@ -1,6 +1,5 @@
 -- `credit::has_bad_size` meets its contract. Assumes nothing.
 use Rattle.credit.specs.Credit.{bad_record}
-use borrow.Author.Rules.{rules}
 use Rattle.credit.proofs.has_bad_size.Goals as goal
 
 pub returns : goal.returns

@@ -1,10 +1,7 @@
 -- `credit::sizes_refusal` meets its contract. The loop's invariant: no record before the i-th has a bad size. The measure is what is left.
 -- Assumes nothing.
-use Prim.Native.Nat.{◌-◌, ◌≤◌}
-use mathlib.Core.Path.{◌≡◌, refl}
+use mathlib.Core.Path.{refl}
 use native.Mathlib.Omega.{arith}
-use lib.ListN.{length, drop, take}
-use Rattle.credit.specs.Credit.{bad_records}
 use Rattle.credit.proofs.Refusing.{sizes_bad, sizes_next, sizes_good}
 use Rattle.credit.proofs.sizes_refusal.Goals as goal
 

@@ -1,7 +1,6 @@
 -- `feedback::feedback_claims_bits` meets its contract. Assumes nothing.
 use mathlib.Core.Path.{ap, ◌∙◌}
 use Rattle.numbers.specs.Answers.{claims_answer}
-use borrow.Author.Rules.{rules}
 use Rattle.feedback.proofs.feedback_claims_bits.Goals as goal
 
 pub returns : goal.returns

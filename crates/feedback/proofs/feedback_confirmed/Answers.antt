@@ -1,5 +1,4 @@
 -- `feedback::feedback_confirmed` meets its contract. Assumes nothing.
-use borrow.Author.Rules.{rules}
 use Rattle.feedback.proofs.feedback_confirmed.Goals as goal
 
 pub returns : goal.returns

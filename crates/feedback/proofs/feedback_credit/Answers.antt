@@ -1,5 +1,4 @@
 -- `feedback::feedback_credit` meets its contract. Assumes nothing.
-use borrow.Author.Rules.{rules}
 use Rattle.feedback.proofs.feedback_credit.Goals as goal
 
 pub returns : goal.returns

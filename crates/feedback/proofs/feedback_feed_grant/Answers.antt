@@ -3,7 +3,6 @@ use Prim.Native.Nat.{ℕ}
 use mathlib.Core.Path.{ap, ◌∙◌}
 use Rattle.handset.specs.Feed.{feed_of}
 use Rattle.numbers.specs.Answers.{fed_answer, grant_of}
-use borrow.Author.Rules.{rules}
 use Rattle.feedback.proofs.feedback_feed_grant.Goals as goal
 
 pub returns : goal.returns

@@ -2,7 +2,6 @@
 use mathlib.Core.Path.{ap, ◌∙◌}
 use Rattle.resource.specs.Calls.{inverse_of}
 use Rattle.numbers.specs.Answers.{inverse_answer}
-use borrow.Author.Rules.{rules}
 use Rattle.feedback.proofs.feedback_inverse.Goals as goal
 
 pub returns : goal.returns

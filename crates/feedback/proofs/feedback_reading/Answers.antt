@@ -5,7 +5,6 @@ use Rattle.frame.specs.declared.Settings.{Settings}
 use Rattle.station.specs.declared.Told.{Told}
 use Rattle.station.specs.Readings.{read_of}
 use Rattle.numbers.specs.Answers.{reading_answer}
-use borrow.Author.Rules.{rules}
 use Rattle.feedback.proofs.feedback_reading.Goals as goal
 
 -- What is asked is what the caller told.

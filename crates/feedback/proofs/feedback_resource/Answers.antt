@@ -2,7 +2,6 @@
 use mathlib.Core.Path.{ap, ◌∙◌}
 use Rattle.resource.specs.Ports.{ports_of}
 use Rattle.numbers.specs.Answers.{resource_answer}
-use borrow.Author.Rules.{rules}
 use Rattle.feedback.proofs.feedback_resource.Goals as goal
 
 pub returns : goal.returns

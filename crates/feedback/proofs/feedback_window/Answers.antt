@@ -2,7 +2,6 @@
 use Prim.Native.Nat.{ℕ, zero, suc}
 use mathlib.Core.List.{List, []}
 use mathlib.Core.Path.{◌≡◌, sym, ◌∙◌}
-use borrow.Author.Rules.{rules}
 use Rattle.frame.specs.Coded.{padded}
 use Rattle.numbers.specs.declared.WindowAnswer.{WindowAnswer}
 use Rattle.numbers.specs.Answers.{window_as, window_answer}

@@ -2,7 +2,6 @@
 use Prim.Native.Nat.{ℕ, ◌+◌}
 use mathlib.Core.Bool.{Bool, true, false, cond, ◌&&◌}
 use mathlib.Core.Path.{◌≡◌, refl, ◌∙◌}
-use borrow.Author.Rules.{rules}
 use Rattle.heard.specs.declared.Control.{Control}
 use Rattle.heard.specs.declared.Results.{Results}
 use Rattle.fold.specs.declared.Seen.{Seen}

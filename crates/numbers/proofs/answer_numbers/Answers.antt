@@ -4,7 +4,6 @@ use Rattle.reply.specs.declared.Answer.{Answer}
 use Rattle.handset.specs.declared.Handset.{Handset}
 use Rattle.numbers.specs.declared.FedAnswer.{FedAnswer}
 use Rattle.numbers.specs.Answers.{answer_numbers}
-use borrow.Author.Rules.{rules}
 use Rattle.numbers.proofs.answer_numbers.Goals as goal
 
 -- the numbers of the case that was matched

@@ -4,7 +4,6 @@ use Rattle.silence.specs.declared.Cause.{Cause}
 use Rattle.numbers.specs.declared.FedAnswer.{FedAnswer}
 use Rattle.numbers.specs.declared.SilenceAnswer.{SilenceAnswer}
 use Rattle.numbers.specs.Answers.{cause_numbers}
-use borrow.Author.Rules.{rules}
 use Rattle.numbers.proofs.cause_numbers.Goals as goal
 
 -- the numbers of the case that was matched

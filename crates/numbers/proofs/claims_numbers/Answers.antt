@@ -1,6 +1,5 @@
 -- `numbers::claims_numbers` meets its contract. Assumes nothing.
 use mathlib.Core.Path.{sym, ap}
-use borrow.Author.Rules.{rules}
 use Rattle.numbers.specs.Answers.{claims_answer}
 use Rattle.numbers.proofs.claims_numbers.Goals as goal
 

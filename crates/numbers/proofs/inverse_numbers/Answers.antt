@@ -1,7 +1,6 @@
 -- `numbers::inverse_numbers` meets its contract. Assumes nothing.
 use mathlib.Core.Path.{sym, ap}
 use Rattle.numbers.specs.Answers.{inverse_answer}
-use borrow.Author.Rules.{rules}
 use Rattle.numbers.proofs.inverse_numbers.Goals as goal
 
 pub returns-in-At : goal.returns-in-At

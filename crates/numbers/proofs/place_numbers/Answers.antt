@@ -6,7 +6,6 @@ use Rattle.station.specs.declared.Place.{Place}
 use Rattle.station.specs.declared.Place.TheVariants.{Pdcch, Block}
 use Rattle.numbers.specs.declared.ReadingAnswer.{ReadingAnswer}
 use Rattle.numbers.specs.Answers.{place_answer}
-use borrow.Author.Rules.{rules}
 use Rattle.numbers.proofs.place_numbers.Goals as goal
 
 module _ (x : Place) (kind b0 b1 delivered m : ℕ) where

@@ -1,7 +1,6 @@
 -- `numbers::reading_numbers` meets its contract. Assumes nothing.
 use mathlib.Core.Path.{sym, ap, ◌∙◌}
 use Rattle.numbers.specs.Answers.{reading_answer}
-use borrow.Author.Rules.{rules}
 use Rattle.numbers.proofs.reading_numbers.Goals as goal
 
 pub returns-in-Bundled : goal.returns-in-Bundled

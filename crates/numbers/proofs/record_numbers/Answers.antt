@@ -1,7 +1,6 @@
 -- `numbers::record_numbers` meets its contract. Assumes nothing.
 use mathlib.Core.Path.{sym, ap, ◌∙◌}
 use Rattle.numbers.specs.Answers.{record_answer}
-use borrow.Author.Rules.{rules}
 use Rattle.numbers.proofs.record_numbers.Goals as goal
 
 pub returns-in-Refused : goal.returns-in-Refused

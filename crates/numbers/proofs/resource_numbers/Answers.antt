@@ -1,7 +1,6 @@
 -- `numbers::resource_numbers` meets its contract. Assumes nothing.
 use mathlib.Core.Path.{sym, ap}
 use Rattle.numbers.specs.Answers.{resource_answer}
-use borrow.Author.Rules.{rules}
 use Rattle.numbers.proofs.resource_numbers.Goals as goal
 
 pub returns-in-At : goal.returns-in-At

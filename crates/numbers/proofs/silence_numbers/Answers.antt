@@ -4,7 +4,6 @@ use Rattle.silence.specs.declared.Explained.{Explained}
 use Rattle.numbers.specs.declared.FedAnswer.{FedAnswer}
 use Rattle.numbers.specs.declared.SilenceAnswer.{SilenceAnswer}
 use Rattle.numbers.specs.Answers.{fed_answer, cause_numbers, silence_answer}
-use borrow.Author.Rules.{rules}
 use Rattle.numbers.proofs.silence_numbers.Goals as goal
 
 -- the feed's numbers with the cause beside them

@@ -1,7 +1,6 @@
 -- `reader::following` meets its contract. Assumes nothing.
 use borrow.Author.Tests.{lt-ltb, le-ltb}
 use Rattle.reader.specs.Reading.{following_of}
-use borrow.Author.Rules.{rules}
 use Rattle.reader.proofs.following.Goals as goal
 
 pub returns-then-i-lt18446744073709551615 : goal.returns-then-i-lt18446744073709551615

@@ -1,7 +1,6 @@
 -- `reader::heard_at` meets its contract: an arm for each answer of the reader. Assumes nothing.
 use mathlib.Core.Path.{sym, ap, ◌∙◌}
 use Rattle.reader.specs.Reading.{heard_of}
-use borrow.Author.Rules.{rules}
 use Rattle.reader.proofs.heard_at.Goals as goal
 
 pub returns-in-Refused : goal.returns-in-Refused

@@ -3,7 +3,6 @@ use mathlib.Core.Path.{ap}
 use native.Mathlib.Omega.{arith}
 use Rattle.replaying.specs.Written.{bytes_of}
 use Rattle.replaying.proofs.Putting.{nothing_put, window_room, window_put, reply_fits}
-use borrow.Author.Rules.{rules}
 use Rattle.replaying.proofs.put_answer.Goals as goal
 
 pub put_window-requires : goal.put_window-requires

@@ -3,7 +3,6 @@ use native.Mathlib.Omega.{arith}
 use lib.ListN.{length-set}
 use Rattle.replaying.specs.Written.{window_bytes}
 use Rattle.replaying.proofs.Putting.{stored_put}
-use borrow.Author.Rules.{rules}
 use Rattle.replaying.proofs.put_window.Goals as goal
 
 pub bounds-out-at-2 : goal.bounds-out-at-2

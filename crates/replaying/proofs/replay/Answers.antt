@@ -1,6 +1,5 @@
 -- `replaying::replay` meets its contract: a refusal before any record, or the feeds. Assumes nothing.
 use Rattle.replaying.proofs.Starts.{refused_before, ready, played_on}
-use borrow.Author.Rules.{rules}
 use Rattle.replaying.proofs.replay.Goals as goal
 
 pub returns-then-refusal-ne0 : goal.returns-then-refusal-ne0

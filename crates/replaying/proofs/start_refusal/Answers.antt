@@ -5,7 +5,6 @@ use Rattle.frame.specs.Settings.{settings_refusal}
 use Rattle.frame.proofs.Causes.{refused_first, refused_next}
 use Rattle.handset.specs.Make.{make_of}
 use Rattle.replaying.specs.Replay.{output_needed, start_refusal}
-use borrow.Author.Rules.{rules}
 use Rattle.replaying.proofs.start_refusal.Goals as goal
 
 pub returns-then-refusal-ne0 : goal.returns-then-refusal-ne0

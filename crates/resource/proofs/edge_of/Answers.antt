@@ -2,7 +2,6 @@
 use mathlib.Core.Path.{sym, refl}
 use native.Mathlib.Omega.{arith}
 use native.Mathlib.Nat.{mul-le-mul}
-use borrow.Author.Rules.{rules}
 use Prim.Native.Nat.{◌≤◌, ◌*◌, ◌-◌}
 use Rattle.resource.specs.Formula.{edge}
 use Rattle.resource.proofs.Edges.{edge_none}

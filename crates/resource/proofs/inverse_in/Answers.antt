@@ -1,7 +1,6 @@
 -- `resource::inverse_in` meets its contract: 13, or the pair whose resource it is. Assumes nothing.
 use Prim.Native.Nat.{◌-◌}
 use native.Mathlib.Omega.{arith}
-use borrow.Author.Rules.{rules}
 use Rattle.resource.specs.Search.{Held}
 use Rattle.resource.proofs.Refused.{low_refused, high_refused, pair_given}
 use Rattle.resource.proofs.Room.{Undone, undone}

@@ -1,9 +1,6 @@
 -- `resource::region_of` meets its contract. The loop's invariant: `high` is N_p, and t / size is not below it.
 -- The measure is the regions left. Assumes nothing.
-use Prim.Native.Nat.{◌*◌, ◌-◌, ◌≤◌}
-use mathlib.Core.Path.{◌≡◌}
 use native.Mathlib.Omega.{arith}
-use Rattle.resource.specs.Formula.{edge}
 use Rattle.resource.proofs.Edges.{edge_none}
 use Rattle.resource.proofs.Search.{product_most, ended, found}
 use Rattle.resource.proofs.region_of.Goals as goal

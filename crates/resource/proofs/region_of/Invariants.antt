@@ -2,10 +2,7 @@
 -- The measure is the regions left. Assumes nothing.
 use Prim.Native.Nat.{◌*◌, ◌-◌, ◌≤◌}
 use mathlib.Core.Path.{◌≡◌}
-use native.Mathlib.Omega.{arith}
 use Rattle.resource.specs.Formula.{edge}
-use Rattle.resource.proofs.Edges.{edge_none}
-use Rattle.resource.proofs.Search.{product_most, ended, found}
 use Rattle.resource.proofs.region_of.Given as goal
 
 abbrev pub invariant-loop-p : goal.invariant-loop-p

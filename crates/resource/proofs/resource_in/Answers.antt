@@ -1,7 +1,6 @@
 -- `resource::resource_in` meets its contract: 11, or the formula's number, which fits. Assumes nothing.
 use native.Mathlib.Nat.{div-one}
 use native.Mathlib.Omega.{arith}
-use borrow.Author.Rules.{rules}
 use Rattle.resource.proofs.Refused.{position_refused, cce_refused, resource_given}
 use Rattle.resource.proofs.Room.{Computed, computed}
 use Rattle.resource.proofs.resource_in.Goals as goal

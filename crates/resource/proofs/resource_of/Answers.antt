@@ -1,6 +1,5 @@
 -- `resource::resource_of` meets its contract: 1 to 6, 17, 19, 24 and 7 first, then the answer in a window of that size. Assumes nothing.
 use mathlib.Core.Path.{refl, ◌∙◌}
-use borrow.Author.Rules.{rules}
 use Rattle.resource.proofs.Sized.{settings_refused, window_refused, window_bounds, window_answered, resource_told}
 use Rattle.resource.proofs.resource_of.Goals as goal
 

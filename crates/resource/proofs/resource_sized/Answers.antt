@@ -1,6 +1,5 @@
 -- `resource::resource_sized` meets its contract: 1 to 6, 17, 19 and 24 first, then the answer of settings that were tested. Assumes nothing.
 use mathlib.Core.Path.{sym, ◌∙◌}
-use borrow.Author.Rules.{rules}
 use Rattle.resource.proofs.Sized.{settings_refused, within_sized}
 use Rattle.resource.proofs.resource_sized.Goals as goal
 

@@ -1,6 +1,5 @@
 -- `silence::cause_beside` meets its contract. Assumes nothing.
 use mathlib.Core.Path.{◌≡◌, refl, sym, ap, ◌∙◌}
-use borrow.Author.Rules.{rules}
 use Rattle.fold.specs.declared.Seen.{Seen}
 use Rattle.reply.specs.declared.Answer.{Answer}
 use Rattle.silence.specs.declared.Cause.{Cause}

@@ -1,5 +1,4 @@
 -- `silence::silence_cause` meets its contract. Assumes nothing.
-use borrow.Author.Rules.{rules}
 use borrow.Author.Tests.{eq-eqb, ne_eqb}
 use Rattle.reply.specs.Replies.{expected}
 use Rattle.silence.specs.Cause.{silence_cause}

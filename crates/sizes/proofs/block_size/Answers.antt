@@ -1,6 +1,5 @@
 -- `sizes::block_size` meets its contract: the flat list has the table's sizes. Assumes nothing.
 use mathlib.Core.Path.{◌∙◌}
-use borrow.Author.Rules.{rules}
 use Rattle.sizes.proofs.Sizes.{size_in_flat}
 use Rattle.sizes.proofs.block_size.Goals as goal
 

@@ -1,6 +1,5 @@
 -- `sizes::column` meets its contract: three quarters of the PRBs, and 1 where that is none. Assumes nothing.
 use native.Mathlib.Omega.{arith}
-use borrow.Author.Rules.{rules}
 use Rattle.sizes.specs.Table.{table_column}
 use Rattle.sizes.proofs.column.Goals as goal
 

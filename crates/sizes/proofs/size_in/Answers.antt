@@ -1,6 +1,4 @@
 -- `sizes::size_in` meets its contract: 0 by each of the three tests, else the entry at its place. Assumes nothing.
-use native.Mathlib.Omega.{arith}
-use borrow.Author.Rules.{rules}
 use borrow.Author.Tests.{le-leb, lt-leb}
 use Rattle.sizes.specs.Table.{size_in}
 use Rattle.sizes.proofs.size_in.Goals as goal

@@ -1,6 +1,5 @@
 -- `station::first_refusal` meets its contract: the first of the two that is met. Assumes nothing.
 use mathlib.Core.Path.{refl}
-use borrow.Author.Rules.{rules}
 use Rattle.frame.proofs.Causes.{refused_first, refused_next}
 use Rattle.station.proofs.first_refusal.Goals as goal
 

@@ -2,7 +2,6 @@
 use Prim.Native.Nat.{ℕ, zero, suc}
 use mathlib.Core.Path.{◌≡◌, refl, ◌∙◌}
 use native.Mathlib.Omega.{arith}
-use borrow.Author.Rules.{rules}
 use Rattle.station.specs.declared.Place.TheVariants.{Block}
 use Rattle.station.specs.Coded.{not_placed, placed_at, block_placed}
 use Rattle.station.proofs.place_block.Goals as goal

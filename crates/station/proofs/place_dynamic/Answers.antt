@@ -1,7 +1,6 @@
 -- `station::place_dynamic` meets its contract: the place that the inverse gives. Assumes nothing.
 use Prim.Native.Nat.{ℕ}
 use mathlib.Core.Path.{◌≡◌, refl, sym, ◌∙◌}
-use borrow.Author.Rules.{rules}
 use Rattle.frame.specs.declared.Settings.{Settings}
 use Rattle.resource.specs.declared.Inverted.{Inverted}
 use Rattle.resource.specs.Calls.{inverse_sized}

@@ -2,7 +2,6 @@
 use mathlib.Core.List.{[], ◌∷◌, map}
 use mathlib.Core.Path.{refl, ◌∙◌}
 use native.Mathlib.Omega.{arith}
-use borrow.Author.Rules.{rules}
 use Rattle.symbols.specs.declared.Row3.{Row3}
 use Rattle.symbols.specs.declared.TableRow.{TableRow}
 use Rattle.symbols.specs.Coded.{cell_at, said_at, said_of}

@@ -1,6 +1,5 @@
 -- `symbols::symbol_of` meets its contract: the symbol of the number that `number_of` finds. Assumes nothing.
 use mathlib.Core.Path.{refl}
-use borrow.Author.Rules.{rules}
 use Rattle.symbols.specs.Coded.{states_of}
 use Rattle.symbols.specs.Selection.{symbol_of}
 use Rattle.symbols.proofs.Codes.{sent_number, silent_number}

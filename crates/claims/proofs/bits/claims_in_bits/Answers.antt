@@ -3,7 +3,6 @@
 use mathlib.Core.Path.{◌≡◌, sym, ◌∙◌}
 use native.Mathlib.Omega.{arith}
 use lib.Seq.{length-take-le}
-use borrow.Author.Rules.{rules}
 use Rattle.frame.specs.Settings.{window_refusal}
 use Rattle.claims.specs.Bits.{bit_room_of, bit_marked_up_to, bit_scratch_of}
 use Rattle.claims.proofs.Checks.{refused, short, bad_claim, ready, clashed, clean}

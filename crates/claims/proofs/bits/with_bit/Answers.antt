@@ -1,8 +1,7 @@
 -- `claims::bits::with_bit` meets its contract: the weight of a bit that is not set can be added inside the byte. Assumes nothing.
 use Prim.Native.Nat.{ℕ, ◌+◌, ◌*◌, ◌/◌, ◌%◌, ◌^◌, ◌<◌}
-use mathlib.Core.Path.{◌≡◌, sym}
+use mathlib.Core.Path.{◌≡◌}
 use native.Mathlib.Omega.{arith}
-use borrow.Author.Rules.{rules}
 use borrow.Author.Tests.{eq-eqb, ne_eqb}
 use Rattle.claims.specs.Marking.{with_bit}
 use Rattle.claims.proofs.Packed.{sum_below_holds}

@@ -1,13 +1,8 @@
 -- `confirming::blocks::confirmed_by` meets its contract. The loop's invariant: the sets are those of the positions from i on. The measure
 -- is i. Assumes nothing.
-use Prim.Native.Nat.{ℕ, ◌-◌, ◌≤◌}
 use mathlib.Core.Path.{◌≡◌}
 use native.Mathlib.Omega.{arith}
-use Rattle.frame.specs.Table.{window_of}
 use Rattle.frame.proofs.Read.{size_small}
-use Rattle.confirmation.specs.Confirmed.{confirmed}
-use Rattle.confirming.specs.Coded.{set_from}
-use Rattle.confirming.specs.Records.{sent_in}
 use Rattle.confirming.proofs.Confirming.{blocks_next, blocks_all}
 use Rattle.confirming.proofs.Sets.{set_start, set_small}
 use Rattle.confirming.proofs.blocks.confirmed_by.Goals as goal

@@ -2,14 +2,10 @@
 -- is i. Assumes nothing.
 use Prim.Native.Nat.{ℕ, ◌-◌, ◌≤◌}
 use mathlib.Core.Path.{◌≡◌}
-use native.Mathlib.Omega.{arith}
 use Rattle.frame.specs.Table.{window_of}
-use Rattle.frame.proofs.Read.{size_small}
 use Rattle.confirmation.specs.Confirmed.{confirmed}
 use Rattle.confirming.specs.Coded.{set_from}
 use Rattle.confirming.specs.Records.{sent_in}
-use Rattle.confirming.proofs.Confirming.{blocks_next, blocks_all}
-use Rattle.confirming.proofs.Sets.{set_start, set_small}
 use Rattle.confirming.proofs.blocks.confirmed_by.Given as goal
 
 abbrev pub invariant-loop-i : goal.invariant-loop-i

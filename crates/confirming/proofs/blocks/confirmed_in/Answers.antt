@@ -1,7 +1,6 @@
 -- `confirming::blocks::confirmed_in` meets its contract: an arm for each kind of reading. Assumes nothing.
 use mathlib.Core.Path.{refl}
 use Rattle.confirming.proofs.Confirming.{refused_blocks, reads_bundled, reads_multiplexed}
-use borrow.Author.Rules.{rules}
 use Rattle.confirming.proofs.blocks.confirmed_in.Goals as goal
 
 pub confirmed_by-requires : goal.confirmed_by-requires

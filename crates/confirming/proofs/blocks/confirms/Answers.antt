@@ -1,5 +1,4 @@
 -- `confirming::blocks::confirms` meets its contract. Assumes nothing.
-use borrow.Author.Rules.{rules}
 use Rattle.confirming.specs.Coded.{confirms_by}
 use Rattle.confirming.proofs.Records.{blocks_of_holds}
 use Rattle.confirming.proofs.blocks.confirms.Goals as goal

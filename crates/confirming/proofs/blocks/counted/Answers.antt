@@ -1,6 +1,5 @@
 -- `confirming::blocks::counted` meets its contract. Assumes nothing.
 use native.Mathlib.Nat.{zero-add}
-use borrow.Author.Rules.{rules}
 use Rattle.confirming.proofs.blocks.counted.Goals as goal
 
 pub returns-then-test : goal.returns-then-test

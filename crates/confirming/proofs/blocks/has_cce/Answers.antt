@@ -1,5 +1,4 @@
 -- `confirming::blocks::has_cce` meets its contract. Assumes nothing.
-use borrow.Author.Rules.{rules}
 use Rattle.confirming.proofs.Records.{cce_as}
 use Rattle.confirming.proofs.blocks.has_cce.Goals as goal
 

@@ -1,5 +1,4 @@
 -- `confirming::blocks::holds` meets its contract. Assumes nothing.
-use borrow.Author.Rules.{rules}
 use Rattle.confirming.specs.Coded.{holds_by}
 use Rattle.confirming.proofs.blocks.holds.Goals as goal
 

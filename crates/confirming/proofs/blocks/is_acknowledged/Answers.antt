@@ -1,5 +1,4 @@
 -- `confirming::blocks::is_acknowledged` meets its contract. Assumes nothing.
-use borrow.Author.Rules.{rules}
 use Rattle.confirming.proofs.Records.{blocks_of_holds}
 use Rattle.confirming.proofs.blocks.is_acknowledged.Goals as goal
 

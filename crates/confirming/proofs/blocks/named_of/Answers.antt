@@ -4,7 +4,6 @@ use native.Mathlib.Omega.{arith}
 use Rattle.frame.proofs.Read.{size_small}
 use Rattle.station.specs.Readings.{place_position}
 use Rattle.confirming.proofs.Naming.{named_nowhere, named_pdcch, named_block}
-use borrow.Author.Rules.{rules}
 use Rattle.confirming.proofs.blocks.named_of.Goals as goal
 
 pub returns-then-w-m : goal.returns-then-w-m

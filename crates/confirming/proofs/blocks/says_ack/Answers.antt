@@ -1,5 +1,4 @@
 -- `confirming::blocks::says_ack` meets its contract: an arm for each kind of reading. Assumes nothing.
-use borrow.Author.Rules.{rules}
 use Rattle.confirming.proofs.Saying.{says_bundled, says_multiplexed, says_refused}
 use Rattle.confirming.proofs.blocks.says_ack.Goals as goal
 

@@ -1,7 +1,6 @@
 -- `confirming::blocks::set_with` meets its contract. Assumes nothing.
 use Prim.Native.Nat.{◌*◌}
 use native.Mathlib.Nat.{zero-add}
-use borrow.Author.Rules.{rules}
 use Rattle.confirming.proofs.blocks.set_with.Goals as goal
 
 pub returns-then-test : goal.returns-then-test

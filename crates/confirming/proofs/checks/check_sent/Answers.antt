@@ -1,6 +1,5 @@
 -- `confirming::checks::check_sent` meets its contract: settings and subframe, then the records, then a second block. Assumes nothing.
 use Rattle.confirming.proofs.Checking.{window_refused, record_refused_holds, second_refused, none_refused}
-use borrow.Author.Rules.{rules}
 use Rattle.confirming.proofs.checks.check_sent.Goals as goal
 
 pub returns-then-refusal-ne0 : goal.returns-then-refusal-ne0

@@ -1,7 +1,6 @@
 -- `confirming::checks::earlier` meets its contract. Assumes nothing.
 use Prim.Native.Nat.{ℕ, ◌<◌, ◌≤◌}
 use mathlib.Core.Path.{◌≡◌}
-use borrow.Author.Rules.{rules}
 use borrow.Author.Tests.{lt-ltb, le-ltb}
 use Rattle.confirming.specs.Refusals.{rank_of, earlier}
 use Rattle.confirming.proofs.checks.earlier.Goals as goal

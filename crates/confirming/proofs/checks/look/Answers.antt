@@ -1,5 +1,4 @@
 -- `confirming::checks::look` meets its contract: a scheduled block, or anything else. Assumes nothing.
-use borrow.Author.Rules.{rules}
 use Rattle.confirming.proofs.Looking.{look_block, look_other}
 use Rattle.confirming.proofs.checks.look.Goals as goal
 

@@ -1,13 +1,8 @@
 -- `confirming::checks::look_over` meets its contract. The loop's invariant: what is found is what the records from position i on say.
 -- The measure is i. Assumes nothing.
-use Prim.Native.Nat.{◌≤◌}
 use mathlib.Core.Path.{◌≡◌}
 use native.Mathlib.Omega.{arith}
-use lib.ListN.{drop}
-use Rattle.frame.specs.Table.{window_of}
 use Rattle.frame.proofs.Read.{size_small}
-use Rattle.confirming.specs.Coded.{looked_from}
-use Rattle.confirming.specs.Records.{sent_in}
 use Rattle.confirming.proofs.Looking.{look_start, look_next, looked_few}
 use Rattle.confirming.proofs.checks.look_over.Goals as goal
 

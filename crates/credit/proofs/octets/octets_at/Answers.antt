@@ -3,7 +3,6 @@ use native.Mathlib.Omega.{arith}
 use Rattle.sizes.specs.Table.{table_column}
 use Rattle.credit.specs.Coded.{block_in}
 use Rattle.credit.proofs.Sums.{few_octets, record_is, few_of_record}
-use borrow.Author.Rules.{rules}
 use Rattle.credit.proofs.octets.octets_at.Goals as goal
 
 pub overflow_add-result : goal.overflow_add-result

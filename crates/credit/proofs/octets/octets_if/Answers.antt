@@ -1,6 +1,5 @@
 -- `credit::octets::octets_if` meets its contract. Assumes nothing.
 use Rattle.credit.proofs.Sums.{size_is}
-use borrow.Author.Rules.{rules}
 use Rattle.credit.proofs.octets.octets_if.Goals as goal
 
 pub returns-then-test : goal.returns-then-test

@@ -2,11 +2,8 @@
 -- left of the window. Assumes nothing.
 use Prim.Native.Nat.{◌-◌, ◌≤◌}
 use mathlib.Core.Path.{◌≡◌}
-use native.Mathlib.Omega.{arith}
-use Rattle.frame.proofs.Read.{size_small}
 use Rattle.credit.specs.Coded.{block_in}
 use Rattle.credit.specs.Credit.{sum_below, octets_at}
-use Rattle.credit.proofs.Sums.{sum_start, sum_next, sum_small, sum_all}
 use Rattle.credit.proofs.octets.octets_in.Given as goal
 
 abbrev pub invariant-loop-i : goal.invariant-loop-i

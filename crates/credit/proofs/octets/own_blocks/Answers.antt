@@ -1,6 +1,5 @@
 -- `credit::octets::own_blocks` meets its contract: an arm for each kind of reading. Assumes nothing.
 use Rattle.credit.specs.Coded.{own_blocks}
-use borrow.Author.Rules.{rules}
 use Rattle.credit.proofs.octets.own_blocks.Goals as goal
 
 pub returns-in-Bundled : goal.returns-in-Bundled

@@ -1,16 +1,13 @@
 -- `fold::window::seen_from` meets its contract. The loop's invariant: U is at most i, and the fold from the i-th position on, with what
 -- was found, gives what it gives from the j-th on, with what there was at the start. The measure is the subframes left.
 -- Assumes nothing.
-use Prim.Native.Nat.{ℕ, ◌-◌, ◌<◌, ◌≤◌}
+use Prim.Native.Nat.{ℕ, ◌<◌}
 use mathlib.Core.Path.{◌≡◌, refl, ◌∙◌}
 use native.Mathlib.Omega.{arith}
-use lib.ListN.{get_or, drop}
+use lib.ListN.{get_or}
 use Rattle.frame.specs.declared.Window.{Window}
 use Rattle.frame.specs.Coded.{coded_window}
-use Rattle.frame.specs.Order.{order_of}
 use Rattle.frame.specs.Table.{window_of}
-use Rattle.heard.specs.Memory.{view_ago}
-use Rattle.fold.specs.Fold.{seen_from}
 use Rattle.frame.proofs.Read.{position_small, size_small, k_small}
 use Rattle.fold.proofs.Folding.{seen_end, seen_next, step_left, view_read}
 use Rattle.fold.proofs.window.seen_from.Goals as goal

@@ -1,6 +1,5 @@
 -- `frame::answering::answered_refusal` meets its contract: 1 to 6, 17, 19 and 24 first, then 7 where the subframe is not downlink. Assumes nothing.
 use mathlib.Core.Path.{sym, ◌∙◌}
-use borrow.Author.Rules.{rules}
 use Rattle.frame.specs.Distance.{answered_refusal}
 use Rattle.frame.proofs.Answers.{at_downlink, at_other}
 use Rattle.frame.proofs.Causes.{refused_first}

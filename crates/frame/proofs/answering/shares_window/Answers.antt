@@ -3,7 +3,6 @@ use Prim.Native.Nat.{ℕ, ◌+◌, ◌*◌, ◌<◌, ◌≤◌, ◌%◌}
 use mathlib.Core.Path.{◌≡◌}
 use native.Mathlib.Omega.{arith}
 use lib.Dec.{eqb}
-use borrow.Author.Rules.{rules}
 use Rattle.frame.specs.Distance.{distance_of, shares}
 use Rattle.frame.proofs.Distances.{distance_most}
 use Rattle.frame.proofs.Shares.{shares_far}

@@ -4,7 +4,6 @@ use mathlib.Core.Path.{◌≡◌}
 use native.Mathlib.Nat.{div-eq_of_lt}
 use native.Mathlib.Omega.{arith}
 use lib.Pow.{pow_mono}
-use borrow.Author.Rules.{rules}
 use Rattle.frame.specs.Coded.{digit_at}
 use Rattle.frame.proofs.digits.digit_at.Goals as goal
 

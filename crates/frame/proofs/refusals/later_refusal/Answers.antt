@@ -1,5 +1,4 @@
 -- `frame::refusals::later_refusal` meets its contract: the first refusal met is answered. Assumes nothing.
-use borrow.Author.Rules.{rules}
 use Rattle.frame.specs.Settings.{later_refusal}
 use Rattle.frame.proofs.Causes.{refused_first, refused_next}
 use Rattle.frame.proofs.refusals.later_refusal.Goals as goal

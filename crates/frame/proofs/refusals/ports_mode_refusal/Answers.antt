@@ -1,6 +1,5 @@
 -- `frame::refusals::ports_mode_refusal` meets its contract: each return follows from the tests before it. Assumes nothing.
 use mathlib.Core.Path.{sym, ◌∙◌}
-use borrow.Author.Rules.{rules}
 use borrow.Author.Tests.{eq-eqb, ne_eqb}
 use Rattle.frame.specs.Settings.{ports_mode_refusal}
 use Rattle.frame.proofs.refusals.ports_mode_refusal.Goals as goal

@@ -1,6 +1,5 @@
 -- `frame::refusals::scheduled_refusal` meets its contract: each return follows from the tests before it. Assumes nothing.
 use mathlib.Core.Path.{sym, ◌∙◌}
-use borrow.Author.Rules.{rules}
 use borrow.Author.Tests.{lt-ltb, le-ltb}
 use Rattle.frame.specs.Settings.{scheduled_refusal}
 use Rattle.frame.proofs.refusals.scheduled_refusal.Goals as goal

@@ -1,5 +1,4 @@
 -- `frame::refusals::window_refusal` meets its contract: 1 to 6, 17, 19 and 24 first, then 7 where M is 0. Assumes nothing.
-use borrow.Author.Rules.{rules}
 use Rattle.frame.specs.Settings.{window_refusal}
 use Rattle.frame.proofs.Causes.{refused_first, without_window, with_window}
 use Rattle.frame.proofs.refusals.window_refusal.Goals as goal

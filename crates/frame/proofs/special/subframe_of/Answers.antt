@@ -4,7 +4,6 @@ use mathlib.Core.Path.{◌≡◌, ap, ◌∙◌}
 use native.Mathlib.Decide.{dec_lt}
 use native.Mathlib.Omega.{arith}
 use lib.ListN.{length, get_or, get_or-eq_default}
-use borrow.Author.Rules.{rules}
 use Rattle.frame.specs.declared.Window.{Window}
 use Rattle.frame.specs.Coded.{coded_window}
 use Rattle.frame.specs.Distance.{subframe_of}

@@ -2,7 +2,6 @@
 use Prim.Native.Nat.{ℕ, ◌%◌}
 use mathlib.Core.Path.{◌≡◌, ◌∙◌}
 use native.Mathlib.Omega.{arith}
-use borrow.Author.Rules.{rules}
 use Rattle.frame.specs.Coded.{digit_at, distance_digits}
 use Rattle.frame.specs.Distance.{distance_of}
 use Rattle.frame.proofs.Distances.{distance_most, distance_frame}

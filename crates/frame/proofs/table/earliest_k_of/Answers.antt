@@ -2,7 +2,6 @@
 use Prim.Native.Nat.{ℕ, ◌<◌}
 use mathlib.Core.Path.{◌≡◌}
 use native.Mathlib.Omega.{arith}
-use borrow.Author.Rules.{rules}
 use Rattle.frame.specs.Coded.{digit_at, earliest_digits}
 use Rattle.frame.specs.Earliest.{earliest_k}
 use Rattle.frame.proofs.Earliest.{earliest_most, none_outside}

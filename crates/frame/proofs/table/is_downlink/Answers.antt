@@ -4,7 +4,6 @@ use mathlib.Core.Bool.{not}
 use mathlib.Core.Path.{◌≡◌, refl}
 use native.Mathlib.Omega.{arith}
 use lib.Dec.{eqb}
-use borrow.Author.Rules.{rules}
 use Rattle.frame.specs.Coded.{letter_digit}
 use Rattle.frame.specs.Layout.{Letter, D, S, U, carries, letter_of, downlink}
 use Rattle.frame.proofs.Layouts.{letter_at, outside_frame}

@@ -3,7 +3,6 @@ use Prim.Native.Nat.{ℕ}
 use mathlib.Core.Path.{◌≡◌, refl}
 use native.Mathlib.Omega.{arith}
 use lib.Dec.{eqb}
-use borrow.Author.Rules.{rules}
 use Rattle.frame.specs.Coded.{letter_digit}
 use Rattle.frame.specs.Layout.{Letter, D, S, U, is_s, letter_of, is_special}
 use Rattle.frame.proofs.Layouts.{letter_at, no_special}

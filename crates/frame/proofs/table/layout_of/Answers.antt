@@ -1,5 +1,4 @@
 -- `frame::table::layout_of` meets its contract: each row has the print's letters. Assumes nothing.
-use borrow.Author.Rules.{rules}
 use Rattle.frame.specs.Coded.{layout_digits}
 use Rattle.frame.specs.Layout.{layouts, letter_of}
 use Rattle.frame.proofs.Arms.{at_config, over}

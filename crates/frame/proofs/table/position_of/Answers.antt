@@ -2,7 +2,6 @@
 use Prim.Native.Nat.{ℕ, ◌<◌}
 use mathlib.Core.Path.{◌≡◌}
 use native.Mathlib.Omega.{arith}
-use borrow.Author.Rules.{rules}
 use Rattle.frame.specs.Coded.{digit_at, coded_position, position_digits}
 use Rattle.frame.proofs.Distances.{position_most, outside_positions}
 use Rattle.frame.proofs.Hex.{digit_at_holds}

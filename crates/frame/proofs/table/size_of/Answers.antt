@@ -3,7 +3,6 @@ use Prim.Native.Nat.{ℕ, ◌<◌}
 use mathlib.Core.Path.{◌≡◌}
 use native.Mathlib.Omega.{arith}
 use lib.ListN.{length}
-use borrow.Author.Rules.{rules}
 use Rattle.frame.specs.Coded.{digit_at, size_digits}
 use Rattle.frame.specs.Table.{window_of}
 use Rattle.frame.proofs.Arms.{outside_subframes}

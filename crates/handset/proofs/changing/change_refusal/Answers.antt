@@ -1,7 +1,6 @@
 -- `handset::changing::change_refusal` meets its contract: 4 and 5 for the new mode, then 8. Assumes nothing.
 use Prim.Native.Nat.{ℕ}
 use mathlib.Core.Path.{◌≡◌, ◌∙◌, ap}
-use borrow.Author.Rules.{rules}
 use Rattle.frame.specs.declared.Settings.{Settings}
 use Rattle.frame.specs.Settings.{new_mode_refusal, in_mode}
 use Rattle.frame.proofs.Causes.{refused_first, refused_next}

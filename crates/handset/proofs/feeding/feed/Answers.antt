@@ -1,7 +1,6 @@
 -- `handset::feeding::feed` meets its contract. Assumes nothing.
 use Prim.Native.Nat.{ℕ, zero, suc}
 use mathlib.Core.Path.{◌≡◌, sym, ◌∙◌}
-use borrow.Author.Rules.{rules}
 use Rattle.reply.specs.declared.Answer.{Answer}
 use Rattle.reply.specs.declared.Answer.TheVariants.{Refused}
 use Rattle.heard.specs.declared.Heard.{Heard}

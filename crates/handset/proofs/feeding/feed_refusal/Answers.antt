@@ -1,5 +1,4 @@
 -- `handset::feeding::feed_refusal` meets its contract: 8 first, then 9, 20, 10 to 12 and 18. Assumes nothing.
-use borrow.Author.Rules.{rules}
 use Rattle.frame.proofs.Causes.{refused_first, refused_next}
 use Rattle.handset.specs.Feed.{feed_refusal}
 use Rattle.handset.proofs.feeding.feed_refusal.Goals as goal

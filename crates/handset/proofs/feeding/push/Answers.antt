@@ -1,5 +1,4 @@
 -- `handset::feeding::push` meets its contract. Assumes nothing.
-use borrow.Author.Rules.{rules}
 use native.Mathlib.Omega.{arith}
 use Rattle.handset.specs.Feed.{pushed}
 use Rattle.handset.proofs.Passing.{passed}

@@ -4,7 +4,6 @@ use mathlib.Core.Bool.{Bool}
 use mathlib.Core.Path.{◌≡◌}
 use native.Mathlib.Omega.{arith}
 use lib.Dec.{eqb}
-use borrow.Author.Rules.{rules}
 use Rattle.frame.proofs.Bools.{cast_bit, cast_small}
 use Rattle.heard.specs.Memory.{bit, results_of}
 use Rattle.handset.proofs.feeding.results_of.Goals as goal

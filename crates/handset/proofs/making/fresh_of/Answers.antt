@@ -1,5 +1,4 @@
 -- `handset::making::fresh_of` meets its contract. Assumes nothing.
-use borrow.Author.Rules.{rules}
 use Rattle.handset.specs.Make.{fresh}
 use Rattle.handset.proofs.making.fresh_of.Goals as goal
 

@@ -1,7 +1,6 @@
 -- `handset::making::make` meets its contract: 1 to 6, 17, 19 and 24, else a fresh handset. Assumes nothing.
 use Prim.Native.Nat.{ℕ}
 use mathlib.Core.Path.{◌≡◌}
-use borrow.Author.Rules.{rules}
 use borrow.Author.Tests.{eq-eqb, ne_eqb}
 use Rattle.frame.specs.declared.Settings.{Settings}
 use Rattle.frame.specs.Settings.{settings_refusal}

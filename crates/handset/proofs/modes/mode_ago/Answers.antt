@@ -2,8 +2,6 @@
 use Prim.Native.Nat.{ℕ, ◌%◌}
 use mathlib.Core.Path.{◌≡◌, refl}
 use native.Mathlib.Nat.{div-one}
-use native.Mathlib.Omega.{arith}
-use borrow.Author.Rules.{rules}
 use Rattle.handset.specs.Modes.{mode_ago}
 use Rattle.handset.proofs.modes.mode_ago.Goals as goal
 

@@ -3,7 +3,6 @@ use Prim.Native.Nat.{ℕ, ◌%◌}
 use mathlib.Core.Bool.{◌||◌}
 use mathlib.Core.Path.{◌≡◌}
 use lib.Dec.{eqb}
-use borrow.Author.Rules.{rules}
 use Rattle.frame.specs.declared.Settings.{Settings}
 use Rattle.frame.specs.Settings.{new_mode_refusal, in_mode}
 use Rattle.handset.specs.Modes.{modes_sound}

@@ -1,7 +1,6 @@
 -- `handset::modes::window_settings` meets its contract. Assumes nothing.
 use Prim.Native.Nat.{ℕ, ◌≤◌}
 use mathlib.Core.Path.{◌≡◌, ◌∙◌}
-use borrow.Author.Rules.{rules}
 use Rattle.frame.specs.declared.Settings.{Settings}
 use Rattle.frame.specs.Earliest.{earliest_k}
 use Rattle.frame.specs.Settings.{in_mode}

@@ -1,11 +1,9 @@
 -- `handset::state::all_sound` meets its contract. The loop's invariant: the slots before i are sound if `valid` says so. The measure is
 -- the slots left. Assumes nothing.
-use Prim.Native.Nat.{◌-◌, ◌<◌, ◌≤◌}
-use mathlib.Core.Bool.{◌&&◌}
-use mathlib.Core.Path.{◌≡◌, refl}
+use Prim.Native.Nat.{◌<◌}
+use mathlib.Core.Path.{refl}
 use native.Mathlib.Omega.{arith}
-use lib.ListN.{length, drop}
-use Rattle.handset.specs.Sound.{all_sound}
+use lib.ListN.{length}
 use Rattle.handset.proofs.Remembered.{sound_other, sound_first, sound_second, sound_end}
 use Rattle.handset.proofs.state.all_sound.Goals as goal
 

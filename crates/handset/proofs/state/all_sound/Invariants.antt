@@ -1,12 +1,10 @@
 -- `handset::state::all_sound` meets its contract. The loop's invariant: the slots before i are sound if `valid` says so. The measure is
 -- the slots left. Assumes nothing.
-use Prim.Native.Nat.{◌-◌, ◌<◌, ◌≤◌}
+use Prim.Native.Nat.{◌-◌, ◌≤◌}
 use mathlib.Core.Bool.{◌&&◌}
-use mathlib.Core.Path.{◌≡◌, refl}
-use native.Mathlib.Omega.{arith}
-use lib.ListN.{length, drop}
+use mathlib.Core.Path.{◌≡◌}
+use lib.ListN.{drop}
 use Rattle.handset.specs.Sound.{all_sound}
-use Rattle.handset.proofs.Remembered.{sound_other, sound_first, sound_second, sound_end}
 use Rattle.handset.proofs.state.all_sound.Given as goal
 
 abbrev pub invariant-loop-i : goal.invariant-loop-i

@@ -1,6 +1,5 @@
 -- `heard::checks::data_refusal` meets its contract: 9 first, then 20. Assumes nothing.
 use mathlib.Core.Path.{sym, ◌∙◌}
-use borrow.Author.Rules.{rules}
 use Rattle.frame.proofs.Causes.{refused_first, refused_next}
 use Rattle.heard.specs.Heard.{short_refusal, data_refusal}
 use Rattle.heard.proofs.checks.data_refusal.Goals as goal

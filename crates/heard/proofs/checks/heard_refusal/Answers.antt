@@ -1,7 +1,6 @@
 -- `heard::checks::heard_refusal` meets its contract: an arm for each kind. Assumes nothing.
 use Prim.Native.Nat.{ℕ}
 use mathlib.Core.Path.{◌≡◌}
-use borrow.Author.Rules.{rules}
 use Rattle.frame.specs.declared.Settings.{Settings}
 use Rattle.frame.specs.Settings.{or_else}
 use Rattle.heard.specs.declared.Heard.{Heard}

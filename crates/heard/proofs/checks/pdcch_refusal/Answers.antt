@@ -1,7 +1,6 @@
 -- `heard::checks::pdcch_refusal` meets its contract: each return follows from the tests before it. Assumes nothing.
 use mathlib.Core.Path.{sym, ◌∙◌}
 use borrow.Author.Rules.{rules}
-use borrow.Author.Tests.{not-true, not-false}
 use Rattle.frame.proofs.Causes.{decided}
 use Rattle.heard.specs.Heard.{pdcch_refusal}
 use Rattle.heard.proofs.checks.pdcch_refusal.Goals as goal

@@ -1,6 +1,5 @@
 -- `heard::checks::unset_refusal` meets its contract. Assumes nothing.
 use mathlib.Core.Path.{sym, ◌∙◌}
-use borrow.Author.Rules.{rules}
 use Rattle.heard.specs.Heard.{unset_refusal}
 use Rattle.heard.proofs.checks.unset_refusal.Goals as goal
 

@@ -1,7 +1,6 @@
 -- `reader::records::heard_in` meets its contract: the kinds one after the other. Assumes nothing.
 use borrow.Author.Tests.{eq-eqb, ne_eqb}
 use Rattle.heard.specs.Memory.{heard_in}
-use borrow.Author.Rules.{rules}
 use Rattle.reader.proofs.records.heard_in.Goals as goal
 
 pub returns-then-t-eq1 : goal.returns-then-t-eq1

@@ -2,7 +2,6 @@
 use borrow.Author.Tests.{lt-ltb, le-ltb}
 use Rattle.reader.specs.Record.{record_of, record_slot}
 use Rattle.reader.proofs.Given.{refused_as, read_on_holds}
-use borrow.Author.Rules.{rules}
 use Rattle.reader.proofs.records.record_at.Goals as goal
 
 pub returns-then-refusal-ne0 : goal.returns-then-refusal-ne0

@@ -1,7 +1,6 @@
 -- `reply::answers::carrier_of` meets its contract: an arm for each kind. Assumes nothing.
 use Prim.Native.Nat.{ℕ}
 use mathlib.Core.Path.{◌≡◌, ◌∙◌}
-use borrow.Author.Rules.{rules}
 use Rattle.frame.specs.declared.Settings.{Settings}
 use Rattle.resource.specs.declared.Mapped.{Mapped}
 use Rattle.resource.specs.Calls.{size_of, resource_sized}

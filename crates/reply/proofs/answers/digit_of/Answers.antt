@@ -2,7 +2,6 @@
 use Prim.Native.Nat.{ℕ}
 use mathlib.Core.Bool.{cond, ◌&&◌}
 use mathlib.Core.Path.{◌≡◌}
-use borrow.Author.Rules.{rules}
 use Rattle.symbols.specs.declared.State.TheVariants.{Ack, Nack}
 use Rattle.symbols.specs.Coded.{state_digit}
 use Rattle.heard.specs.declared.Control.{Control}

@@ -2,7 +2,6 @@
 use Prim.Native.Nat.{ℕ}
 use mathlib.Core.Bool.{true, false}
 use mathlib.Core.Path.{◌≡◌}
-use borrow.Author.Rules.{rules}
 use Rattle.frame.specs.declared.Settings.{Settings}
 use Rattle.frame.proofs.Bools.{cast_bit}
 use Rattle.resource.specs.declared.Mapped.{Mapped}

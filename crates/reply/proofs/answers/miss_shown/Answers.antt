@@ -1,5 +1,4 @@
 -- `reply::answers::miss_shown` meets its contract. Assumes nothing.
-use borrow.Author.Rules.{rules}
 use borrow.Author.Tests.{eq-eqb, ne_eqb}
 use Rattle.reply.specs.Replies.{expected, miss_shown}
 use Rattle.reply.proofs.answers.miss_shown.Goals as goal

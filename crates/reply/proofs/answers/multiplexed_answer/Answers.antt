@@ -1,7 +1,6 @@
 -- `reply::answers::multiplexed_answer` meets its contract. Assumes nothing.
 use Prim.Native.Nat.{◌<◌}
 use native.Mathlib.Omega.{arith}
-use borrow.Author.Rules.{rules}
 use Rattle.fold.proofs.Folding.{view_read}
 use Rattle.frame.proofs.Read.{size_read, size_small}
 use Rattle.reply.proofs.Multiplexing.{k_range, index_small, symbol_silent, symbol_sent}

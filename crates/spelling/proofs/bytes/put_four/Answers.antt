@@ -3,7 +3,6 @@ use mathlib.Core.List.{[], ◌∷◌}
 use native.Mathlib.Omega.{arith}
 use lib.ListN.{length-set}
 use Rattle.replaying.proofs.Putting.{stored_put}
-use borrow.Author.Rules.{rules}
 use Rattle.spelling.proofs.bytes.put_four.Goals as goal
 
 pub bounds-out-at-2 : goal.bounds-out-at-2

@@ -1,6 +1,5 @@
 -- `spelling::bytes::put_header` meets its contract: four numbers, one behind the other. Assumes nothing.
 use Rattle.spelling.proofs.Putting.{header_put}
-use borrow.Author.Rules.{rules}
 use Rattle.spelling.proofs.bytes.put_header.Goals as goal
 
 pub returns : goal.returns

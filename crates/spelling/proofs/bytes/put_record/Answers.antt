@@ -5,7 +5,6 @@ use Prim.Native.Nat.{ℕ}
 use Rattle.replaying.specs.Written.{put_at}
 use Rattle.spelling.specs.Spelling.{read_bytes}
 use Rattle.spelling.proofs.Putting.{nothing_put}
-use borrow.Author.Rules.{rules}
 use Rattle.spelling.proofs.bytes.put_record.Goals as goal
 
 pub returns-in-Refused : goal.returns-in-Refused

@@ -1,10 +1,9 @@
 -- `spelling::bytes::put_records` meets its contract. The loop's invariant is `Putting`; the measure is the records left. Assumes nothing.
-use Prim.Native.Nat.{◌+◌, ◌-◌}
+use Prim.Native.Nat.{◌+◌}
 use mathlib.Core.Path.{◌≡◌, ◌∙◌}
 use native.Mathlib.Omega.{arith}
 use Rattle.reader.proofs.Given.{next_number}
-use Rattle.spelling.proofs.Records.{Putting, begins_at, room, goes_on, ends}
-use borrow.Author.Rules.{rules}
+use Rattle.spelling.proofs.Records.{begins_at, room, goes_on, ends}
 use Rattle.spelling.proofs.bytes.put_records.Goals as goal
 
 pub loop-i-init : goal.loop-i-init

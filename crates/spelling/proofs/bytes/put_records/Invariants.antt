@@ -1,10 +1,6 @@
 -- `spelling::bytes::put_records` meets its contract. The loop's invariant is `Putting`; the measure is the records left. Assumes nothing.
-use Prim.Native.Nat.{◌+◌, ◌-◌}
-use mathlib.Core.Path.{◌≡◌, ◌∙◌}
-use native.Mathlib.Omega.{arith}
-use Rattle.reader.proofs.Given.{next_number}
-use Rattle.spelling.proofs.Records.{Putting, begins_at, room, goes_on, ends}
-use borrow.Author.Rules.{rules}
+use Prim.Native.Nat.{◌-◌}
+use Rattle.spelling.proofs.Records.{Putting}
 use Rattle.spelling.proofs.bytes.put_records.Given as goal
 
 abbrev pub invariant-loop-i : goal.invariant-loop-i

@@ -5,7 +5,6 @@ use Rattle.frame.specs.Settings.{settings_refusal}
 use Rattle.replaying.specs.Written.{put_at}
 use Rattle.spelling.specs.Spelling.{settings_bytes}
 use Rattle.spelling.proofs.Putting.{header_kept, trace_put}
-use borrow.Author.Rules.{rules}
 use Rattle.spelling.proofs.bytes.put_trace.Goals as goal
 
 pub put_settings-requires : goal.put_settings-requires

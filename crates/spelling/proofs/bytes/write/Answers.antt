@@ -1,7 +1,6 @@
 -- `spelling::bytes::write` meets its contract: what stops, the output, then the bytes. Assumes nothing.
 use native.Mathlib.Omega.{arith}
 use Rattle.spelling.proofs.Answers.{stopped, too_small, writable, written_out}
-use borrow.Author.Rules.{rules}
 use Rattle.spelling.proofs.bytes.write.Goals as goal
 
 pub returns-then-stop-ne0 : goal.returns-then-stop-ne0

@@ -1,12 +1,11 @@
 -- `spelling::stops::first_refused` meets its contract. The loop's invariant is `Feeding`; the measure is the records left. Assumes nothing.
-use Prim.Native.Nat.{◌+◌, ◌-◌}
+use Prim.Native.Nat.{◌+◌}
 use mathlib.Core.Path.{◌≡◌, sym, ap, ◌∙◌}
 use native.Mathlib.Omega.{arith}
 use Rattle.handset.specs.declared.Fed.{Fed}
 use Rattle.reader.proofs.Given.{next_number}
 use Rattle.replaying.specs.Replay.{refusal_in}
-use Rattle.spelling.proofs.Feeding.{Feeding, begins_at, stops, goes_on, ends}
-use borrow.Author.Rules.{rules}
+use Rattle.spelling.proofs.Feeding.{begins_at, stops, goes_on, ends}
 use Rattle.spelling.proofs.stops.first_refused.Goals as goal
 
 pub loop-i-init : goal.loop-i-init

@@ -7,7 +7,6 @@ use Rattle.trace.specs.declared.Header.{Header}
 use Rattle.replaying.specs.Replay.{brought_in, played, ended_as}
 use Rattle.spelling.specs.Writing.{stop_in}
 use Rattle.spelling.proofs.Answers.{refused_before, none_before}
-use borrow.Author.Rules.{rules}
 use Rattle.spelling.proofs.stops.stop_of.Goals as goal
 
 pub returns-then-refusal-ne0 : goal.returns-then-refusal-ne0

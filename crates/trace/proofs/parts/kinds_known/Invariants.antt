@@ -1,11 +1,7 @@
 -- `trace::parts::kinds_known` meets its contract. The loop goes down; its invariant: the kinds are known exactly if those below i are. Assumes nothing.
 use Prim.Native.Nat.{◌≤◌}
-use mathlib.Core.Path.{◌≡◌, refl}
-use native.Mathlib.Omega.{arith}
-use borrow.Author.Rules.{rules}
-use borrow.Author.Tests.{lt-leb, le-leb}
+use mathlib.Core.Path.{◌≡◌}
 use Rattle.trace.specs.Trace.{kinds_known}
-use Rattle.trace.proofs.Known.{one_fewer}
 use Rattle.trace.proofs.parts.kinds_known.Given as goal
 
 abbrev pub invariant-loop-i : goal.invariant-loop-i

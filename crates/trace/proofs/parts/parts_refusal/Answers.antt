@@ -1,7 +1,6 @@
 -- `trace::parts::parts_refusal` meets its contract: the length, then the parts. Assumes nothing.
 use Rattle.frame.proofs.Causes.{refused_first, refused_next}
 use Rattle.trace.specs.Trace.{parts_refusal}
-use borrow.Author.Rules.{rules}
 use Rattle.trace.proofs.parts.parts_refusal.Goals as goal
 
 pub returns-then-length-ne0 : goal.returns-then-length-ne0

@@ -1,6 +1,5 @@
 -- `trace::parts::settings_at` meets its contract. Assumes nothing.
 use Rattle.trace.specs.Trace.{settings_at}
-use borrow.Author.Rules.{rules}
 use Rattle.trace.proofs.parts.settings_at.Goals as goal
 
 pub returns : goal.returns

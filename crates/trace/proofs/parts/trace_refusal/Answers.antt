@@ -1,7 +1,6 @@
 -- `trace::parts::trace_refusal` meets its contract: the parts, then the kinds. Assumes nothing.
 use Rattle.frame.proofs.Causes.{refused_first, refused_next}
 use Rattle.trace.specs.Trace.{trace_refusal}
-use borrow.Author.Rules.{rules}
 use Rattle.trace.proofs.parts.trace_refusal.Goals as goal
 
 pub returns-then-parts-ne0 : goal.returns-then-parts-ne0
