@@ -2,7 +2,7 @@
 -- Assumes nothing.
 use mathlib.Core.Path.{◌≡◌, sym, ap, ◌∙◌}
 use Rattle.numbers.specs.Answers.{resource_answer, inverse_answer, reading_answer, claims_answer, fed_answer, silence_answer, record_answer}
-use Rattle.numbers.specs.Back.{window_in, mapped_in, inverted_in, reading_in, checked_in, fed_in, explained_in, record_in, AnswersComeBack, Apart, SameNumbers, KindsOfAnswers}
+use Rattle.numbers.specs.Back.{window_in, mapped_in, inverted_in, reading_in, checked_in, fed_in, explained_in, record_in, AnswersComeBack, Apart, SameNumbers, KindsOfAnswers, SilenceNumbers}
 use Rattle.numbers.proofs.WindowKept.{window_back}
 use Rattle.numbers.proofs.ResourceKept.{resource_back}
 use Rattle.numbers.proofs.InverseKept.{inverse_back}
@@ -21,7 +21,6 @@ answers_come_back =
       reading = λ s n t r b0 b1. (reading_kept s n t r b0 b1).0;
       claims = λ s n list room lent. (claims_kept s n list room lent).0;
       feed = λ h x. (feed_kept h x).0;
-      silence = silence_back;
       reader = λ l i. (reader_kept l i).0;
     }
 
@@ -38,7 +37,6 @@ same_numbers =
       reading = λ s s' n t r b0 b1 n' t' r' c0 c1. alike reading_answer reading_in (l.reading s n t r b0 b1) (l.reading s' n' t' r' c0 c1);
       claims = λ s t n n' list list' room room' lent lent'. alike claims_answer checked_in (l.claims s n list room lent) (l.claims t n' list' room' lent');
       feed = λ h i x y. alike fed_answer fed_in (l.feed h x) (l.feed i y);
-      silence = λ h i x y. alike silence_answer explained_in (l.silence h x) (l.silence i y);
       reader = λ a b i j. alike record_answer record_in (l.reader a i) (l.reader b j);
     }
 
@@ -48,8 +46,15 @@ kinds_of_answers =
       reading = λ s n t r b0 b1. (reading_kept s n t r b0 b1).1;
       claims = λ s n list room lent. (claims_kept s n list room lent).1;
       feed = λ h x. (feed_kept h x).1;
-      silence = silence_told;
       reader = λ l i. (reader_kept l i).1;
       replay = replay_told;
       writing = writing_told;
+    }
+
+pub silence_numbers : SilenceNumbers
+silence_numbers =
+    record {
+      back = silence_back;
+      apart = λ h i x y. alike silence_answer explained_in (silence_back h x) (silence_back i y);
+      told = silence_told;
     }

@@ -135,7 +135,6 @@ pub record AnswersComeBack : Type 0 where
   pub claims : (s : Settings) (n : ℕ) (list : List ℕ) (room lent : ℕ)
       → checked_in (claims_answer (checked_with s n list room lent)) ≡ checked_with s n list room lent
   pub feed : (h : Handset) (x : Heard) → fed_in (fed_answer (feed_of h x)) ≡ feed_of h x
-  pub silence : (h : Handset) (x : Heard) → explained_in (silence_answer (explain_of h x)) ≡ explain_of h x
   pub reader : (l : List ℕ) (i : ℕ) → record_in (record_answer (record_of l i)) ≡ record_of l i
 
 -- So no two answers of a call look alike from C: where their numbers are equal, the answers are.
@@ -150,7 +149,6 @@ pub record SameNumbers : Type 0 where
   pub claims : (s t : Settings) (n n' : ℕ) (list list' : List ℕ) (room room' lent lent' : ℕ)
       → Apart claims_answer (checked_with s n list room lent) (checked_with t n' list' room' lent')
   pub feed : (h i : Handset) (x y : Heard) → Apart fed_answer (feed_of h x) (feed_of i y)
-  pub silence : (h i : Handset) (x y : Heard) → Apart silence_answer (explain_of h x) (explain_of i y)
   pub reader : (l m : List ℕ) (i j : ℕ) → Apart record_answer (record_of l i) (record_of m j)
 
 -- Where an answer has a kind, it is 0 exactly where the refusal is not 0, and it is one of those that Kinds.antt names, the last of
@@ -163,17 +161,23 @@ KindFor most kind refusal = (eqb kind 0 ≡ not (eqb refusal 0)) × (leb kind mo
 abbrev pub DoneFor : ℕ → ℕ → Type 0
 DoneFor kind refusal = (eqb kind replay_done ≡ eqb refusal 0) × (leb kind replay_stopped ≡ true)
 
--- A silence has a cause, and no other answer has one: the cause is 0 exactly where the kind is not that of a silence.
-abbrev pub CauseFor : ℕ → ℕ → Type 0
-CauseFor cause kind = (eqb cause cause_none ≡ not (eqb kind kind_silent)) × (leb cause cause_miss_shown ≡ true)
-
 pub record KindsOfAnswers : Type 0 where
   pub reading : (s : Settings) (n : ℕ) (t : Told) (r b0 b1 : ℕ)
       → KindFor kind_multiplexed (reading_answer (read_of s n t r b0 b1)).kind (reading_answer (read_of s n t r b0 b1)).refusal
   pub claims : (s : Settings) (n : ℕ) (list : List ℕ) (room lent : ℕ)
       → KindFor claims_clash (claims_answer (checked_with s n list room lent)).kind (claims_answer (checked_with s n list room lent)).refusal
   pub feed : (h : Handset) (x : Heard) → KindFor kind_no_window (fed_answer (feed_of h x)).kind (fed_answer (feed_of h x)).refusal
-  pub silence : (h : Handset) (x : Heard) → CauseFor (silence_answer (explain_of h x)).cause (silence_answer (explain_of h x)).fed.kind
   pub reader : (l : List ℕ) (i : ℕ) → KindFor record_end (record_answer (record_of l i)).kind (record_answer (record_of l i)).refusal
   pub replay : (l : List ℕ) (room : ℕ) → DoneFor (replay_of l room).kind (replay_of l room).refusal
   pub writing : (l : List ℕ) (room : ℕ) → DoneFor (write_of l room).kind (write_of l room).refusal
+
+-- A silence has a cause, and no other answer has one: the cause is 0 exactly where the kind is not that of a silence.
+abbrev pub CauseFor : ℕ → ℕ → Type 0
+CauseFor cause kind = (eqb cause cause_none ≡ not (eqb kind kind_silent)) × (leb cause cause_miss_shown ≡ true)
+
+-- The numbers of the call that tells the cause of a silence: its answers come back, no two look alike, and a cause stands beside a
+-- silence alone.
+pub record SilenceNumbers : Type 0 where
+  pub back : (h : Handset) (x : Heard) → explained_in (silence_answer (explain_of h x)) ≡ explain_of h x
+  pub apart : (h i : Handset) (x y : Heard) → Apart silence_answer (explain_of h x) (explain_of i y)
+  pub told : (h : Handset) (x : Heard) → CauseFor (silence_answer (explain_of h x)).cause (silence_answer (explain_of h x)).fed.kind
