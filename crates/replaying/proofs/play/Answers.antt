@@ -15,10 +15,6 @@ loop-i-init c = begins_at _ _ _ _ c.requires _ c.first_number-i.ensures
 pub overflow_cast-result-then-refusal-ne0 : goal.overflow_cast-result-then-refusal-ne0
 overflow_cast-result-then-refusal-ne0 c = omega (arith, (at_most _ _ _ _ c.requires _ _ _ _ c.loop-i.invariant).1)
 
--- TODO need same-length
--- same_length : tie.Need-same-length invariant-loop decreases-loop
--- same_length c = c.before.before.before.before.before.loop.invariant.same
-
 pub returns-then-refusal-ne0 : goal.returns-then-refusal-ne0
 returns-then-refusal-ne0 c = let each = stops _ _ _ _ c.requires _ _ _ _ c.loop-i.invariant c.loop-i-test.true _ c.heard_at-x.ensures _
     (c.refusal_in-refusal.ensures ∙ ap (λ (f : Fed). refusal_in f.answer) c.feed-fed.ensures)
@@ -26,10 +22,10 @@ returns-then-refusal-ne0 c = let each = stops _ _ _ _ c.requires _ _ _ _ c.loop-
 
 pub put_answer-at-requires : goal.put_answer-at-requires
 put_answer-at-requires c = let none = sym (c.refusal_in-refusal.ensures ∙ ap (λ (f : Fed). refusal_in f.answer) c.feed-fed.ensures) ∙ c.if-refusal-ne0.false in
-    let each = rw c.feed-fed.ensures (
-      fits _ _ _ _ c.requires _ _ _ _ c.loop-i.invariant c.loop-i-test.true _ c.heard_at-x.ensures none,
-      room _ _ _ _ c.requires _ _ _ _ c.loop-i.invariant c.loop-i-test.true _ c.heard_at-x.ensures none,
-    ) in record { n_bound = each.0; answer_in_bounds = each.1 }
+    record {
+      n_bound = rw c.feed-fed.ensures (fits _ _ _ _ c.requires _ _ _ _ c.loop-i.invariant c.loop-i-test.true _ c.heard_at-x.ensures none);
+      answer_in_bounds = rw c.feed-fed.ensures (room _ _ _ _ c.requires _ _ _ _ c.loop-i.invariant c.loop-i-test.true _ c.heard_at-x.ensures none);
+    }
 
 pub loop-i-smaller : goal.loop-i-smaller
 loop-i-smaller c =
@@ -45,10 +41,6 @@ loop-i-preserved c =
 
 pub overflow_cast-result-2 : goal.overflow_cast-result-2
 overflow_cast-result-2 c = omega (arith, (at_most _ _ _ _ c.requires _ _ _ _ c.loop-i.invariant).1)
-
--- TODO need same-length-2
--- same-length-2 : tie.Need-same-length-2 invariant-loop decreases-loop
--- same-length-2 c = c.before.loop.invariant.same
 
 pub returns : goal.returns
 returns c = let each = ends _ _ _ _ c.requires _ _ _ _ c.loop-i.invariant c.loop-i-test.false in record { value = each.0; out_after = each.1 }
