@@ -169,7 +169,8 @@ module _ (S : ℕ → Send) (H : ℕ → Heard) where
 
   -- A heard scheduled block is one of the window.
   pub block_at : (ts : List ℕ) (k : ℕ) → BlockAt k (map entry ts) → (member k ts ≡ true) × (is_block (H k) ≡ true)
-  block_at (j ∷ ts) k (inl p) = (rw (← p.0) (head_member j ts), rw (← p.0) p.1)
+  block_at [] k x' = elim x' [ ]
+  block_at (j ∷ ts) k (inl p) = (rw (eq-eqb j k p.0), rw (← p.0) p.1)
   block_at (j ∷ ts) k (inr p) = let r = block_at ts k p in (tail_member k j ts r.0, r.1)
 
   module _ (test : Heard → Bool) where

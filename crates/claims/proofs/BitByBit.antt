@@ -38,6 +38,7 @@ accepted_with s n claims room lent a = go (window_refusal s n) (ltb lent room) r
 pub answered_scratch : (v : Checked) (new old : List ℕ) → Answered v → scratch_after v new old ≡ new
 answered_scratch Clean new old a = refl
 answered_scratch (Clash i) new old a = refl
+answered_scratch (Refused _ _) new old a = elim a [ ]
 
 module _ (s : Settings) (n : ℕ) (accepted : window_refusal s n ≡ 0) (claims : List ℕ) where
   -- No claim has a resource past the room.
@@ -64,7 +65,7 @@ module _ (s : Settings) (n : ℕ) (accepted : window_refusal s n ≡ 0) (claims 
   module _ (old : List ℕ) (enough : bit_room_of s n ≤ length old) (e : ℕ) where
     tail : drop (bit_room_of s n) (bit_marked_up_to s n claims old e) ≡ drop (bit_room_of s n) old
     unfolding bit_marked_up_to
-    tail = drop_at (bytes_from (marked s n claims e) (bit_room_of s n) 0) _ (bit_room_of s n) (bytes_length _ _ _)
+    tail = drop_at (bytes_from (marked s n claims e) (bit_room_of s n) 0) _ (bit_room_of s n) (bytes_length (marked s n claims e) (bit_room_of s n) 0)
 
     long : length (bit_marked_up_to s n claims old e) ≡ length old
     unfolding bit_marked_up_to
@@ -98,7 +99,8 @@ module _ (s : Settings) (n : ℕ) (accepted : window_refusal s n ≡ 0) (claims 
 
         front : take (bit_room_of s n) new ≡ bytes_from (marked s n claims e) (bit_room_of s n) 0
         front =
-            ext_get_or 0 _ _ (length-take-le (bit_room_of s n) new room_here ∙ sym (bytes_length _ _ _)) λ j h.
+            ext_get_or 0 (take (bit_room_of s n) new) (bytes_from (marked s n claims e) (bit_room_of s n) 0)
+            (length-take-le (bit_room_of s n) new room_here ∙ sym (bytes_length (marked s n claims e) (bit_room_of s n) 0)) λ j h.
             let below : j < bit_room_of s n = rw (length-take-le (bit_room_of s n) new room_here) at h in
             get_or-take (bit_room_of s n) new j 0 below
             ∙ bits_only (marked s n claims e) 8 (8 * j) (get_or new j 0) (b.bytes j below) (at_bit j below)

@@ -2,17 +2,18 @@
 // (document 02, U3). The longest trace has 65,535 bytes: one more is asked for, so that a longer file is seen and refused 21.
 #![tactic(auto)]
 
-use libc::{STDERR_FILENO, STDIN_FILENO, STDOUT_FILENO};
+use std::io;
+use std::io::Write;
 
-fn main() {
-    let mut input = io::large_buffer();
-    let n = io::read_full(STDIN_FILENO, &mut input);
-    let mut out = io::large_buffer();
+fn main(rt: HostRuntime) -> io::Result<()> {
+    let mut input = [0u8; 65536];
+    let n = reading::read_full(&mut rt.stdin(), &mut input)?;
+    let mut out = [0u8; 65536];
     let replayed = replaying::replay(&input[..n], &mut out);
     let size = 8 * replayed.windows as usize;
-    io::write_all(STDOUT_FILENO, &out[..size]);
+    rt.stdout().write_all(&out[..size])?;
     let line = reporting::refusal_line(replayed.refusal, replayed.kind, replayed.number);
     let length = line.size;
     let text = line.text;
-    io::write_all(STDERR_FILENO, &text[..length]);
+    rt.stderr().write_all(&text[..length])
 }

@@ -4,30 +4,32 @@
 
 ghost use Rattle.io.specs.Counts.{IsPrefixLen};
 
-use libc::STDOUT_FILENO;
 use line::Line;
+use std::io;
+use std::io::Write;
 
-fn write_line(line: Line)
+fn write_line(rt: &HostRuntime, line: Line) -> io::Result<()>
     requires { IsPrefixLen line.size line.text }
 {
     let size = line.size;
     let text = line.text;
-    io::write_all(STDOUT_FILENO, &text[..size]);
+    rt.stdout().write_all(&text[..size])
 }
 
-fn main() {
+fn main(rt: HostRuntime) -> io::Result<()> {
     let mut i: u16 = 0;
     let mut line = printing::table_line(0);
     while 0 < line.size {
-        write_line(line);
+        write_line(&rt, line)?;
         i += 1;
         line = printing::table_line(i);
     }
     let mut j: u16 = 0;
     let mut row = size_text::size_line(0);
     while 0 < row.size {
-        write_line(row);
+        write_line(&rt, row)?;
         j += 1;
         row = size_text::size_line(j);
     }
+    Ok(())
 }

@@ -1,14 +1,15 @@
 // Reads one digit 0 to 6 and a newline, and writes the windows of that configuration (document 01, "Buyers' access").
 #![tactic(auto)]
 
-use libc::{STDIN_FILENO, STDOUT_FILENO};
+use std::io;
+use std::io::Write;
 
 // Three bytes are asked for, so that a third one is seen and refused.
-fn main() {
+fn main(rt: HostRuntime) -> io::Result<()> {
     let mut input = [0u8; 3];
-    let n = io::read_full(STDIN_FILENO, &mut input);
+    let n = reading::read_full(&mut rt.stdin(), &mut input)?;
     let page = listing::page_for(&input[..n]);
     let size = page.size;
     let text = page.text;
-    io::write_all(STDOUT_FILENO, &text[..size]);
+    rt.stdout().write_all(&text[..size])
 }
