@@ -259,8 +259,8 @@
 #include <stdint.h>
 
 /* This header's version: major * 10000 + minor * 100 + patch, and the same as text. */
-#define FEEDBACK_VERSION 50200
-#define FEEDBACK_VERSION_TEXT "5.2.0"
+#define FEEDBACK_VERSION 50100
+#define FEEDBACK_VERSION_TEXT "5.1.0"
 
 #define FEEDBACK_WINDOW_MOST 9     /* the most subframes of a window: M in configuration 5 */
 #define FEEDBACK_MEMORY 13         /* the subframes that a handset remembers: the greatest k */

@@ -7,5 +7,6 @@ pub mod Worked
 pub mod WrongChanges
 pub mod WrongEngines
 pub mod WrongHandsets
+pub mod WrongPortChanges
 pub mod WrongPorts
 pub mod WrongStations

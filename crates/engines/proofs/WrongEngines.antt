@@ -1,8 +1,8 @@
 -- What the statement shuts out, field by field. For each field that an engine can break there is the engine of this repository with
 -- one fault, and a proof that the statement does not hold of it. The proof asks the statement for this field, and for those that
 -- settle the witnesses it speaks of; without the field it no longer checks. The handsets are in WrongHandsets.antt, those that go wrong
--- where the mode changes in WrongChanges.antt, those with their antenna ports in WrongPorts.antt, the stations in WrongStations.antt; here
--- is what all use.
+-- where the mode changes in WrongChanges.antt, those with their antenna ports in WrongPorts.antt, both at once in WrongPortChanges.antt,
+-- the stations in WrongStations.antt; here is what all use.
 --
 -- Demand3
 --   by_formula       all ends number the dynamic resources from the top of the range down   not_top_down

@@ -25,19 +25,11 @@ overflow_add-u c = omega (arith, next_most _ c.requires.accepted _ c.offset_of-t
 pub bounds-scratch-t : goal.bounds-scratch-t
 bounds-scratch-t c = bit_inside _ _ _ c.requires _ _ c.loop-i.invariant c.loop-i-test.true _ c.offset_of-t.ensures _ refl
 
--- TODO need same-length
--- same_length : tie.Need-same-length invariant-loop decreases-loop
--- same_length c = c.before.before.before.before.before.before.loop.invariant.long
-
 pub returns-then-scratch-t-ne0 : goal.returns-then-scratch-t-ne0
 returns-then-scratch-t-ne0 c = let each = bit_clash_holds _ _ _ c.requires _ _ c.loop-i.invariant c.loop-i-test.true _ c.offset_of-t.ensures _ refl c.if-scratch-t-ne0.true in record { value = each.0; scratch_after = each.1 }
 
 pub bounds-scratch-u : goal.bounds-scratch-u
 bounds-scratch-u c = next_bit_inside _ _ _ c.requires _ _ c.loop-i.invariant c.loop-i-test.true _ c.offset_of-t.ensures _ refl
-
--- TODO need same-length-2
--- same-length-2 : tie.Need-same-length-2 invariant-loop decreases-loop
--- same-length-2 c = c.before.before.before.before.before.before.before.before.loop.invariant.long
 
 pub returns-then-scratch-u-ne0 : goal.returns-then-scratch-u-ne0
 returns-then-scratch-u-ne0 c = let each = next_bit_clash _ _ _ c.requires _ _ c.loop-i.invariant c.loop-i-test.true _ c.offset_of-t.ensures _ refl c.if-scratch-u-ne0.true in record { value = each.0; scratch_after = each.1 }
@@ -57,10 +49,6 @@ bounds-scratch-u-in-loop-i-2 c = simp length-set (next_bit_inside _ _ _ c.requir
 pub loop-i-preserved : goal.loop-i-preserved
 loop-i-preserved c = bit_turn _ _ _ c.requires _ _ c.loop-i.invariant c.loop-i-test.true _ c.offset_of-t.ensures _ refl c.if-scratch-t-ne0.false c.if-scratch-u-ne0.false _
     c.with_bit.ensures _ c.with_bit-in-loop-i.ensures
-
--- TODO need same-length-3
--- same-length-3 : tie.Need-same-length-3 invariant-loop decreases-loop
--- same-length-3 c = c.before.loop.invariant.long
 
 pub returns : goal.returns
 returns c = let each = ended _ _ _ _ _ _ c.loop-i.invariant c.loop-i-test.false in record { value = each.0; scratch_after = each.1 }

@@ -1,4 +1,4 @@
--- `frame::digits::digit_at_holds` meets its contract. Assumes nothing.
+-- `frame::digits::digit_at` meets its contract. Assumes nothing.
 use Prim.Native.Nat.{ℕ, ◌*◌, ◌/◌, ◌^◌, ◌≤◌, ◌<◌}
 use mathlib.Core.Path.{◌≡◌}
 use native.Mathlib.Nat.{div-eq_of_lt}
