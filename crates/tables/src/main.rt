@@ -2,14 +2,14 @@
 // look up, the next three from the rows that the engine's lookups are proved equal to, the last from the sizes that are looked up.
 #![tactic(auto)]
 
-ghost use Rattle.io.specs.Counts.{IsPrefixLen};
+ghost use Rattle.std.specs.Prelude.{◌≤◌, length};
 
 use line::Line;
 use std::io;
 use std::io::Write;
 
 fn write_line(rt: &HostRuntime, line: Line) -> io::Result<()>
-    requires { IsPrefixLen line.size line.text }
+    requires { line.size ≤ length line.text }
 {
     let size = line.size;
     let text = line.text;
