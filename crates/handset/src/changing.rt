@@ -28,14 +28,7 @@ pub fn change_mode(h: Handset, mode: u16) -> Changed
             handset: h,
         };
     }
-    let s = h.settings;
-    let settings = frame::in_mode(s, mode);
-    let past = h.past;
-    let handset = Handset {
-        settings,
-        next: h.next,
-        modes: h.modes,
-        past,
-    };
+    let mut handset = h;
+    handset.settings = frame::in_mode(h.settings, mode);
     Changed { refusal, handset }
 }

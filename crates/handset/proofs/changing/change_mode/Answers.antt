@@ -25,4 +25,4 @@ pub returns-then-refusal-ne0 : goal.returns-then-refusal-ne0
 returns-then-refusal-ne0 c = refused _ _ _ c.change_refusal-refusal.ensures c.if-refusal-ne0.true
 
 pub returns : goal.returns
-returns c = changed _ _ _ c.change_refusal-refusal.ensures c.if-refusal-ne0.false _ c.in_mode-settings.ensures
+returns c = changed _ _ _ c.change_refusal-refusal.ensures c.if-refusal-ne0.false _ c.in_mode-handset.ensures
