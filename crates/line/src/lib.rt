@@ -23,6 +23,7 @@ pub fn empty() -> Line
 }
 
 // The line with one more byte; a full line stays as it is.
+#[tactic(auto, unfolding(crate::specs::Put::put_of))]
 pub fn put(p: Line, b: u8) -> Line
     ensures { result ≡ put_of p b }
 {

@@ -53,6 +53,7 @@ fn put_columns(p: Line, b: u16, r: u16) -> Line
 }
 
 // The line above block b.
+#[tactic(auto, unfolding(crate::specs::Text::above, line::specs::Put::added))]
 fn line_above(b: u16) -> Line
     ensures { result ≡ added (paged []) (above b) }
 {
@@ -95,6 +96,7 @@ fn unended(i: u16) -> Line
 
 // Line i of the text, from 0, its newline included; size 0 past the last line.
 // The second promise follows from the first; with it a caller may lend `&text[..size]`.
+#[tactic(auto, using(crate::proofs::Lines::past_last))]
 pub fn size_line(i: u16) -> Line
     ensures value { result ≡ paged (size_line i) }
     ensures prefix_len { IsPrefixLen result.size result.text }

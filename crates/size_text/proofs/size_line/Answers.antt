@@ -5,15 +5,8 @@ use native.Mathlib.Omega.{arith}
 use Rattle.line.proofs.Adding.{added_append}
 use Rattle.line.specs.Put.{paged, added}
 use Rattle.size_text.specs.Text.{unended_line}
-use Rattle.size_text.proofs.Lines.{line_ended, past_last, promised}
+use Rattle.size_text.proofs.Lines.{line_ended, promised}
 use Rattle.size_text.proofs.size_line.Goals as goal
-
-pub returns-then-i-gt330 : goal.returns-then-i-gt330
-unfolding added
-returns-then-i-gt330 c =
-    let i = c.args.i in
-    let p = promised i c.empty.result (rw (past_last i (omega arith)) c.empty.ensures) in
-    record { value = p.0; prefix_len = p.1 }
 
 pub returns : goal.returns
 unfolding added
