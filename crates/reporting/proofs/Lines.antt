@@ -2,10 +2,11 @@
 use Prim.Native.Nat.{ℕ, ◌≤◌}
 use mathlib.Core.Bool.{Bool, true, false, cond}
 use mathlib.Core.List.{List, [], ◌∷◌, ◌++◌, append-nil}
-use mathlib.Core.Path.{◌≡◌, ◌∙◌}
+use mathlib.Core.Path.{◌≡◌, ◌∙◌, refl}
 use native.Mathlib.Omega.{arith}
 use lib.Dec.{eqb}
 use lib.ListN.{length, length-append}
+use borrow.Author.Tests.{eq-eqb, ne_eqb}
 use Rattle.io.specs.Counts.{IsPrefixLen}
 use Rattle.line.specs.declared.Line.{Line}
 use Rattle.line.specs.Ascii.{bytes}
@@ -81,3 +82,30 @@ module _ (refusal kind number : ℕ) where
         → (r ≡ paged (refusal_text refusal kind number)) × IsPrefixLen r.size r.text
     unfolding refusal_text
     stop_put r at e = alone (refusal_text refusal kind number) r refusal_most (rw (some, at) (e ∙ put_two (paged []) _ _ 10))
+
+-- What `refusal_line` promises of its result r, from what each of its calls gave, the last one first.
+module _ (refusal number : ℕ) (e p q r : Line) where
+  stopped : r ≡ put_of q 10 → q ≡ added p (bytes " at record " ++ decimal number) → p ≡ added e (bytes "refused " ++ decimal refusal) → e ≡ paged []
+      → (refusal ≡ 0 → ⊥) → (kind : ℕ) → kind ≡ replay_stopped → (r ≡ paged (refusal_text refusal kind number)) × IsPrefixLen r.size r.text
+  stopped last second first none some kind at =
+      stop_put refusal kind number (ne_eqb _ _ some) r (eq-eqb _ _ at) (rw (← none, ← first, ← second) last)
+
+pub stopped_value : (refusal kind number : ℕ) (e p q r : Line) → r ≡ put_of q 10 → q ≡ added p (bytes " at record " ++ decimal number)
+    → p ≡ added e (bytes "refused " ++ decimal refusal) → e ≡ paged [] → (refusal ≡ 0 → ⊥) → kind ≡ replay_stopped
+    → r ≡ paged (refusal_text refusal kind number)
+stopped_value refusal kind number e p q r last second first none some at = (stopped refusal number e p q r last second first none some kind at).0
+
+pub stopped_fits : (refusal number : ℕ) (e p q r : Line) → r ≡ put_of q 10 → q ≡ added p (bytes " at record " ++ decimal number)
+    → p ≡ added e (bytes "refused " ++ decimal refusal) → e ≡ paged [] → (refusal ≡ 0 → ⊥) → IsPrefixLen r.size r.text
+stopped_fits refusal number e p q r last second first none some =
+    (stopped refusal number e p q r last second first none some replay_stopped refl).1
+
+pub refused_value : (refusal kind number : ℕ) (e p r : Line) → r ≡ put_of p 10 → p ≡ added e (bytes "refused " ++ decimal refusal)
+    → e ≡ paged [] → (refusal ≡ 0 → ⊥) → (kind ≡ replay_stopped → ⊥) → r ≡ paged (refusal_text refusal kind number)
+refused_value refusal kind number e p r last first none some before =
+    (refusal_put refusal kind number (ne_eqb _ _ some) r (ne_eqb _ _ before) (rw (← none, ← first) last)).0
+
+pub refused_fits : (refusal : ℕ) (e p r : Line) → r ≡ put_of p 10 → p ≡ added e (bytes "refused " ++ decimal refusal)
+    → e ≡ paged [] → (refusal ≡ 0 → ⊥) → IsPrefixLen r.size r.text
+refused_fits refusal e p r last first none some =
+    (refusal_put refusal 0 0 (ne_eqb _ _ some) r refl (rw (← none, ← first) last)).1
