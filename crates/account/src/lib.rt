@@ -32,6 +32,7 @@ pub struct Added {
 }
 
 // A new account: 25 is a price over 1,000,000.
+#[tactic(auto, unfolding(crate::specs::Account::open_of))]
 pub fn open(price: u32) -> Opened
     ensures { result ≡ open_of price }
 {
@@ -71,6 +72,7 @@ fn account_at(price: u32, octets: u64) -> Account
 
 // 25 of an account: the price, the carry's bound or the equation. Its octets and price leave one choice of charged and carry, so to compare
 // these two is to test the equation and the bound.
+#[tactic(auto, using(crate::proofs::Equation::not_in_order, crate::proofs::Equation::other_charge, crate::proofs::Equation::other_carry, crate::proofs::Equation::no_other))]
 pub fn account_refusal(a: Account) -> u16
     ensures { result ≡ account_refusal a }
 {

@@ -158,6 +158,7 @@ fn refused(refusal: u16) -> Checked
 
 // The first of refusals 1 to 6, 17, 19, 24, 7, then over all positions of 20, 10, 11, 12 and 18 that is met, 0 if none is; and the
 // position of the scheduled block that was sent.
+#[tactic(auto, using(crate::proofs::Checking::window_refused, crate::proofs::Checking::record_refused_holds, crate::proofs::Checking::second_refused, crate::proofs::Checking::none_refused))]
 pub fn check_sent(s: Settings, n: u16, sent: SentWindow) -> Checked
     ensures { result ≡ checked_of s n sent }
 {

@@ -36,6 +36,7 @@ fn refused(refusal: u16, account: Account) -> Credited
 }
 
 // The octets added to the account.
+#[tactic(auto, using(crate::proofs::Crediting::refused_sum, crate::proofs::Crediting::added_sum))]
 fn added(a: Account, octets: u32) -> Credited
     ensures { result ≡ added_of a octets }
 {
@@ -84,6 +85,7 @@ fn sizes_refusal(size: u16, at: [Sent; 9]) -> u16
 }
 
 // 25 for the sizes, then for the price and the account.
+#[tactic(auto, using(frame::proofs::Causes::refused_first, frame::proofs::Causes::refused_next))]
 fn charge_refusal(config: u16, n: u16, sent: SentWindow, a: Account) -> u16
     ensures { result ≡ or_else (sizes_refusal (length (window_of config n)) sent) (account_refusal a) }
 {
@@ -96,6 +98,7 @@ fn charge_refusal(config: u16, n: u16, sent: SentWindow, a: Account) -> u16
 }
 
 // The octets that a reading credits, added to the account; a refused one adds nothing.
+#[tactic(auto, using(crate::proofs::Crediting::reading_refused, crate::proofs::Crediting::reading_credited))]
 fn credit_reading(config: u16, n: u16, sent: SentWindow, reading: Reading, a: Account) -> Credited
     ensures { result ≡ credit_by config n sent reading a }
 {
@@ -108,6 +111,7 @@ fn credit_reading(config: u16, n: u16, sent: SentWindow, reading: Reading, a: Ac
 }
 
 // The credit for the reply that came on resource r with the bits b0 and b1 to what was sent in the window of n.
+#[tactic(auto, using(crate::proofs::Crediting::sent_refused, crate::proofs::Crediting::charge_refused, crate::proofs::Crediting::reading_told))]
 pub fn credit(
     s: Settings,
     n: u16,

@@ -98,6 +98,7 @@ fn octets_in(config: u16, n: u16, w: Window, at: [Sent; 9], blocks: Blocks) -> u
 }
 
 // The same; the table of sizes is made only where there is a block.
+#[tactic(auto, using(crate::proofs::Sums::no_octets))]
 pub fn octets_of(config: u16, n: u16, sent: SentWindow, blocks: Blocks) -> u32
     ensures { result ≡ octets_where config n sent (block_in blocks) }
 {

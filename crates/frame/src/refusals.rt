@@ -8,6 +8,7 @@ use crate::special::special_refusal;
 use crate::table::size_of;
 
 // The cell: 1 to 3.
+#[tactic(auto, unfolding(crate::specs::Settings::cell_refusal))]
 fn cell_refusal(s: Settings) -> u16
     ensures { result ≡ cell_refusal s }
 {
@@ -27,6 +28,7 @@ fn cell_refusal(s: Settings) -> u16
 }
 
 // The mode: 4 and 5.
+#[tactic(auto, unfolding(crate::specs::Settings::mode_refusal))]
 fn mode_refusal(s: Settings) -> u16
     ensures { result ≡ mode_refusal s }
 {
@@ -42,6 +44,7 @@ fn mode_refusal(s: Settings) -> u16
 }
 
 // The blocks: 6.
+#[tactic(auto, unfolding(crate::specs::Settings::blocks_refusal))]
 fn blocks_refusal(s: Settings) -> u16
     ensures { result ≡ blocks_refusal s }
 {
@@ -109,6 +112,7 @@ fn ports_refusal(s: Settings) -> u16
 }
 
 // What later papers add to the settings: 17, then 19, then 24.
+#[tactic(auto, unfolding(crate::specs::Settings::later_refusal))]
 fn later_refusal(s: Settings) -> u16
     ensures { result ≡ later_refusal s }
 {
@@ -171,6 +175,7 @@ pub fn in_mode(s: Settings, mode: u16) -> Settings
 }
 
 // The first of refusals 1 to 6, 17, 19, 24 and 7 that settings and uplink subframe n meet; 0 if n has a window.
+#[tactic(auto, using(crate::proofs::Causes::refused_first, crate::proofs::Causes::without_window, crate::proofs::Causes::with_window), unfolding(crate::specs::Settings::window_refusal))]
 pub fn window_refusal(s: Settings, n: u16) -> u16
     ensures { result ≡ window_refusal s n }
 {

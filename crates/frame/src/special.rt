@@ -7,6 +7,7 @@ use crate::Settings;
 use crate::table::{is_special, window_of};
 
 // The prefix and the special configuration: 19. The last special configuration is 8 with the normal prefix, 6 with the extended one.
+#[tactic(auto, unfolding(crate::specs::Special::special_refusal, crate::specs::Special::last_special))]
 pub fn special_refusal(s: Settings) -> u16
     ensures { result ≡ special_refusal s }
 {

@@ -6,6 +6,7 @@ use crate::state::state_refusal;
 use crate::{Changed, Handset};
 
 // 4, 5 and 24 for the new mode with the handset's other settings, then 8; 0 if the change is not refused.
+#[tactic(auto, using(frame::proofs::Causes::refused_first, frame::proofs::Causes::refused_next), unfolding(crate::specs::Change::change_refusal))]
 fn change_refusal(h: Handset, mode: u16) -> u16
     ensures { result ≡ change_refusal h mode }
 {

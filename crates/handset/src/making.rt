@@ -28,6 +28,7 @@ fn fresh_of(settings: Settings) -> Handset
 }
 
 // A fresh handset, or the first of refusals 1 to 6, 17, 19 and 24 that the settings meet, with a handset that every feed refuses.
+#[tactic(auto, unfolding(crate::specs::Make::make_of))]
 pub fn make(s: Settings) -> Made
     ensures { result ≡ make_of s }
 {

@@ -65,6 +65,7 @@ fn all_sound(s: Settings, next: u16, past: [Slot; 13]) -> bool
 
 // 8 where the state fails 1 to 6, 17, 19 or 24, expects a subframe over 9, or remembers a mode that fails 5 or 24, or what fails
 // 9 to 12, 18 or 20; else 0.
+#[tactic(auto, unfolding(crate::specs::Sound::state_refusal, crate::specs::Sound::state_sound))]
 pub fn state_refusal(h: Handset) -> u16
     ensures { result ≡ state_refusal h }
 {

@@ -39,6 +39,7 @@ fn reply_on(s: Settings, kind: u16, mapped: Mapped, b0: u16, b1: u16) -> Answer
 }
 
 // A miss is shown by V: it is not the DAI that the last of U PDCCHs has where none was missed.
+#[tactic(auto, unfolding(crate::specs::Replies::miss_shown, crate::specs::Replies::expected))]
 fn miss_shown(s: Settings, seen: Seen) -> bool
     requires { 1 ≤ seen.u }
     ensures { result ≡ miss_shown s seen }
@@ -49,6 +50,7 @@ fn miss_shown(s: Settings, seen: Seen) -> bool
     seen.v != (seen.u - 1) % 4 + 1
 }
 
+#[tactic(auto, using(frame::proofs::Bools::cast_bit), unfolding(crate::specs::Replies::second_bit))]
 fn second_bit(s: Settings, seen: Seen) -> u16
     ensures { result ≡ second_bit s seen }
 {
@@ -78,6 +80,7 @@ fn lone_answer(s: Settings, seen: Seen) -> Answer
 }
 
 // The bundled reply, from what the fold over the window found.
+#[tactic(auto, using(resource::proofs::Sized::resource_told, frame::proofs::Bools::cast_bit), unfolding(crate::specs::Replies::bundled_answer))]
 fn bundled_answer(s: Settings, n: u16, size: u16, seen: Seen) -> Answer
     requires { size ≡ length (window_of s.config n) }
     ensures { result ≡ bundled_answer s n seen }
@@ -120,6 +123,7 @@ fn digit_of(x: View) -> u16
 
 // The resource of position m, in the window of n, which has `size` positions: that of a PDCCH's first CCE, or the one configured for
 // scheduled blocks.
+#[tactic(auto, using(resource::proofs::Sized::resource_told), unfolding(crate::specs::Replies::carrier_of))]
 fn carrier_of(s: Settings, n: u16, size: u16, m: u16, x: View) -> Mapped
     requires { size ≡ length (window_of s.config n) }
     ensures { result ≡ carrier_of s n m x }

@@ -101,6 +101,7 @@ pub fn resource_sized(s: Settings, size: u16, m: u16, c: Cce) -> Mapped
 
 // The same for a caller that has tested settings and subframe, for many PDCCHs of one window; 7 where N_RB, N1 or M is none that
 // they allow.
+#[tactic(auto, unfolding(crate::specs::Calls::resource_within))]
 pub fn resource_within(s: Settings, size: u16, m: u16, c: Cce) -> Mapped
     ensures { result ≡ resource_within s size m c.0 }
 {
@@ -135,6 +136,7 @@ pub fn inverse_of(s: Settings, n: u16, r: Resource) -> Inverted
 }
 
 // The same where the window's size M is told; 7 where M is not 1 to 9.
+#[tactic(auto, using(crate::proofs::Sized::settings_refused_back, crate::proofs::Sized::size_refused_back, crate::proofs::Sized::sized_answered_back))]
 pub fn inverse_sized(s: Settings, size: u16, r: Resource) -> Inverted
     ensures { result ≡ inverse_sized s size r.0 }
 {
@@ -216,6 +218,7 @@ pub fn is_cce(nrb: u16, c: Cce) -> bool
 }
 
 // The formula, in a window of `size` positions: resource = (M − m − 1) × N_p + m × N_(p+1) + c + N1.
+#[tactic(auto, using(crate::proofs::Refused::position_refused))]
 fn resource_in(s: Settings, size: u16, m: u16, cce: Cce) -> Mapped
     requires { Bounds s.nrb s.n1 size }
     ensures { result ≡ resource_in s.nrb s.n1 size m cce.0 }

@@ -36,6 +36,7 @@ pub enum Reading {
 }
 
 // The bits of a bundled reply that is read as `place`.
+#[tactic(auto, unfolding(crate::specs::Readings::bad_bits, crate::specs::Readings::bundled_reading))]
 fn read_bundled(s: Settings, place: Place, b0: u16, b1: u16) -> Reading
     ensures { result ≡ bundled_reading s place b0 b1 }
 {

@@ -105,6 +105,7 @@ fn records_fit(h: Header) -> bool
 }
 
 // 21: a file below eight bytes or not of the header's length.
+#[tactic(auto, unfolding(crate::specs::Trace::length_refusal))]
 fn length_refusal(trace: &[u8]) -> u16
     ensures { result ≡ length_refusal trace.now }
 {

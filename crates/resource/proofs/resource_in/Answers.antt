@@ -1,15 +1,12 @@
 -- `resource::resource_in` meets its contract: 11, or the formula's number, which fits. Assumes nothing.
 use native.Mathlib.Nat.{div-one}
 use native.Mathlib.Omega.{arith}
-use Rattle.resource.proofs.Refused.{position_refused, cce_refused, resource_given}
+use Rattle.resource.proofs.Refused.{cce_refused, resource_given}
 use Rattle.resource.proofs.Room.{Computed, computed}
 use Rattle.resource.proofs.resource_in.Goals as goal
 
-pub returns-then-size-m : goal.returns-then-size-m
-returns-then-size-m c = position_refused _ _ _ _ _ c.if-size-m.true
-
 pub returns-then-region-eq4 : goal.returns-then-region-eq4
-returns-then-region-eq4 c = cce_refused _ _ _ _ _ c.if-size-m.false (omega (arith, c.region_of-region.ensures.above c.if-region-eq4.true))
+returns-then-region-eq4 c = cce_refused _ _ _ _ _ (omega arith) (omega (arith, c.region_of-region.ensures.above c.if-region-eq4.true))
 
 pub overflow_mul-result : goal.overflow_mul-result
 overflow_mul-result c =

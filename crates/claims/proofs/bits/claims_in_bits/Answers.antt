@@ -39,16 +39,16 @@ unfolding bit_scratch_of
 returns-then-bad-claims c =
     let accepted : let a = c.args in window_refusal a.s a.n ≡ 0 = sym c.window_refusal-refusal.ensures ∙ c.if-refusal-ne0.false in
     let e = c.window_in-w.ensures in
-    let each = bad_claim bit_room_of bit_marked_up_to _ _ _ _ accepted _ e _ (bit_room_holds _ _ accepted _ e) c.if-scratch-room.false _ c.first_bad-bad.ensures c.if-bad-claims.true in record { value = each.0; scratch_after = each.1 }
+    let each = bad_claim bit_room_of bit_marked_up_to _ _ _ _ accepted _ e _ (bit_room_holds _ _ accepted _ e) (omega arith) _ c.first_bad-bad.ensures c.if-bad-claims.true in record { value = each.0; scratch_after = each.1 }
 
 pub slice_bounds-clear-end-2 : goal.slice_bounds-clear-end-2
-slice_bounds-clear-end-2 c = sym (length-take-le _ _ c.if-scratch-room.false)
+slice_bounds-clear-end-2 c = sym (length-take-le _ _ (omega arith))
 
 pub mark_bits-clash-requires : goal.mark_bits-clash-requires
 mark_bits-clash-requires c =
     let accepted : let a = c.args in window_refusal a.s a.n ≡ 0 = sym c.window_refusal-refusal.ensures ∙ c.if-refusal-ne0.false in
     let e = c.window_in-w.ensures in
-    ready bit_room_of bit_marked_up_to _ _ _ _ accepted _ e _ (bit_room_holds _ _ accepted _ e) c.if-scratch-room.false _ c.first_bad-bad.ensures c.if-bad-claims.false
+    ready bit_room_of bit_marked_up_to _ _ _ _ accepted _ e _ (bit_room_holds _ _ accepted _ e) (omega arith) _ c.first_bad-bad.ensures c.if-bad-claims.false
     _ c.clear.ensures
 
 pub returns-then-clash-claims : goal.returns-then-clash-claims
@@ -56,7 +56,7 @@ unfolding bit_scratch_of
 returns-then-clash-claims c =
     let accepted : let a = c.args in window_refusal a.s a.n ≡ 0 = sym c.window_refusal-refusal.ensures ∙ c.if-refusal-ne0.false in
     let e = c.window_in-w.ensures in
-    let each = clashed bit_room_of bit_marked_up_to _ _ _ _ accepted _ e _ (bit_room_holds _ _ accepted _ e) c.if-scratch-room.false _ c.first_bad-bad.ensures c.if-bad-claims.false
+    let each = clashed bit_room_of bit_marked_up_to _ _ _ _ accepted _ e _ (bit_room_holds _ _ accepted _ e) (omega arith) _ c.first_bad-bad.ensures c.if-bad-claims.false
     _ c.clear.ensures kept _ c.mark_bits-clash.ensures.value _ c.mark_bits-clash.ensures.scratch_after c.if-clash-claims.true in record { value = each.0; scratch_after = each.1 }
 
 pub returns : goal.returns
@@ -64,5 +64,5 @@ unfolding bit_scratch_of
 returns c =
     let accepted : let a = c.args in window_refusal a.s a.n ≡ 0 = sym c.window_refusal-refusal.ensures ∙ c.if-refusal-ne0.false in
     let e = c.window_in-w.ensures in
-    let each = clean bit_room_of bit_marked_up_to _ _ _ _ accepted _ e _ (bit_room_holds _ _ accepted _ e) c.if-scratch-room.false _ c.first_bad-bad.ensures c.if-bad-claims.false
+    let each = clean bit_room_of bit_marked_up_to _ _ _ _ accepted _ e _ (bit_room_holds _ _ accepted _ e) (omega arith) _ c.first_bad-bad.ensures c.if-bad-claims.false
     _ c.clear.ensures kept _ c.mark_bits-clash.ensures.value _ c.mark_bits-clash.ensures.scratch_after c.if-clash-claims.false in record { value = each.0; scratch_after = each.1 }
