@@ -24,8 +24,8 @@
  *   drive                   feedback_trace_write
  *
  * feedback_text.h has the refusals, the kinds and the cause of a silence as texts for a
- * log. examples/cell.c runs both ends against each other, tells why a handset is silent and
- * bills for what is confirmed, examples/replay.c replays a drive and spells it.
+ * log. examples/cell.c runs both ends against each other and bills for what is confirmed,
+ * examples/replay.c replays a drive and spells it.
  *
  *
  * TERMS
