@@ -288,8 +288,8 @@ module _ (set : Settings) (good : settings_refusal set ≡ 0) (sent : ℕ → Se
   abbrev earliest : ℕ
   earliest = largest (window_of set.config now)
 
-  abbrev window-mode : ℕ
-  window-mode = stood_ago set modes (length l) earliest
+  abbrev mode_of_window : ℕ
+  mode_of_window = stood_ago set modes (length l) earliest
 
   -- The mode that the handset remembers of the window's earliest subframe is the one that stood then.
   module _ (some : 0 < length (window_of set.config now)) where
@@ -299,23 +299,23 @@ module _ (set : Settings) (good : settings_refusal set ≡ 0) (sent : ℕ → Se
     most : earliest ≤ 13
     most = rw (earliest_largest set.config now) at (earliest_most set.config now)
 
-    stood_then : window-mode ≡ get_or ms (earliest - 1) set.mode
+    stood_then : mode_of_window ≡ get_or ms (earliest - 1) set.mode
     stood_then = rw history.same at (ago_past set.mode modes ms history.stood earliest least)
 
-    remembered : mode_ago (modes_after set.mode ms) (earliest_k set.config now) ≡ window-mode
+    remembered : mode_ago (modes_after set.mode ms) (earliest_k set.config now) ≡ mode_of_window
     remembered =
         ap (mode_ago (modes_after set.mode ms)) (earliest_largest set.config now)
         ∙ modes_at set good ms history.allowed.1 earliest least most ∙ sym stood_then
 
-    in_window : Answered (in_mode set window-mode) sent heard (length l) (next_answer handset)
+    in_window : Answered (in_mode set mode_of_window) sent heard (length l) (next_answer handset)
     unfolding next_answer window_settings
     in_window =
         rw remembered
-        (answered (in_mode set window-mode)
-        (accepted_in set window-mode good (rw stood_then (allowed_at set good ms history.allowed.1 (earliest - 1))))
-        sent (schedule_in set window-mode sent schedule) heard brings l (valid_in set window-mode l history.valid) history.past)
+        (answered (in_mode set mode_of_window)
+        (accepted_in set mode_of_window good (rw stood_then (allowed_at set good ms history.allowed.1 (earliest - 1))))
+        sent (schedule_in set mode_of_window sent schedule) heard brings l (valid_in set mode_of_window l history.valid) history.past)
 
-  answer_holds : Answered (in_mode set window-mode) sent heard (length l) (next_answer handset)
+  answer_holds : Answered (in_mode set mode_of_window) sent heard (length l) (next_answer handset)
   unfolding next_answer window_settings
   answer_holds =
       record {

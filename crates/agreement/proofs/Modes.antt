@@ -14,7 +14,7 @@ use Rattle.frame.specs.Order.{times_of}
 use Rattle.frame.specs.Settings.{new_mode_refusal, has_scheduled, settings_refusal, in_mode}
 use Rattle.frame.specs.Special.{too_short}
 use Rattle.frame.specs.Table.{table, window_of}
-use Rattle.frame.proofs.Accepted.{mode-allowed, accepted_in, allowed_most}
+use Rattle.frame.proofs.Accepted.{mode_allowed, accepted_in, allowed_most}
 use Rattle.frame.proofs.Bools.{either}
 use Rattle.frame.proofs.Windows.{every_row, window_passes}
 use Rattle.confirmation.specs.declared.Send.{Send}
@@ -64,7 +64,7 @@ modes_after made (m ∷ ms) = modes_pushed (modes_after made ms) m
 
 module _ (set : Settings) (good : settings_refusal set ≡ 0) where
   pub made_allowed : new_mode_refusal (in_mode set set.mode) ≡ 0
-  made_allowed = mode-allowed set good
+  made_allowed = mode_allowed set good
 
   pub allowed_at : (ms : List ℕ) → Allowed set ms → (i : ℕ) → new_mode_refusal (in_mode set (get_or ms i set.mode)) ≡ 0
   allowed_at [] a i = made_allowed

@@ -193,9 +193,9 @@ pub missed_in_mode_holds : Worked missed_in_mode
 unfolding handsets stations
 missed_in_mode_holds = worked_changed missed_in_mode refl tt tt refl refl
 
-pub mode-tells : Tells missed_in_mode (times 2 NotSilent (times 2 NothingHeard (times 3 NotSilent (MissShown 2 1 ∷ NothingHeard ∷ times 4 NotSilent []))))
+pub mode_tells : Tells missed_in_mode (times 2 NotSilent (times 2 NothingHeard (times 3 NotSilent (MissShown 2 1 ∷ NothingHeard ∷ times 4 NotSilent []))))
 unfolding explaining
-mode-tells = refl
+mode_tells = refl
 
 -- Lent states, and why the two sentences of U11 speak of silent answers alone: of each, what it saw and what it answers.
 pub record Replies (h : Handset) (u v : ℕ) (a : Answer) : Type 0 where

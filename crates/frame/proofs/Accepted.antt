@@ -173,8 +173,8 @@ refused_in s m good =
 pub accepted_in : (s : Settings) (m : ℕ) → settings_refusal s ≡ 0 → new_mode_refusal (in_mode s m) ≡ 0 → settings_refusal (in_mode s m) ≡ 0
 accepted_in s m good allowed = refused_in s m good ∙ allowed
 
-pub mode-allowed : (s : Settings) → settings_refusal s ≡ 0 → new_mode_refusal s ≡ 0
-mode-allowed s good = sym (refused_in s s.mode good) ∙ good
+pub mode_allowed : (s : Settings) → settings_refusal s ≡ 0 → new_mode_refusal s ≡ 0
+mode_allowed s good = sym (refused_in s s.mode good) ∙ good
 
 -- Mode 0 is allowed everywhere, and no mode over 1 is.
 pub zero_allowed : (s : Settings) → new_mode_refusal (in_mode s 0) ≡ 0
