@@ -3,7 +3,7 @@
 use Prim.Native.Nat.{ℕ, ◌*◌, ◌<◌, ◌≤◌}
 use mathlib.Core.Bool.{Bool, true, false, cond}
 use mathlib.Core.Logic.{◌⊎◌, inl, inr, ⊎_elim}
-use mathlib.Core.Path.{◌≡◌, refl, sym, ap, ◌∙◌}
+use mathlib.Core.Path.{◌≡◌, refl, sym, ◌∙◌}
 use native.Mathlib.Nat.{zero-mul, div-add-mod, mod-lt}
 use native.Mathlib.Omega.{arith}
 use lib.Dec.{lit<}
@@ -68,19 +68,14 @@ pub unopened : (price : ℕ) → 1000000 < price → ((open_of price).refusal �
 unfolding open_of
 unopened price h = (rw (lt-ltb 1000000 price h), not_in_order (open_of price).account λ k. omega (arith, k.price))
 
--- What the code compares: the account with the one at its price and octets, number by number.
-module _ (a right : Account) (made : right ≡ account_at a.price a.octets) where
-  same : account_refusal a ≡ 0 → a ≡ right
-  same e = only a e ∙ sym made
+-- What the code tests: the price, and the account against the one at its price and octets.
+module _ (a : Account) where
+  pub price_off : 1000000 < a.price → 25 ≡ account_refusal a
+  price_off h = sym (not_in_order a λ k. omega (arith, k.price))
 
-  pub other_charge : (a.charged ≡ right.charged → ⊥) → 25 ≡ account_refusal a
-  other_charge h = ⊎_elim (λ e. absurd (h (ap (λ (b : Account). b.charged) (same e)))) sym (one_or_none a)
+  module _ (right : Account) (made : right ≡ account_at a.price a.octets) where
+    pub another : (a ≡ right → ⊥) → 25 ≡ account_refusal a
+    another h = ⊎_elim (λ e. absurd (h (only a e ∙ sym made))) sym (one_or_none a)
 
-  pub other_carry : (a.carry ≡ right.carry → ⊥) → 25 ≡ account_refusal a
-  other_carry h = ⊎_elim (λ e. absurd (h (ap (λ (b : Account). b.carry) (same e)))) sym (one_or_none a)
-
-  pub no_other : a.price ≤ 1000000 → a.charged ≡ right.charged → a.carry ≡ right.carry → 0 ≡ account_refusal a
-  unfolding account_at
-  no_other h charged carry =
-      let all : a ≡ account_at a.price a.octets = rw (charged, carry, made) in
-      sym (rw all (some a.price a.octets h))
+    pub same : a ≡ right → a.price ≤ 1000000 → 0 ≡ account_refusal a
+    same e h = sym (rw (e ∙ made) (some a.price a.octets h))

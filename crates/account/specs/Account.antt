@@ -1,10 +1,10 @@
 -- The account and its refusals: document 02, U10.
 -- Assumes nothing.
-use Rattle.std.specs.Prelude.{ℕ, ◌+◌, ◌*◌, ◌/◌, ◌%◌, Bool, cond, not, ◌||◌, ltb, leb, eqb}
+use Rattle.std.specs.Prelude.{ℕ, ◌+◌, ◌*◌, ◌/◌, ◌%◌, Bool, cond, not, ◌||◌, ltb, leb, eqb, Result}
+use Rattle.frame.specs.Refusals.{unless_refused}
 use Rattle.frame.specs.Settings.{or_else}
 use Rattle.account.specs.declared.Account.{Account}
 use Rattle.account.specs.declared.Opened.{Opened}
-use Rattle.account.specs.declared.Added.{Added}
 
 -- "octets × price = 1,000,000 × charged + carry".
 unfoldable pub balanced : Account → Bool
@@ -34,10 +34,6 @@ account_at price octets =
 unfoldable pub add_refusal : Account → ℕ → ℕ
 add_refusal a octets = or_else (account_refusal a) (cond (ltb 1000000000000 (a.octets + octets)) 26 0)
 
--- Octets added to an account; "with nothing credited" where there is a refusal.
-unfoldable pub add_of : Account → ℕ → Added
-add_of a octets =
-    record {
-      refusal = add_refusal a octets;
-      account = cond (eqb (add_refusal a octets) 0) (account_at a.price (a.octets + octets)) a;
-    }
+-- Octets added to an account; where there is a refusal there is no other account, "with nothing credited".
+unfoldable pub add_of : Account → ℕ → Result Account ℕ
+add_of a octets = unless_refused (add_refusal a octets) (account_at a.price (a.octets + octets))

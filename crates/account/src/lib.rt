@@ -2,12 +2,15 @@
 #![tactic(auto)]
 
 ghost use Rattle.std.specs.Prelude.{◌≡◌, ◌≤◌};
+ghost use Rattle.frame.specs.Refusals.{refusal_in, numbered};
 ghost use Rattle.account.specs.Account.{account_at, account_refusal, open_of, add_refusal, add_of};
+
+use frame::Refusal;
 
 // The octets credited so far, what they cost in smallest coins, the price in smallest coins per million octets, and what is left over
 // in millionths of a smallest coin. An account that is lent may hold any numbers: a call refuses what 02 does not allow.
 #[repr(C)]
-#[derive(Clone, Copy)]
+#[derive(Clone, Copy, Debug, PartialEq, Eq)]
 pub struct Account {
     pub octets: u64,
     pub charged: u64,
@@ -23,15 +26,8 @@ pub struct Opened {
     pub account: Account,
 }
 
-// The account after octets were added, with the refusal, 0 for none. Beside a refusal it is as it was.
-#[repr(C)]
-#[derive(Clone, Copy)]
-pub struct Added {
-    pub refusal: u16,
-    pub account: Account,
-}
-
-// A new account: 25 is a price over 1,000,000.
+// A new account: 25 is a price over 1,000,000. It is no Result: the C interface hands the account back beside the refusal too, with the
+// price that it refuses.
 #[tactic(auto, unfolding(crate::specs::Account::open_of))]
 pub fn open(price: u32) -> Opened
     ensures { result ≡ open_of price }
@@ -42,16 +38,12 @@ pub fn open(price: u32) -> Opened
         price,
         carry: 0,
     };
-    if 1000000 < price {
-        return Opened {
-            refusal: 25,
-            account,
-        };
-    }
-    Opened {
-        refusal: 0,
-        account,
-    }
+    let refusal = if 1000000 < price {
+        u16::from(Refusal::SizeOrAccount)
+    } else {
+        0
+    };
+    Opened { refusal, account }
 }
 
 // The account that has these octets at this price. Octets × price may pass 64 bits, so the whole millions of octets are taken apart from
@@ -71,56 +63,34 @@ fn account_at(price: u32, octets: u64) -> Account
 }
 
 // 25 of an account: the price, the carry's bound or the equation. Its octets and price leave one choice of charged and carry, so to compare
-// these two is to test the equation and the bound.
-#[tactic(auto, using(crate::proofs::Equation::not_in_order, crate::proofs::Equation::other_charge, crate::proofs::Equation::other_carry, crate::proofs::Equation::no_other))]
-pub fn account_refusal(a: Account) -> u16
-    ensures { result ≡ account_refusal a }
+// the account with the one that is in order is to test the equation and the bound.
+#[tactic(auto, using(crate::proofs::Equation::price_off, crate::proofs::Equation::another, crate::proofs::Equation::same))]
+pub fn check_account(a: Account) -> Result<(), Refusal>
+    ensures { refusal_in result ≡ account_refusal a }
 {
-    if 1000000 < a.price {
-        return 25;
+    if 1000000 < a.price || a != account_at(a.price, a.octets) {
+        return Err(Refusal::SizeOrAccount);
     }
-    let right = account_at(a.price, a.octets);
-    if a.charged != right.charged {
-        return 25;
-    }
-    if a.carry != right.carry {
-        return 25;
-    }
-    0
+    Ok(())
 }
 
-// 25, then 26: a total that would pass 1,000,000,000,000 octets. The total of an account off that bound may pass 64 bits, so what is left
-// up to the bound is compared.
-fn add_refusal(a: Account, octets: u32) -> u16
-    ensures { result ≡ add_refusal a octets }
+// 25, then 26: a total that would pass 1,000,000,000,000 octets. The total of an account off that bound may pass 64 bits.
+#[tactic(auto, unfolding(crate::specs::Account::add_refusal))]
+fn check_add(a: Account, octets: u32) -> Result<(), Refusal>
+    ensures { refusal_in result ≡ add_refusal a octets }
 {
-    let refusal = account_refusal(a);
-    if refusal != 0 {
-        return refusal;
+    check_account(a)?;
+    if 1000000000000 < a.octets.saturating_add(octets as u64) {
+        return Err(Refusal::Octets);
     }
-    if 1000000000000 < a.octets {
-        return 26;
-    }
-    if 1000000000000 - a.octets < octets as u64 {
-        return 26;
-    }
-    0
+    Ok(())
 }
 
-// Octets added to an account, and charged at its price.
-pub fn add(a: Account, octets: u32) -> Added
-    ensures { result ≡ add_of a octets }
+// Octets added to an account, and charged at its price. Where that is refused the caller still has its account.
+#[tactic(auto, using(crate::proofs::Totals::accepted), unfolding(crate::specs::Account::add_of))]
+pub fn add(a: Account, octets: u32) -> Result<Account, Refusal>
+    ensures { numbered result ≡ add_of a octets }
 {
-    let refusal = add_refusal(a, octets);
-    if refusal != 0 {
-        return Added {
-            refusal,
-            account: a,
-        };
-    }
-    let account = account_at(a.price, a.octets + (octets as u64));
-    Added {
-        refusal: 0,
-        account,
-    }
+    check_add(a, octets)?;
+    Ok(account_at(a.price, a.octets + octets as u64))
 }

@@ -1,5 +1,7 @@
 -- One bundled window, from what was sent and heard in it alone: demand 3's sentences on a window that 01 bundles.
 -- Assumes nothing.
+use Rattle.std.proofs.Common.{Result, Ok, Err}
+use Rattle.resource.specs.declared.Resource.{Resource}
 use Prim.Native.Nat.{ℕ, ◌+◌, ◌-◌, ◌%◌, ◌<◌, ◌≤◌}
 use mathlib.Core.Bool.{Bool, true, false, cond, not, ◌&&◌, and-true, false≢true}
 use mathlib.Core.List.{List, map}
@@ -18,7 +20,6 @@ use Rattle.frame.proofs.Accepted.{Accepted}
 use Rattle.frame.proofs.Bools.{bit_small}
 use Rattle.frame.proofs.Ports.{two_have_second}
 use Rattle.frame.proofs.Windows.{window_size, zero_windows}
-use Rattle.resource.specs.declared.Mapped.TheVariants as mapped
 use Rattle.resource.specs.Calls.{size_of, resource_of}
 use Rattle.resource.specs.Formula.{edge}
 use Rattle.resource.specs.Ports.{second_port}
@@ -29,6 +30,7 @@ use Rattle.reply.specs.declared.Answer.TheVariants as answer
 use Rattle.heard.specs.declared.Heard.{Heard}
 use Rattle.heard.specs.declared.Heard.TheVariants.{Nothing, Granted, Scheduled, Released}
 use Rattle.reply.specs.declared.Reply.{Reply}
+use Rattle.reply.specs.Kinds.{kind_bundled}
 use Rattle.fold.specs.declared.Seen.{Seen}
 use Rattle.heard.specs.declared.View.{View}
 use Rattle.fold.specs.Fold.{unseen, step_of, seen_of}
@@ -102,13 +104,13 @@ abbrev pub LowCce : Settings → Heard → Type 0
 LowCce set x = (k c : ℕ) → as_last k x ≡ heard_at k c → c < edge set.nrb 4
 
 -- On a PDCCH's resource the station's reading, `read`, reads that PDCCH.
-abbrev pub ReadsPdcch : Settings → ℕ → (ℕ → ℕ → ℕ → Reading) → Type 0
+abbrev pub ReadsPdcch : Settings → ℕ → (ℕ → ℕ → ℕ → Result Reading ℕ) → Type 0
 ReadsPdcch set n read =
-    (m c r b0 b1 : ℕ) → resource_of set n m c ≡ mapped.At (record { 0 = r })
+    (m c r b0 b1 : ℕ) → resource_of set n m c ≡ Ok (record { 0 = r })
     → read r b0 b1 ≡ read_at set (size_of set n) (place.Pdcch m (record { 0 = c })) b0 b1
 
 -- On the configured resource it reads a scheduled block that was heard, which has its resource set.
-abbrev pub ReadsBlock : Settings → ℕ → (ℕ → Heard) → (ℕ → ℕ → ℕ → Reading) → Type 0
+abbrev pub ReadsBlock : Settings → ℕ → (ℕ → Heard) → (ℕ → ℕ → ℕ → Result Reading ℕ) → Type 0
 ReadsBlock set n H read =
     (k : ℕ) → member k (window_of set.config n) ≡ true → is_block (H k) ≡ true
     → (m : ℕ) × (m < size_of set n) × (get_or (window_of set.config n) m 0 ≡ k)
@@ -116,7 +118,7 @@ ReadsBlock set n H read =
     × (has_scheduled set ≡ true)
 
 module _ (set : Settings) (n : ℕ) (good : window_refusal set n ≡ 0) (ok : Accepted set) (mode : bundles set (size_of set n) ≡ true)
-    (S : ℕ → Send) (H : ℕ → Heard) (F : ℕ → View) (read : ℕ → ℕ → ℕ → Reading)
+    (S : ℕ → Send) (H : ℕ → Heard) (F : ℕ → View) (read : ℕ → ℕ → ℕ → Result Reading ℕ)
     (rule : RuleFrom 0 (map S (times_of (window_of set.config n))))
     (brings : (k : ℕ) → 1 ≤ k → k ≤ 13 → Brings (S k) (H k))
     (low : (k : ℕ) → 1 ≤ k → k ≤ 13 → LowCce set (H k))
@@ -180,22 +182,22 @@ module _ (set : Settings) (n : ℕ) (good : window_refusal set n ≡ 0) (ok : Ac
       go false t most = none_lost es t
 
   -- the answer to heard PDCCHs with a reply due
-  due : any_of is_pdcch es ≡ true → Fours (lost_before es) → bundled_answer set n seen ≡ reply_on set 1 (resource_of set n seen.position seen.cce.0) (bit seen.first) (second_bit set seen)
+  due : any_of is_pdcch es ≡ true → Fours (lost_before es) → bundled_answer set n seen ≡ reply_on set kind_bundled (resource_of set n seen.position seen.cce.0) (bit seen.first) (second_bit set seen)
   unfolding bundled_answer miss_shown expected
   due some lost =
       let least : 1 ≤ heard_count es = some_counted es some in
       let match : seen.v ≡ (seen.u - 1) % 4 + 1 = v_is some ∙ rw u_is (fits (heard_count es) (lost_before es) least lost) in
       rw (ne_eqb seen.u 0 (λ z. omega (arith, u_is)), eq-eqb seen.v ((seen.u - 1) % 4 + 1) match) (never (not (eqb set.config 0)))
     where
-      never : (b : Bool) → cond (b && false) answer.Silent (reply_on set 1 (resource_of set n seen.position seen.cce.0) (bit seen.first) (second_bit set seen))
-          ≡ reply_on set 1 (resource_of set n seen.position seen.cce.0) (bit seen.first) (second_bit set seen)
+      never : (b : Bool) → cond (b && false) answer.Silent (reply_on set kind_bundled (resource_of set n seen.position seen.cce.0) (bit seen.first) (second_bit set seen))
+          ≡ reply_on set kind_bundled (resource_of set n seen.position seen.cce.0) (bit seen.first) (second_bit set seen)
       never true = refl
       never false = refl
 
   -- the answer to a lone scheduled block
   lone : any_of is_pdcch es ≡ false → any_of is_block es ≡ true
       → bundled_answer set n seen
-      ≡ answer.Sent (record { kind = 1; resource = record { 0 = set.scheduled }; b0 = bit seen.first; b1 = second_bit set seen; second = record { 0 = second_port set set.scheduled } })
+      ≡ answer.Sent (record { kind = kind_bundled; resource = record { 0 = set.scheduled }; b0 = bit seen.first; b1 = second_bit set seen; second = record { 0 = second_port set set.scheduled } })
   unfolding bundled_answer lone_answer reply_on
   lone none some = rw (eq-eqb seen.u 0 (u_is ∙ none_counted es none), block_is ∙ some)
 
@@ -271,33 +273,33 @@ module _ (set : Settings) (n : ℕ) (good : window_refusal set n ≡ 0) (ok : Ac
   block_set e = let b = some_of S H is_block (times_of (window_of set.config n)) e in (reads_block b.0 (in_time_holds set.config n b.0 b.1) b.2).4
 
   -- it goes on the resource of the last heard PDCCH
-  goes_on : (m c r : ℕ) → seen.position ≡ m → seen.cce.0 ≡ c → resource_of set n m c ≡ mapped.At (record { 0 = r })
-      → reply_on set 1 (resource_of set n seen.position seen.cce.0) (bit seen.first) (second_bit set seen)
-      ≡ answer.Sent (record { kind = 1; resource = record { 0 = r }; b0 = bit seen.first; b1 = second_bit set seen; second = record { 0 = second_port set r } })
+  goes_on : (m c r : ℕ) → seen.position ≡ m → seen.cce.0 ≡ c → resource_of set n m c ≡ Ok (record { 0 = r })
+      → reply_on set kind_bundled (resource_of set n seen.position seen.cce.0) (bit seen.first) (second_bit set seen)
+      ≡ answer.Sent (record { kind = kind_bundled; resource = record { 0 = r }; b0 = bit seen.first; b1 = second_bit set seen; second = record { 0 = second_port set r } })
   unfolding reply_on
   goes_on m c r em ec there = rw (em, ec, there)
 
   -- a reading with these bits is bundled, at whatever place it is
-  reads : (p : Place) → read_at set (size_of set n) p (bit seen.first) (second_bit set seen) ≡ reading.Bundled p (bit seen.first) (second_bit set seen)
+  reads : (p : Place) → read_at set (size_of set n) p (bit seen.first) (second_bit set seen) ≡ Ok (reading.Bundled p (bit seen.first) (second_bit set seen))
   unfolding read_at bundled_reading
   reads p = rw (mode, good_bits)
 
   -- the reply that is due, on a resource: what it says beside what it is read as
   module _ (r : ℕ) where
     sent : Reply
-    sent = record { kind = 1; resource = record { 0 = r }; b0 = bit seen.first; b1 = second_bit set seen; second = record { 0 = second_port set r } }
+    sent = record { kind = kind_bundled; resource = record { 0 = r }; b0 = bit seen.first; b1 = second_bit set seen; second = record { 0 = second_port set r } }
 
     abbrev Right : Type 0
     Right = BundledReply set (resource_of set n) read (window_of set.config n) es sent
 
     says : ((k c : ℕ) → last_heard es ≡ heard_at k c
         → (m : ℕ) × (m < size_of set n) × (get_or (window_of set.config n) m 0 ≡ k)
-        × (resource_of set n m c ≡ mapped.At (record { 0 = r }))
-        × (read r (bit seen.first) (second_bit set seen) ≡ reading.Bundled (place.Pdcch m (record { 0 = c })) (bit seen.first) (second_bit set seen)))
+        × (resource_of set n m c ≡ Ok (record { 0 = r }))
+        × (read r (bit seen.first) (second_bit set seen) ≡ Ok (reading.Bundled (place.Pdcch m (record { 0 = c })) (bit seen.first) (second_bit set seen))))
         → ((k : ℕ) → any_of is_pdcch es ≡ false → BlockAt k es
         → (m : ℕ) × (m < size_of set n) × (get_or (window_of set.config n) m 0 ≡ k)
         × (r ≡ set.scheduled)
-        × (read r (bit seen.first) (second_bit set seen) ≡ reading.Bundled (place.Block m) (bit seen.first) (second_bit set seen)))
+        × (read r (bit seen.first) (second_bit set seen) ≡ Ok (reading.Bundled (place.Block m) (bit seen.first) (second_bit set seen))))
         → (set.ports ≡ 2 → second_port set r ≡ r + 1)
         → Right
     unfolding sent
@@ -334,7 +336,7 @@ module _ (set : Settings) (n : ℕ) (good : window_refusal set n ≡ 0) (ok : Ac
               f.of.back ∙ q.0,
               ap (resource_of set n m) (sym q.1) ∙ p.3.there,
               reads_pdcch m l.1 p.0 (bit seen.first) (second_bit set seen) p.3.there ∙ reads (place.Pdcch m (record { 0 = l.1 }))
-                  ∙ ap (λ (x : ℕ). reading.Bundled (place.Pdcch m (record { 0 = x })) (bit seen.first) (second_bit set seen)) q.1,
+                  ∙ ap (λ (x : ℕ). Ok (reading.Bundled (place.Pdcch m (record { 0 = x })) (bit seen.first) (second_bit set seen))) q.1,
             ))
             (λ k none h. absurd (false≢true (sym none ∙ some)))
             (λ two. port_above set p.0 two (omega (arith, call_most set n m l.1 p.0 p.3.there))),
@@ -356,7 +358,7 @@ module _ (set : Settings) (n : ℕ) (good : window_refusal set n ≡ 0) (ok : Ac
         (λ two. absurd (false≢true (sym (ok.two_ports (two_have_second set two)).1 ∙ block_set some))),
   )
 
-  pub bundled_window : Bundled set (resource_of set n) read (window_of set.config n) (map (entry S H) (times_of (window_of set.config n))) (bundled_answer set n (seen_of F (window_of set.config n)))
+  pub bundled_window : Bundled set (resource_of set n) read (window_of set.config n) (map (entry S H) (times_of (window_of set.config n))) (Ok (bundled_answer set n (seen_of F (window_of set.config n))))
   unfolding es Due
   bundled_window = rw folded (sent_exactly _ _ _ (decided (any_of is_pdcch es) refl (fours (lost_before es)) (any_of is_block es) refl) answered undue)
     where

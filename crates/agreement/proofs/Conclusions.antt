@@ -1,6 +1,7 @@
 -- What a scheduler may conclude (specs/Confirmation.antt), of every engine that meets demand 3, and so of the engine of this
 -- repository.
 -- Assumes nothing.
+use Rattle.std.proofs.Common.{Result, Ok, Err}
 use Prim.Native.Nat.{ℕ, ◌/◌, ◌%◌, ◌^◌, ◌<◌}
 use mathlib.Core.Bool.{Bool, true, false}
 use mathlib.Core.List.{List, [], ◌∷◌}
@@ -102,7 +103,7 @@ module _ (e : Engine) (d : Demand3 e) (set : Settings) (sent : ℕ → Send) (it
   ByBlock = BlockRead own good sent schedule s H brought r (reading_in e own sent s)
 
   -- Where it is read as bundled, it is.
-  bundled : (m : ℕ) → m < length (window_at set s) → (named : Place) (b0 b1 : ℕ) → reading_at e set sent items s r ≡ reading.Bundled named b0 b1 → ByPdcch ⊎ ByBlock
+  bundled : (m : ℕ) → m < length (window_at set s) → (named : Place) (b0 b1 : ℕ) → reading_at e set sent items s r ≡ Ok (reading.Bundled named b0 b1) → ByPdcch ⊎ ByBlock
   bundled m h named b0 b1 is = go (window m h)
     where
       go : Answered → ByPdcch ⊎ ByBlock
@@ -110,7 +111,7 @@ module _ (e : Engine) (d : Demand3 e) (set : Settings) (sent : ℕ → Send) (it
       go (inr w) = let z : ◌≡◌ {A = ℕ} 0 1 = cc (is, (w.1 r replied.answered).is_read) in absurd (omega arith)
 
   -- Read as a PDCCH, it is the last one heard; read as the block, that was heard alone.
-  by_pdcch : (m : ℕ) → m < length (window_at set s) → (named : ℕ) (c : Cce) (b0 b1 : ℕ) → reading_at e set sent items s r ≡ reading.Bundled (place.Pdcch named c) b0 b1
+  by_pdcch : (m : ℕ) → m < length (window_at set s) → (named : ℕ) (c : Cce) (b0 b1 : ℕ) → reading_at e set sent items s r ≡ Ok (reading.Bundled (place.Pdcch named c) b0 b1)
       → (l : ByPdcch) × (get_or (window_at set s) named 0 ≡ l.k)
   by_pdcch m h named c b0 b1 is = go (bundled m h (place.Pdcch named c) b0 b1 is)
     where
@@ -120,7 +121,7 @@ module _ (e : Engine) (d : Demand3 e) (set : Settings) (sent : ℕ → Send) (it
           (l, ap (λ (m : ℕ). get_or (window_at set s) m 0) same ∙ l.is_at)
       go (inr l) = let z : ◌≡◌ {A = ℕ} 0 1 = cc (is, l.is_read) in absurd (omega arith)
 
-  by_block : (m : ℕ) → m < length (window_at set s) → (named b0 b1 : ℕ) → reading_at e set sent items s r ≡ reading.Bundled (place.Block named) b0 b1
+  by_block : (m : ℕ) → m < length (window_at set s) → (named b0 b1 : ℕ) → reading_at e set sent items s r ≡ Ok (reading.Bundled (place.Block named) b0 b1)
       → (l : ByBlock) × (l.named ≡ named)
   by_block m h named b0 b1 is = go (bundled m h (place.Block named) b0 b1 is)
     where
@@ -131,7 +132,7 @@ module _ (e : Engine) (d : Demand3 e) (set : Settings) (sent : ℕ → Send) (it
   in_time_holds : (m : ℕ) → m < length (window_at set s) → member (get_or (window_at set s) m 0) (times_of (window_at set s)) ≡ true
   in_time_holds m h = inside own good sent schedule s H brought r m h
 
-  heard_up_to_holds : (named : ℕ) (c : Cce) (b0 b1 : ℕ) → reading_at e set sent items s r ≡ reading.Bundled (place.Pdcch named c) b0 b1
+  heard_up_to_holds : (named : ℕ) (c : Cce) (b0 b1 : ℕ) → reading_at e set sent items s r ≡ Ok (reading.Bundled (place.Pdcch named c) b0 b1)
       → (m : ℕ) → m < length (window_at set s)
       → speaks_for (window_at set s) (sent_ago sent s) (get_or (window_at set s) named 0) (get_or (window_at set s) m 0) ≡ true
       → is_heard (H (get_or (window_at set s) m 0)) ≡ true
@@ -139,25 +140,25 @@ module _ (e : Engine) (d : Demand3 e) (set : Settings) (sent : ℕ → Send) (it
       let l = by_pdcch m h named c b0 b1 is in
       l.0.heard (get_or (window_at set s) m 0) (in_time_holds m h) (rw l.1 at speaks)
 
-  lost_after_holds : (named : ℕ) (c : Cce) (b0 b1 : ℕ) → reading_at e set sent items s r ≡ reading.Bundled (place.Pdcch named c) b0 b1
+  lost_after_holds : (named : ℕ) (c : Cce) (b0 b1 : ℕ) → reading_at e set sent items s r ≡ Ok (reading.Bundled (place.Pdcch named c) b0 b1)
       → (m : ℕ) → m < length (window_at set s) → get_or (window_at set s) m 0 < get_or (window_at set s) named 0
       → is_pdcch (H (get_or (window_at set s) m 0)) ≡ false
   lost_after_holds named c b0 b1 is m h after =
       let l = by_pdcch m h named c b0 b1 is in
       l.0.lost (get_or (window_at set s) m 0) (in_time_holds m h) (rw l.1 at after)
 
-  none_heard_holds : (named b0 b1 : ℕ) → reading_at e set sent items s r ≡ reading.Bundled (place.Block named) b0 b1
+  none_heard_holds : (named b0 b1 : ℕ) → reading_at e set sent items s r ≡ Ok (reading.Bundled (place.Block named) b0 b1)
       → (m : ℕ) → m < length (window_at set s) → is_pdcch (H (get_or (window_at set s) m 0)) ≡ false
   none_heard_holds named b0 b1 is m h = (by_block m h named b0 b1 is).0.none (get_or (window_at set s) m 0) (in_time_holds m h)
 
-  block_heard_holds : (named b0 b1 : ℕ) → reading_at e set sent items s r ≡ reading.Bundled (place.Block named) b0 b1
+  block_heard_holds : (named b0 b1 : ℕ) → reading_at e set sent items s r ≡ Ok (reading.Bundled (place.Block named) b0 b1)
       → is_block (H (get_or (window_at set s) named 0)) ≡ true
   block_heard_holds named b0 b1 is =
       let l = by_block 0 has_window_holds named b0 b1 is in
       rw (← l.1) l.0.heard
 
   -- Where it is read as multiplexed, it is.
-  multiplexed : (named : Place) (positions : ℕ) → reading_at e set sent items s r ≡ reading.Multiplexed named positions → IsMultiplexed
+  multiplexed : (named : Place) (positions : ℕ) → reading_at e set sent items s r ≡ Ok (reading.Multiplexed named positions) → IsMultiplexed
   multiplexed named positions is = go (window 0 has_window_holds)
     where
       go : Answered → IsMultiplexed
@@ -168,14 +169,14 @@ module _ (e : Engine) (d : Demand3 e) (set : Settings) (sent : ℕ → Send) (it
           by (inr l) = let z : ◌≡◌ {A = ℕ} 0 1 = cc (is, l.is_read) in absurd (omega arith)
       go (inr w) = w
 
-  delivered_heard_holds : (named : Place) (positions : ℕ) → reading_at e set sent items s r ≡ reading.Multiplexed named positions
+  delivered_heard_holds : (named : Place) (positions : ℕ) → reading_at e set sent items s r ≡ Ok (reading.Multiplexed named positions)
       → (m : ℕ) → m < length (window_at set s) → positions / 2 ^ m % 2 ≡ 1 → is_heard (H (get_or (window_at set s) m 0)) ≡ true
   delivered_heard_holds named positions is m h bit =
       let w = multiplexed named positions is in
       let same : (w.1 r replied.answered).delivered ≡ positions = cc (is, (w.1 r replied.answered).is_read) in
       (delivered_ack own good sent schedule s H brought r m (e.resource own (s % 10)) (reading_in e own sent s) _ w replied.answered h (rw same bit)).0
 
-  none_names_more : (named : Place) (positions : ℕ) → reading_at e set sent items s r ≡ reading.Multiplexed named positions
+  none_names_more : (named : Place) (positions : ℕ) → reading_at e set sent items s r ≡ Ok (reading.Multiplexed named positions)
       → (rule : Rule) → Sound rule (length (window_at set s)) (sent_there set sent s) (place_position named) r.b0 r.b1
       → (m : ℕ) → rule (length (window_at set s)) (sent_there set sent s) (place_position named) r.b0 r.b1 m ≡ true
       → positions / 2 ^ m % 2 ≡ 1

@@ -3,6 +3,8 @@
 -- speaks only for PDCCHs that were received (confirmation/proofs/Received.antt), and an ACK says that each decoded its block. A reply
 -- to a lone scheduled block is read as that block, which was heard.
 -- Assumes nothing.
+use Rattle.std.proofs.Common.{Result, Ok, Err}
+use Rattle.resource.specs.declared.Resource.{Resource}
 use Prim.Native.Nat.{ℕ, suc, ◌-◌, ◌/◌, ◌%◌, ◌^◌, ◌<◌, ◌≤◌, suc-le-suc}
 use mathlib.Core.Bool.{Bool, true, false, cond, ◌&&◌, ◌||◌, false≢true}
 use mathlib.Core.List.{List, [], ◌∷◌, map}
@@ -21,7 +23,6 @@ use Rattle.frame.proofs.Accepted.{accepted}
 use Rattle.frame.proofs.Bools.{both}
 use Rattle.frame.proofs.Lists as lists
 use Rattle.frame.proofs.Times.{in_time_order}
-use Rattle.resource.specs.declared.Mapped.{Mapped}
 use Rattle.symbols.specs.declared.State.{State}
 use Rattle.symbols.specs.declared.State.TheVariants.{Ack, Nack, Dtx}
 use Rattle.station.specs.declared.Place.{Place}
@@ -220,24 +221,24 @@ module _ (set : Settings) (good : settings_refusal set ≡ 0) (sent : ℕ → Se
     inside m h = in_window set.config (s % 10) (get_or (window_at set s) m 0) (member_at set.config (s % 10) m h)
 
     -- A bundled window that was answered, PDCCHs heard: the last of them, which the reading names, and which were heard.
-    pub record LastRead (read : ℕ → ℕ → ℕ → Reading) : Type 0 where
+    pub record LastRead (read : ℕ → ℕ → ℕ → Result Reading ℕ) : Type 0 where
       pub named : ℕ
       pub k : ℕ
       pub c : ℕ
       pub is_at : get_or (window_at set s) named 0 ≡ k
-      pub is_read : read r.resource.0 r.b0 r.b1 ≡ reading.Bundled (place.Pdcch named (record { 0 = c })) r.b0 r.b1
+      pub is_read : read r.resource.0 r.b0 r.b1 ≡ Ok (reading.Bundled (place.Pdcch named (record { 0 = c })) r.b0 r.b1)
       pub heard : (j : ℕ) → member j ts ≡ true → speaks_for (window_at set s) S k j ≡ true → is_heard (H j) ≡ true
       pub lost : (j : ℕ) → member j ts ≡ true → j < k → is_pdcch (H j) ≡ false
 
     -- One in which a scheduled block alone was heard: the reading names it.
-    pub record BlockRead (read : ℕ → ℕ → ℕ → Reading) : Type 0 where
+    pub record BlockRead (read : ℕ → ℕ → ℕ → Result Reading ℕ) : Type 0 where
       pub named : ℕ
-      pub is_read : read r.resource.0 r.b0 r.b1 ≡ reading.Bundled (place.Block named) r.b0 r.b1
+      pub is_read : read r.resource.0 r.b0 r.b1 ≡ Ok (reading.Bundled (place.Block named) r.b0 r.b1)
       pub heard : is_block (H (get_or (window_at set s) named 0)) ≡ true
       pub none : (j : ℕ) → member j ts ≡ true → is_pdcch (H j) ≡ false
 
-    pub last_read : (resource : ℕ → ℕ → Mapped) (read : ℕ → ℕ → ℕ → Reading) (a : Answer)
-        → Bundled set resource read (window_at set s) (map (entry S H) ts) a → a ≡ answer.Sent r → LastRead read ⊎ BlockRead read
+    pub last_read : (resource : ℕ → ℕ → Result Resource ℕ) (read : ℕ → ℕ → ℕ → Result Reading ℕ) (a : Result Answer ℕ)
+        → Bundled set resource read (window_at set s) (map (entry S H) ts) a → a ≡ Ok (answer.Sent r) → LastRead read ⊎ BlockRead read
     last_read resource read a window is = go (window.0.0 (r, is))
       where
         by_last : (any_of is_pdcch (map (entry S H) ts) ≡ true) × ((lost_before (map (entry S H) ts) ≡ 0) ⊎ (lost_before (map (entry S H) ts) ≡ 4) ⊎ (lost_before (map (entry S H) ts) ≡ 8))
@@ -277,15 +278,15 @@ module _ (set : Settings) (good : settings_refusal set ≡ 0) (sent : ℕ → Se
         go (inr due) = inr (by_block due)
 
     -- what a reading that names a place acknowledges there is acknowledged by its bits
-    acked : (named : Place) (m block : ℕ) → says_ack (window_at set s) S (reading.Bundled named r.b0 r.b1) m block ≡ true
+    acked : (named : Place) (m block : ℕ) → says_ack (window_at set s) S (Ok (reading.Bundled named r.b0 r.b1)) m block ≡ true
         → (holds_for (window_at set s) S named (get_or (window_at set s) m 0) ≡ true) × (acknowledged (S (get_or (window_at set s) m 0)) block r.b0 r.b1 ≡ true)
     acked named m block e =
         let k : ℕ = get_or (window_at set s) m 0 in
         let p = both (named_sent (window_at set s) S named && holds_for (window_at set s) S named k) (acknowledged (S k) block r.b0 r.b1) e in
         ((both (named_sent (window_at set s) S named) (holds_for (window_at set s) S named k) p.0).1, p.1)
 
-    pub bundled_confirmed : (m block : ℕ) (resource : ℕ → ℕ → Mapped) (read : ℕ → ℕ → ℕ → Reading) (a : Answer)
-        → Bundled set resource read (window_at set s) (map (entry S H) ts) a → a ≡ answer.Sent r
+    pub bundled_confirmed : (m block : ℕ) (resource : ℕ → ℕ → Result Resource ℕ) (read : ℕ → ℕ → ℕ → Result Reading ℕ) (a : Result Answer ℕ)
+        → Bundled set resource read (window_at set s) (map (entry S H) ts) a → a ≡ Ok (answer.Sent r)
         → confirmed (window_at set s) S (read r.resource.0 r.b0 r.b1) m block ≡ true
         → decoded_block (H (get_or (window_at set s) m 0)) block ≡ true
     bundled_confirmed m block resource read a window is e =
@@ -327,8 +328,8 @@ module _ (set : Settings) (good : settings_refusal set ≡ 0) (sent : ℕ → Se
             there in_window carries (rw same (block_heard_holds (H (get_or (window_at set s) l.named 0)) l.heard)) q.1
 
     -- a delivered position of a multiplexed window is A
-    pub delivered_ack : (m : ℕ) (resource : ℕ → ℕ → Mapped) (read : ℕ → ℕ → ℕ → Reading) (a : Answer)
-        → (window : Multiplexed set resource read (window_at set s) H (map (entry S H) ts) a) → (is : a ≡ answer.Sent r)
+    pub delivered_ack : (m : ℕ) (resource : ℕ → ℕ → Result Resource ℕ) (read : ℕ → ℕ → ℕ → Result Reading ℕ) (a : Result Answer ℕ)
+        → (window : Multiplexed set resource read (window_at set s) H (map (entry S H) ts) a) → (is : a ≡ Ok (answer.Sent r))
         → m < length (window_at set s) → (window.1 r is).delivered / 2 ^ m % 2 ≡ 1
         → (is_heard (H (get_or (window_at set s) m 0)) ≡ true) × (decoded_first (H (get_or (window_at set s) m 0)) ≡ true) × (decoded_second (H (get_or (window_at set s) m 0)) ≡ true)
     delivered_ack m resource read a window is inside bit =
@@ -338,15 +339,15 @@ module _ (set : Settings) (good : settings_refusal set ≡ 0) (sent : ℕ → Se
         let ack : get_or states m Dtx ≡ Ack = (reply.exactly m inside).0 bit states (length-map (window_at set s) (λ (k : ℕ). state_in (H k))) reply.is_symbol in
         decoded_ack (H k) (sym (lists.entry (λ (k : ℕ). state_in (H k)) (window_at set s) m Dtx 0 inside) ∙ ack)
 
-    pub multiplexed_confirmed : (m block : ℕ) (resource : ℕ → ℕ → Mapped) (read : ℕ → ℕ → ℕ → Reading) (a : Answer)
-        → Multiplexed set resource read (window_at set s) H (map (entry S H) ts) a → a ≡ answer.Sent r
+    pub multiplexed_confirmed : (m block : ℕ) (resource : ℕ → ℕ → Result Resource ℕ) (read : ℕ → ℕ → ℕ → Result Reading ℕ) (a : Result Answer ℕ)
+        → Multiplexed set resource read (window_at set s) H (map (entry S H) ts) a → a ≡ Ok (answer.Sent r)
         → confirmed (window_at set s) S (read r.resource.0 r.b0 r.b1) m block ≡ true
         → decoded_block (H (get_or (window_at set s) m 0)) block ≡ true
     multiplexed_confirmed m block resource read a window is e =
         let reply = window.1 r is in
         let k : ℕ = get_or (window_at set s) m 0 in
         let p = carried (window_at set s) S (read r.resource.0 r.b0 r.b1) m block e in
-        let says : says_ack (window_at set s) S (reading.Multiplexed reply.named reply.delivered) m block ≡ true = rw reply.is_read at p.2 in
+        let says : says_ack (window_at set s) S (Ok (reading.Multiplexed reply.named reply.delivered)) m block ≡ true = rw reply.is_read at p.2 in
         let bit = eqb-true (reply.delivered / 2 ^ m % 2) 1 (both (named_sent (window_at set s) S reply.named) (eqb (reply.delivered / 2 ^ m % 2) 1) says).1 in
         let d = delivered_ack m resource read a window is p.0 bit in
         let same = sent_heard (S k) (H k) d.0 (brings k) in

@@ -1,5 +1,6 @@
 -- Demand 3 of the engine of this repository: specs/Demand3.antt, proved.
 -- Assumes nothing.
+use Rattle.std.proofs.Common.{Result, Ok, Err, Option, Some, None}
 use Prim.Native.Nat.{ℕ, zero, suc, ◌+◌, ◌%◌, ◌<◌}
 use mathlib.Core.Bool.{Bool, true, false, cond}
 use mathlib.Core.List.{List, [], ◌∷◌}
@@ -20,16 +21,15 @@ use Rattle.heard.specs.declared.Heard.{Heard}
 use Rattle.heard.specs.declared.Heard.TheVariants.{Nothing, Scheduled}
 use Rattle.heard.specs.declared.ScheduledBlock.{ScheduledBlock}
 use Rattle.heard.specs.Heard.{heard_refusal}
+use Rattle.reply.specs.declared.Answer.{Answer}
 use Rattle.reply.specs.declared.Answer.TheVariants as answer
-use Rattle.handset.specs.declared.Changed.{Changed}
-use Rattle.handset.specs.declared.Fed.{Fed}
+use Rattle.handset.specs.Change.{Changed}
+use Rattle.handset.specs.Feed.{Fed}
 use Rattle.handset.specs.declared.Handset.{Handset}
 use Rattle.handset.specs.Change.{change_of}
 use Rattle.handset.specs.Feed.{feed_of}
 use Rattle.handset.specs.Make.{make_of}
 use Rattle.station.proofs.Back.{told_fine, read_back}
-use Rattle.station.specs.declared.Told.{Told}
-use Rattle.station.specs.declared.Told.TheVariants as told
 use Rattle.station.specs.Readings.{told_refusal}
 use Rattle.agreement.specs.Demand3.{feedback_engine, MayTell, handset_at, fed_at, IsFeed, IsChange, SecondIn, IsSubframe, Demand3}
 use Rattle.agreement.specs.Run.{Item, feed, change, item_at, handset_after, cause_after, heard_from, heard_in_run, standing, modes_from, modes_in_run, settings_in, Schedule, Brings, subframe_at, BringsSent}
@@ -155,12 +155,12 @@ module _ (set : Settings) (good : settings_refusal set ≡ 0) (sent : ℕ → Se
   run_subframe i s x at = rw at.counted at ((run_feed i x at.is_feed).accepted at.accepted)
 
 -- A feed that is refused 18 brings a second scheduled block in one window.
-same_refusal : (k j : ℕ) → answer.Refused k ≡ answer.Refused j → k ≡ j
+same_refusal : (k j : ℕ) → ◌≡◌ {A = Result Answer ℕ} (Err k) (Err j) → k ≡ j
 same_refusal k j e = cc
 
 run_second : (set : Settings) → settings_refusal set ≡ 0 → (sent : ℕ → Send) → Schedule set sent → (items : List Item) → BringsSent set sent items
     → (i : ℕ) (b : ScheduledBlock) → IsFeed items i (Scheduled b) → heard_refusal set (subframe_at set items i % 10) (Scheduled b) ≡ 0
-    → ((fed_at feedback_engine set items i (Scheduled b)).answer ≡ answer.Refused 18) ↔ SecondIn set.config (heard_in_run set items) (subframe_at set items i)
+    → ((fed_at feedback_engine set items i (Scheduled b)).answer ≡ Err 18) ↔ SecondIn set.config (heard_in_run set items) (subframe_at set items i)
 run_second set good sent schedule items brings i b f alone =
     let holds = run_feed set good sent schedule items brings i (Scheduled b) f in
     let exactly = second_exactly set (heard_in_run set items) (subframe_at set items i) b alone in (
@@ -169,14 +169,14 @@ run_second set good sent schedule items brings i b f alone =
           exactly.0 (same_refusal _ 18 (sym (ap (λ (f : Fed). f.answer) (holds.refused met)) ∙ e)),
       λ e.
           let is = exactly.1 e in
-          ap (λ (f : Fed). f.answer) (holds.refused (λ none. omega (arith, is, none))) ∙ ap answer.Refused is,
+          ap (λ (f : Fed). f.answer) (holds.refused (λ none. omega (arith, is, none))) ∙ ap Err is,
     )
 
 -- What may be told is not refused.
-may_tell : (set : Settings) (n : ℕ) (t : Told) → MayTell set n t → told_refusal set n t ≡ 0
+may_tell : (set : Settings) (n : ℕ) (t : Option ℕ) → MayTell set n t → told_refusal set n t ≡ 0
 unfolding told_refusal
-may_tell set n told.NotTold h = refl
-may_tell set n (told.At m) h = told_fine set n m h.0 h.1 h.2
+may_tell set n None h = refl
+may_tell set n (Some m) h = told_fine set n m h.0 h.1 h.2
 
 -- The theorem of the third demand: it holds of the engine of this repository.
 pub demand3 : Demand3 feedback_engine

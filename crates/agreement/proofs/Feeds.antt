@@ -1,5 +1,6 @@
 -- One item of a run: the handset after a history is fed, or its mode is changed, and its answer is what demand 3 says.
 -- Assumes nothing.
+use Rattle.std.proofs.Common.{Result, Ok, Err, Option, Some, None}
 use Prim.Native.Nat.{ℕ, zero, suc, ◌+◌, ◌-◌, ◌*◌, ◌%◌, ◌<◌, ◌≤◌}
 use mathlib.Core.Bool.{Bool, true, false, cond, or-true, false≢true}
 use mathlib.Core.List.{List, [], ◌∷◌, map}
@@ -36,17 +37,14 @@ use Rattle.heard.specs.Memory.{slot_of, view_ago}
 use Rattle.heard.proofs.Before.{cause_same}
 use Rattle.heard.proofs.Valid as kinds
 use Rattle.reply.specs.Replies.{bundled_answer, multiplexed_answer, window_answer}
-use Rattle.handset.specs.declared.Changed.{Changed}
-use Rattle.handset.specs.declared.Fed.{Fed}
+use Rattle.handset.specs.Change.{Changed}
+use Rattle.handset.specs.Feed.{Fed}
 use Rattle.handset.specs.declared.Handset.{Handset}
 use Rattle.handset.specs.Change.{change_of}
 use Rattle.handset.specs.Feed.{answer_of, window_settings, next_answer, feed_of}
 use Rattle.handset.specs.Make.{memory}
 use Rattle.handset.specs.Modes.{mode_ago}
-use Rattle.handset.proofs.Told.{never_refused}
 use Rattle.station.specs.declared.Reading.{Reading}
-use Rattle.station.specs.declared.Told.{Told}
-use Rattle.station.specs.declared.Told.TheVariants as told
 use Rattle.station.specs.Readings.{told_refusal, read_of}
 use Rattle.station.proofs.Back.{told_fine, read_there, read_block}
 use Rattle.agreement.specs.Run.{sent_ago, ago_in, heard_ago, cause_after, stood_ago, largest, Schedule, Brings, window_at}
@@ -59,7 +57,7 @@ use Rattle.agreement.proofs.MultiplexedWindow.{multiplexed_window}
 use Rattle.confirmation.proofs.Told.{told_position_holds, told_of_block}
 
 -- The station's reading in the window of s, told the position of the block that was sent there.
-abbrev pub read_in : Settings → (ℕ → Send) → ℕ → ℕ → ℕ → ℕ → Reading
+abbrev pub read_in : Settings → (ℕ → Send) → ℕ → ℕ → ℕ → ℕ → Result Reading ℕ
 read_in set sent s = read_of set (s % 10) (told_of (window_at set s) (sent_ago sent s))
 
 -- The refusal of x at the run's subframe s.
@@ -67,9 +65,9 @@ abbrev pub cause_in : Settings → List Heard → ℕ → Heard → ℕ
 cause_in set heard s x = cause_of set (s % 10) (λ (a : ℕ). is_block (heard_ago heard s a)) x
 
 -- What demand 3 says of the answer at the run's subframe s, which was fed and not refused; the settings are those of its window.
-pub record Answered (set : Settings) (sent : ℕ → Send) (heard : List Heard) (s : ℕ) (a : Answer) : Type 0 where
-  pub taken : downlink set.config (s % 10) ≡ true → a ≡ answer.Taken
-  pub no_window : downlink set.config (s % 10) ≡ false → window_at set s ≡ [] → a ≡ answer.NoWindow
+pub record Answered (set : Settings) (sent : ℕ → Send) (heard : List Heard) (s : ℕ) (a : Result Answer ℕ) : Type 0 where
+  pub taken : downlink set.config (s % 10) ≡ true → a ≡ Ok answer.Taken
+  pub no_window : downlink set.config (s % 10) ≡ false → window_at set s ≡ [] → a ≡ Ok answer.NoWindow
   pub bundled : 0 < length (window_at set s) → (set.mode ≡ 0) ⊎ (length (window_at set s) ≡ 1)
       → Bundled set (resource_of set (s % 10)) (read_in set sent s) (window_at set s) (in_time (sent_ago sent s) (heard_ago heard s) (window_at set s)) a
   pub multiplexed : 0 < length (window_at set s) → set.mode ≡ 1 → (length (window_at set s) ≡ 1 → ⊥)
@@ -83,8 +81,8 @@ pub record Remembers (set : Settings) (heard : List Heard) (s : ℕ) (h : Handse
 
 -- What it says of a feed that brings x to the handset h at the run's next subframe s.
 pub record FeedHolds (set : Settings) (sent : ℕ → Send) (heard : List Heard) (modes : List ℕ) (s : ℕ) (h : Handset) (x : Heard) : Type 0 where
-  pub refused_exactly : ((k : ℕ) × ((feed_of h x).answer ≡ answer.Refused k)) ↔ (cause_in set heard s x ≡ 0 → ⊥)
-  pub refused : (cause_in set heard s x ≡ 0 → ⊥) → feed_of h x ≡ record { answer = answer.Refused (cause_in set heard s x); handset = h }
+  pub refused_exactly : ((k : ℕ) × ((feed_of h x).answer ≡ Err k)) ↔ (cause_in set heard s x ≡ 0 → ⊥)
+  pub refused : (cause_in set heard s x ≡ 0 → ⊥) → feed_of h x ≡ record { answer = Err (cause_in set heard s x); handset = h }
   pub accepted : cause_in set heard s x ≡ 0
       → Answered (in_mode set (stood_ago set modes s (largest (window_at set s)))) sent heard s (feed_of h x).answer
   pub remembers : Remembers set heard s h
@@ -195,10 +193,10 @@ module _ (set : Settings) (good : settings_refusal set ≡ 0) (sent : ℕ → Se
       go (no h) e = absurd (false≢true (rw (lt-leb k (length l) (omega arith)) at e))
 
   -- what the reading is told, and that it may be
-  told_there : Told
+  told_there : Option ℕ
   told_there = told_of (window_of set.config n) (sent_ago sent (length l))
 
-  told_at : (m : ℕ) → told_of (window_of set.config n) (sent_ago sent (length l)) ≡ told.At m → told_refusal set n (told.At m) ≡ 0
+  told_at : (m : ℕ) → told_of (window_of set.config n) (sent_ago sent (length l)) ≡ Some m → told_refusal set n (Some m) ≡ 0
   unfolding subframe_of
   told_at m e =
       let p = told_position_holds (sent_ago sent (length l)) (window_of set.config n) m e in
@@ -209,9 +207,9 @@ module _ (set : Settings) (good : settings_refusal set ≡ 0) (sent : ℕ → Se
   unfolding told_there told_refusal
   told_right = go (told_of (window_of set.config n) (sent_ago sent (length l))) refl
     where
-      go : (t : Told) → told_of (window_of set.config n) (sent_ago sent (length l)) ≡ t → told_refusal set n t ≡ 0
-      go told.NotTold e = refl
-      go (told.At m) e = told_at m e
+      go : (t : Option ℕ) → told_of (window_of set.config n) (sent_ago sent (length l)) ≡ t → told_refusal set n t ≡ 0
+      go None e = refl
+      go (Some m) e = told_at m e
 
   reads_pdcch : ReadsPdcch set n (read_in set sent (length l))
   unfolding told_there
@@ -251,11 +249,11 @@ module _ (set : Settings) (good : settings_refusal set ≡ 0) (sent : ℕ → Se
   unfolding answer_of window_answer
   multiplexed_answer_holds some mode = rw (window_uplink set.config n some, ne_eqb (length (window_of set.config n)) 0 (λ z. omega arith), mode)
 
-  answered : Answered set sent heard (length l) (answer_of set n F)
+  answered : Answered set sent heard (length l) (Ok (answer_of set n F))
   answered =
       record {
-        taken = taken_answer set n F;
-        no_window = no_window_answer set n F;
+        taken = λ e. ap Ok (taken_answer set n F e);
+        no_window = λ e f. ap Ok (no_window_answer set n F e f);
         bundled = λ some mode.
             rw (bundled_answer_holds some (bundled_mode mode)) at
             (bundled_window set n (window_accepted set n good some) ok (bundled_mode mode) (sent_ago sent (length l)) (heard_ago heard (length l)) F
@@ -307,7 +305,7 @@ module _ (set : Settings) (good : settings_refusal set ≡ 0) (sent : ℕ → Se
         ap (mode_ago (modes_after set.mode ms)) (earliest_largest set.config now)
         ∙ modes_at set good ms history.allowed.1 earliest least most ∙ sym stood_then
 
-    in_window : Answered (in_mode set mode_of_window) sent heard (length l) (next_answer handset)
+    in_window : Answered (in_mode set mode_of_window) sent heard (length l) (Ok (next_answer handset))
     unfolding next_answer window_settings
     in_window =
         rw remembered
@@ -315,20 +313,19 @@ module _ (set : Settings) (good : settings_refusal set ≡ 0) (sent : ℕ → Se
         (accepted_in set mode_of_window good (rw stood_then (allowed_at set good ms history.allowed.1 (earliest - 1))))
         sent (schedule_in set mode_of_window sent schedule) heard brings l (valid_in set mode_of_window l history.valid) history.past)
 
-  answer_holds : Answered (in_mode set mode_of_window) sent heard (length l) (next_answer handset)
+  answer_holds : Answered (in_mode set mode_of_window) sent heard (length l) (Ok (next_answer handset))
   unfolding next_answer window_settings
   answer_holds =
       record {
-        taken = taken_answer (window_settings handset) now (view_ago (memory (map slot_of l)));
-        no_window = no_window_answer (window_settings handset) now (view_ago (memory (map slot_of l)));
+        taken = λ e. ap Ok (taken_answer (window_settings handset) now (view_ago (memory (map slot_of l))) e);
+        no_window = λ e f. ap Ok (no_window_answer (window_settings handset) now (view_ago (memory (map slot_of l))) e f);
         bundled = λ some. (in_window some).bundled some;
         multiplexed = λ some. (in_window some).multiplexed some;
       }
 
   -- no answer of an accepted feed is a refusal
-  not_refused : (k : ℕ) → next_answer handset ≡ answer.Refused k → ⊥
-  unfolding next_answer
-  not_refused k e = never_refused (window_settings handset) now (view_ago (memory (map slot_of l))) k e
+  not_refused : (k : ℕ) → ◌≡◌ {A = Result Answer ℕ} (Ok (next_answer handset)) (Err k) → ⊥
+  not_refused k e = let z : ◌≡◌ {A = ℕ} 0 1 = cc in omega arith
 
   pub feed_holds : (x : Heard) → FeedHolds set sent heard modes (length l) handset x
   feed_holds x =
@@ -340,7 +337,7 @@ module _ (set : Settings) (good : settings_refusal set ≡ 0) (sent : ℕ → Se
           λ p e. not_refused p.0 (sym (ap (λ (f : Fed). f.answer) (taken (sym cause ∙ e))) ∙ p.1),
           λ h. (cause_after set l x, ap (λ (f : Fed). f.answer) (refused (λ e. h (cause ∙ e)))),
         );
-        refused = λ h. refused (λ e. h (cause ∙ e)) ∙ ap (λ (k : ℕ). record { answer = answer.Refused k; handset = handset }) (sym cause);
+        refused = λ h. refused (λ e. h (cause ∙ e)) ∙ ap (λ (k : ℕ). record { answer = Err k; handset = handset }) (sym cause);
         accepted = λ e. rw (← ap (λ (f : Fed). f.answer) (taken (sym cause ∙ e))) at answer_holds;
         remembers = record {
           config = refl;

@@ -1,6 +1,8 @@
 -- No reader could credit more in a window of a run (document 02, U7): its state is one of those that limit/specs/Rules.antt counts,
 -- since a feed brings nothing where nothing was sent.
 -- Assumes nothing.
+use Rattle.std.proofs.Common.{Result, Ok, Err}
+use Rattle.resource.specs.declared.Resource.{Resource}
 use Prim.Native.Nat.{ℕ, ◌/◌, ◌%◌, ◌^◌, ◌<◌}
 use mathlib.Core.Bool.{true, false, false≢true}
 use mathlib.Core.List.{List, map}
@@ -14,10 +16,8 @@ use Rattle.frame.specs.declared.Settings.{Settings}
 use Rattle.frame.proofs.Lists as lists
 use Rattle.symbols.specs.declared.State.{State}
 use Rattle.symbols.specs.declared.State.TheVariants.{Ack, Dtx}
-use Rattle.symbols.specs.declared.Symbol.TheVariants as symbol
 use Rattle.symbols.specs.Delivered.{is_ack}
-use Rattle.symbols.specs.Selection.{symbol_of}
-use Rattle.resource.specs.declared.Mapped.{Mapped}
+use Rattle.symbols.specs.Selection.{symbol_of, symbol}
 use Rattle.station.specs.declared.Place.{Place}
 use Rattle.station.specs.declared.Reading.{Reading}
 use Rattle.station.specs.Readings.{place_position}
@@ -67,7 +67,7 @@ module _ (set : Settings) (sent : ℕ → Send) (s : ℕ) (H : ℕ → Heard) (b
           (rw (lt-ltb p (length (window_at set s)) h) at e)
       go (no h) = outside p h
 
-  module _ {resource : ℕ → ℕ → Mapped} {read : ℕ → ℕ → ℕ → Reading} {r : Reply} (reply : MultiplexedReply set resource read (window_at set s) H states r) where
+  module _ {resource : ℕ → ℕ → Result Resource ℕ} {read : ℕ → ℕ → ℕ → Result Reading ℕ} {r : Reply} (reply : MultiplexedReply set resource read (window_at set s) H states r) where
     -- The index is the position of what the reply is read as.
     index_read : place_position reply.named ≡ reply.index
     index_read = read_position reply.index (H (get_or (window_at set s) reply.index 0)) reply.named reply.is_heard
@@ -87,7 +87,7 @@ module _ (set : Settings) (sent : ℕ → Send) (s : ℕ) (H : ℕ → Heard) (b
     names_no_more_holds rule sound m e = go (dec_lt m (length (window_at set s)))
       where
         -- what the rule names the best reader names, and so it is A in every state that sends the symbol
-        in_every : (ss : List State) → length ss ≡ length (window_at set s) → symbol_of ss ≡ symbol.Sent reply.index r.b0 r.b1
+        in_every : (ss : List State) → length ss ≡ length (window_at set s) → symbol_of ss ≡ symbol reply.index r.b0 r.b1
             → get_or ss m Dtx ≡ Ack
         in_every ss size is =
             ours_best.sound (length (window_at set s)) (λ (p : ℕ). true) (place_position reply.named) r.b0 r.b1 ss

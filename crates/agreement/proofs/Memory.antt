@@ -1,6 +1,7 @@
 -- The handset after a history, newest first, of the modes that stood and of what was heard: it remembers the last 13 of each, expects the
 -- next subframe, and is sound.
 -- Assumes nothing.
+use Rattle.std.proofs.Common.{Result, Ok, Err}
 use Prim.Native.Nat.{ℕ, zero, suc, ◌+◌, ◌-◌, ◌*◌, ◌/◌, ◌%◌, ◌<◌, ◌≤◌}
 use mathlib.Core.Bool.{Bool, true, false, cond, false≢true}
 use mathlib.Core.List.{List, [], ◌∷◌, map}
@@ -257,14 +258,14 @@ module _ (set : Settings) (good : settings_refusal set ≡ 0) (m : ℕ) (ms : Li
         rw (sound_after, cause_after_holds (in_mode set m) l x, cause_in_holds set m (length l % 10) (λ (a : ℕ). is_block (get_or l (a - 1) Nothing)) x)
 
     pub accepted_after : cause_after set l x ≡ 0
-        → feed_of (after set m ms l) x ≡ record { answer = next_answer (after set m ms l); handset = after set m (m ∷ ms) (x ∷ l) }
+        → feed_of (after set m ms l) x ≡ record { answer = Ok (next_answer (after set m ms l)); handset = after set m (m ∷ ms) (x ∷ l) }
     accepted_after e = fed_after ∙ rw (e, pushed_after set m ms l x)
 
     pub refused_after : (cause_after set l x ≡ 0 → ⊥)
-        → feed_of (after set m ms l) x ≡ record { answer = answer.Refused (cause_after set l x); handset = after set m ms l }
+        → feed_of (after set m ms l) x ≡ record { answer = Err (cause_after set l x); handset = after set m ms l }
     refused_after h = fed_after ∙ go (cause_after set l x) refl
       where
-        go : (k : ℕ) → cause_after set l x ≡ k → fed_as k (after set m ms l) x ≡ record { answer = answer.Refused k; handset = after set m ms l }
+        go : (k : ℕ) → cause_after set l x ≡ k → fed_as k (after set m ms l) x ≡ record { answer = Err k; handset = after set m ms l }
         go zero e = absurd (h e)
         go (suc k) e = refl
 
@@ -292,9 +293,9 @@ module _ (set : Settings) (good : settings_refusal set ≡ 0) (l : List Heard) (
   made_only [] = tt
   made_only (x ∷ l) = (made_allowed set good, made_only l)
 
-  pub accepted_unchanged : cause_after set l x ≡ 0 → feed_of (unchanged set l) x ≡ record { answer = next_answer (unchanged set l); handset = unchanged set (x ∷ l) }
+  pub accepted_unchanged : cause_after set l x ≡ 0 → feed_of (unchanged set l) x ≡ record { answer = Ok (next_answer (unchanged set l)); handset = unchanged set (x ∷ l) }
   accepted_unchanged = accepted_after set good set.mode (map (λ (x : Heard). set.mode) l) (made_allowed set good, made_only l) l valid x
 
   pub refused_unchanged : (cause_after set l x ≡ 0 → ⊥)
-      → feed_of (unchanged set l) x ≡ record { answer = answer.Refused (cause_after set l x); handset = unchanged set l }
+      → feed_of (unchanged set l) x ≡ record { answer = Err (cause_after set l x); handset = unchanged set l }
   refused_unchanged = refused_after set good set.mode (map (λ (x : Heard). set.mode) l) (made_allowed set good, made_only l) l valid x

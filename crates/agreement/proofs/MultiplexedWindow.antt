@@ -1,5 +1,7 @@
 -- One multiplexed window, from what was heard in it alone: demand 3's sentences on a window that 01 multiplexes.
 -- Assumes nothing.
+use Rattle.std.proofs.Common.{Result, Ok, Err, Option, Some, None}
+use Rattle.resource.specs.declared.Resource.{Resource}
 use Prim.Native.Nat.{ℕ, ◌/◌, ◌%◌, ◌^◌, ◌<◌, ◌≤◌}
 use mathlib.Core.Bool.{Bool, true, false, cond, ◌&&◌, false≢true}
 use mathlib.Core.List.{List, [], ◌∷◌, map}
@@ -17,8 +19,6 @@ use Rattle.frame.proofs.Accepted.{answered as accepted-window}
 use Rattle.frame.proofs.Bools.{neither_test, never_true}
 use Rattle.frame.proofs.Lists as lists
 use Rattle.frame.proofs.Windows.{window_k}
-use Rattle.resource.specs.declared.Mapped.{Mapped}
-use Rattle.resource.specs.declared.Mapped.TheVariants as mapped
 use Rattle.resource.specs.Calls.{size_of, resource_of}
 use Rattle.resource.specs.Formula.{edge}
 use Rattle.resource.specs.Ports.{second_port}
@@ -27,9 +27,8 @@ use Rattle.resource.proofs.SecondPort.{one_port_holds}
 use Rattle.symbols.specs.declared.State.{State}
 use Rattle.symbols.specs.declared.State.TheVariants.{Ack, Nack, Dtx}
 use Rattle.symbols.specs.declared.Symbol.{Symbol}
-use Rattle.symbols.specs.declared.Symbol.TheVariants as symbol
 use Rattle.symbols.specs.Delivered.{delivered_at, delivered_set}
-use Rattle.symbols.specs.Selection.{symbol_of, AllDtx}
+use Rattle.symbols.specs.Selection.{symbol_of, AllDtx, symbol}
 use Rattle.symbols.proofs.Reading.{delivered_exactly, set_below, set_bit}
 use Rattle.symbols.proofs.Rows.{silent_exactly, index_heard}
 use Rattle.reply.specs.declared.Answer.TheVariants as answer
@@ -38,6 +37,7 @@ use Rattle.resource.specs.declared.Cce.{Cce}
 use Rattle.heard.specs.declared.Heard.{Heard}
 use Rattle.heard.specs.declared.Heard.TheVariants.{Nothing, Granted, Scheduled, Released}
 use Rattle.reply.specs.declared.Reply.{Reply}
+use Rattle.reply.specs.Kinds.{kind_multiplexed}
 use Rattle.heard.specs.declared.View.{View}
 use Rattle.heard.specs.Heard.{is_block, view_of}
 use Rattle.reply.specs.Replies.{reply_on, state_of, carrier_of, window_state, symbol_answer, multiplexed_answer}
@@ -86,14 +86,14 @@ module _ (H : ℕ → Heard) where
   dtx_all (k ∷ ks) h = (dtx_unheard (H k) h.0, dtx_all ks h.1)
 
 -- The index of a multiplexed reply is a position of the window, whatever the engine: no row of the tables has another.
-pub index_inside : {set : Settings} {resource : ℕ → ℕ → Mapped} {read : ℕ → ℕ → ℕ → Reading} {ks : List ℕ} {heard : ℕ → Heard} {r : Reply}
+pub index_inside : {set : Settings} {resource : ℕ → ℕ → Result Resource ℕ} {read : ℕ → ℕ → ℕ → Result Reading ℕ} {ks : List ℕ} {heard : ℕ → Heard} {r : Reply}
     → (reply : MultiplexedReply set resource read ks heard (map (λ (k : ℕ). state_in (heard k)) ks) r) → reply.index < length ks
 index_inside {ks = ks} {heard = heard} reply =
     rw (length-map ks (λ (k : ℕ). state_in (heard k))) at (index_heard _ _ _ _ reply.is_symbol).0
 
 module _ (set : Settings) (n : ℕ) (good : window_refusal set n ≡ 0) (mode : bundles set (size_of set n) ≡ false)
     (least : 2 ≤ size_of set n) (most : size_of set n ≤ 4)
-    (S : ℕ → Send) (H : ℕ → Heard) (F : ℕ → View) (read : ℕ → ℕ → ℕ → Reading)
+    (S : ℕ → Send) (H : ℕ → Heard) (F : ℕ → View) (read : ℕ → ℕ → ℕ → Result Reading ℕ)
     (low : (k : ℕ) → 1 ≤ k → k ≤ 13 → LowCce set (H k))
     (view : (k : ℕ) → 1 ≤ k → k ≤ 13 → F k ≡ view_of (H k))
     (reads_pdcch : ReadsPdcch set n read) (reads_block : ReadsBlock set n H read) where
@@ -118,14 +118,14 @@ module _ (set : Settings) (n : ℕ) (good : window_refusal set n ≡ 0) (mode : 
       (all_of _ (window_of set.config n) (λ k e. let w = of_window set.config n k e in view k w.least w.most))
 
   -- silent exactly where nothing was heard
-  nothing_silent : any_of is_heard es ≡ false → symbol_of states ≡ symbol.Silent
+  nothing_silent : any_of is_heard es ≡ false → symbol_of states ≡ None
   unfolding states es
   nothing_silent e =
       (silent_exactly states (omega (arith, states_size)) (omega (arith, states_size))).1
       (all_dtx_holds H (window_of set.config n)
       (all_of _ (window_of set.config n) (λ k m. none_of S H is_heard (times_of (window_of set.config n)) e k (in_window set.config n k m))))
 
-  silent_nothing : symbol_of states ≡ symbol.Silent → any_of is_heard es ≡ false
+  silent_nothing : symbol_of states ≡ None → any_of is_heard es ≡ false
   unfolding states es
   silent_nothing e =
       let none = dtx_all H (window_of set.config n) ((silent_exactly states (omega (arith, states_size)) (omega (arith, states_size))).0 e) in
@@ -138,12 +138,12 @@ module _ (set : Settings) (n : ℕ) (good : window_refusal set n ≡ 0) (mode : 
     named : Place
     read_as : ReadAs i x named
     carries : Carries set (resource_of set n) named resource
-    seen_on : carrier_of set n i (view_of x) ≡ mapped.At (record { 0 = resource })
+    seen_on : carrier_of set n i (view_of x) ≡ Ok (record { 0 = resource })
     position : place_position named ≡ i
     is_read : (b0 b1 : ℕ) → read resource b0 b1 ≡ read_at set (size_of set n) named b0 b1
 
   by_pdcch : (i : ℕ) (c : Cce) → i < size_of set n → c.0 < edge set.nrb 4
-      → (r : ℕ) × (resource_of set n i c.0 ≡ mapped.At (record { 0 = r }))
+      → (r : ℕ) × (resource_of set n i c.0 ≡ Ok (record { 0 = r }))
   by_pdcch i c inside below = let p = (calls_one_to_one set n good).into i c.0 inside below in (p.0, p.3.there)
 
   carried : (i : ℕ) → i < size_of set n → (x : Heard) → H (get_or (window_of set.config n) i 0) ≡ x → is_heard x ≡ true → Carried i x
@@ -189,16 +189,16 @@ module _ (set : Settings) (n : ℕ) (good : window_refusal set n ≡ 0) (mode : 
       }
 
   goes_on : (i b0 b1 r : ℕ) (x : Heard) → F (get_or (window_of set.config n) i 0) ≡ view_of x
-      → carrier_of set n i (view_of x) ≡ mapped.At (record { 0 = r })
-      → symbol_answer set n F (window_of set.config n) (symbol.Sent i b0 b1)
-      ≡ answer.Sent (record { kind = 2; resource = record { 0 = r }; b0 = b0; b1 = b1; second = record { 0 = second_port set r } })
+      → carrier_of set n i (view_of x) ≡ Ok (record { 0 = r })
+      → symbol_answer set n F (window_of set.config n) (symbol i b0 b1)
+      ≡ answer.Sent (record { kind = kind_multiplexed; resource = record { 0 = r }; b0 = b0; b1 = b1; second = record { 0 = second_port set r } })
   unfolding symbol_answer reply_on
   goes_on i b0 b1 r x seen there = rw (seen, there)
 
   -- the delivered positions are those that are A in every state sending the symbol
   exact : (i b0 b1 p : ℕ) → p < size_of set n
       → (delivered_set (size_of set n) i b0 b1 / 2 ^ p % 2 ≡ 1)
-      ↔ ((ss : List State) → length ss ≡ size_of set n → symbol_of ss ≡ symbol.Sent i b0 b1 → get_or ss p Dtx ≡ Ack)
+      ↔ ((ss : List State) → length ss ≡ size_of set n → symbol_of ss ≡ symbol i b0 b1 → get_or ss p Dtx ≡ Ack)
   unfolding delivered_set
   exact i b0 b1 p h =
       let a = set_bit (size_of set n) (delivered_at (size_of set n) i b0 b1) p h in
@@ -218,8 +218,8 @@ module _ (set : Settings) (n : ℕ) (good : window_refusal set n ≡ 0) (mode : 
       never_true (has_second_port set) (λ two. (ok.two_ports two).0 (omega (arith, other, ok.mode)))
 
   -- the reply of a symbol
-  sent : (i b0 b1 : ℕ) → symbol_of states ≡ symbol.Sent i b0 b1
-      → (r : Reply) × (symbol_answer set n F (window_of set.config n) (symbol.Sent i b0 b1) ≡ answer.Sent r)
+  sent : (i b0 b1 : ℕ) → symbol_of states ≡ symbol i b0 b1
+      → (r : Reply) × (symbol_answer set n F (window_of set.config n) (symbol i b0 b1) ≡ answer.Sent r)
       × MultiplexedReply set (resource_of set n) read (window_of set.config n) H states r
   sent i b0 b1 e =
       let h = index_heard states i b0 b1 e in
@@ -228,7 +228,7 @@ module _ (set : Settings) (n : ℕ) (good : window_refusal set n ≡ 0) (mode : 
       let b = window_k set.config n i inside in
       let heard : is_heard (H k) ≡ true = was_heard (is_heard (H k)) refl (λ u. h.1 (state_at_holds i inside ∙ unheard_dtx (H k) u)) in
       let c : Carried i (H k) = carried i inside (H k) refl heard in (
-        record { kind = 2; resource = record { 0 = c.resource }; b0 = b0; b1 = b1; second = record { 0 = second_port set c.resource } },
+        record { kind = kind_multiplexed; resource = record { 0 = c.resource }; b0 = b0; b1 = b1; second = record { 0 = second_port set c.resource } },
         goes_on i b0 b1 c.resource (H k) (view k (omega arith) (omega arith)) c.seen_on,
         record {
           kind = refl;
@@ -250,24 +250,24 @@ module _ (set : Settings) (n : ℕ) (good : window_refusal set n ≡ 0) (mode : 
       was_heard true t none = t
       was_heard false t none = absurd (none t)
 
-  answered : (y : Symbol) → symbol_of states ≡ y
+  answered : (y : Option Symbol) → symbol_of states ≡ y
       → ((any_of is_heard es ≡ true) ⊎ (any_of is_heard es ≡ true → ⊥))
       × (any_of is_heard es ≡ true → (r : Reply) × (symbol_answer set n F (window_of set.config n) y ≡ answer.Sent r) × MultiplexedReply set (resource_of set n) read (window_of set.config n) H states r)
       × ((any_of is_heard es ≡ true → ⊥) → symbol_answer set n F (window_of set.config n) y ≡ answer.Silent)
   unfolding symbol_answer
-  answered (symbol.Sent i b0 b1) e = (inl (heard (any_of is_heard es) refl), λ some. sent i b0 b1 e, λ none. absurd (none (heard (any_of is_heard es) refl)))
+  answered (Some y) e = (inl (heard (any_of is_heard es) refl), λ some. sent y.index y.b0 y.b1 e, λ none. absurd (none (heard (any_of is_heard es) refl)))
     where
       heard : (t : Bool) → any_of is_heard es ≡ t → any_of is_heard es ≡ true
       heard true t = t
       heard false t = let z : ◌≡◌ {A = ℕ} 0 1 = cc (e, nothing_silent t) in absurd (omega arith)
-  answered symbol.Silent e = (
+  answered None e = (
     inr (λ some. false≢true (sym (silent_nothing e) ∙ some)),
     λ some. absurd (false≢true (sym (silent_nothing e) ∙ some)),
     λ none. refl,
   )
 
   pub multiplexed_window : Multiplexed set (resource_of set n) read (window_of set.config n) H
-      (map (entry S H) (times_of (window_of set.config n))) (multiplexed_answer set n F (window_of set.config n))
+      (map (entry S H) (times_of (window_of set.config n))) (Ok (multiplexed_answer set n F (window_of set.config n)))
   unfolding multiplexed_answer states es
   multiplexed_window =
       let a = answered (symbol_of states) refl in

@@ -1,16 +1,15 @@
 -- Document 02, U9, moved nothing for a handset of one antenna port: its settings and changes of mode are refused as before, and it has no
 -- second resource. That its claims are checked as before is `OnePort` of claims/specs/OnPorts.antt.
 -- Assumes nothing.
+use Rattle.std.proofs.Common.{Result, Ok, Err}
+use Rattle.resource.specs.declared.ports.OnPorts.{OnPorts}
+use Rattle.resource.specs.declared.Resource.{Resource}
 use Prim.Native.Nat.{ℕ}
 use mathlib.Core.Path.{◌≡◌, refl, ◌∙◌}
 use Rattle.frame.specs.declared.Settings.{Settings}
 use Rattle.frame.specs.Settings.{or_else, cell_refusal, mode_refusal, blocks_refusal, scheduled_refusal, settings_refusal, new_mode_refusal, in_mode}
 use Rattle.frame.specs.Special.{special_refusal}
 use Rattle.frame.proofs.OnePort.{settings_same, change_same}
-use Rattle.resource.specs.declared.Mapped.{Mapped}
-use Rattle.resource.specs.declared.Mapped.TheVariants as mapped
-use Rattle.resource.specs.declared.PortsMapped.{PortsMapped}
-use Rattle.resource.specs.declared.PortsMapped.TheVariants as ports
 use Rattle.resource.specs.Calls.{resource_of}
 use Rattle.resource.specs.Ports.{on_ports, ports_of}
 use Rattle.resource.proofs.SecondPort.{port_none}
@@ -21,9 +20,9 @@ use Rattle.reply.specs.Replies.{window_answer}
 use Rattle.reply.proofs.Ports.{second_carried}
 
 -- The resource call's answer with no second resource.
-abbrev first_alone : Mapped → PortsMapped
-first_alone (mapped.At r) = ports.At r (record { 0 = 0 })
-first_alone (mapped.Refused k) = ports.Refused k
+abbrev first_alone : Result Resource ℕ → Result OnPorts ℕ
+first_alone (Ok r) = Ok (record { first = r; second = (record { 0 = 0 }) })
+first_alone (Err k) = Err k
 
 pub record SamePorts (s : Settings) : Type 0 where
   -- 1 to 6, 17 and 19
@@ -36,9 +35,9 @@ pub record SamePorts (s : Settings) : Type 0 where
   pub reply : (n : ℕ) (view : ℕ → View) (r : Reply) → window_answer s n view ≡ Sent r → r.second.0 ≡ 0
 
 module _ (s : Settings) (one : s.ports ≡ 1) where
-  first_alone_holds : (x : Mapped) → on_ports s x ≡ first_alone x
-  first_alone_holds (mapped.At r) = rw (port_none s r.0 one)
-  first_alone_holds (mapped.Refused k) = refl
+  first_alone_holds : (x : Result Resource ℕ) → on_ports s x ≡ first_alone x
+  first_alone_holds (Ok r) = rw (port_none s r.0 one)
+  first_alone_holds (Err k) = refl
 
   pub same_ports : SamePorts s
   unfolding ports_of

@@ -1,11 +1,14 @@
 -- Document 02, U2, moved no window: "M and K don't move: whoever reads a reply sees the old windows, with fewer lists of grants
 -- allowed."
 -- Assumes nothing.
+use Rattle.std.proofs.Common.{Option, Some, None, Result, Ok, Err}
+use Rattle.resource.specs.declared.Cce.{Cce}
+use Rattle.resource.specs.declared.Resource.{Resource}
 use Prim.Native.Nat.{ℕ, zero, suc, ◌%◌}
 use mathlib.Core.Bool.{Bool, true, false, and-false}
 use mathlib.Core.List.{List, [], ◌∷◌}
 use mathlib.Core.Logic.{◌↔◌}
-use mathlib.Core.Path.{◌≡◌, refl, sym, ◌∙◌, fun_ext}
+use mathlib.Core.Path.{◌≡◌, refl, sym, ◌∙◌, fun_ext, ap}
 use lib.ListN.{get_or}
 use Rattle.frame.specs.declared.Settings.{Settings}
 use Rattle.frame.specs.Distance.{subframe_of, answered_refusal, answered_of}
@@ -15,14 +18,9 @@ use Rattle.frame.specs.Settings.{new_mode_refusal, mode_refusal, has_second_port
 use Rattle.frame.specs.Special.{no_pdsch, too_short}
 use Rattle.frame.specs.Table.{window_of}
 use Rattle.frame.proofs.Accepted.{refused_in}
-use Rattle.resource.specs.declared.Inverted.{Inverted}
-use Rattle.resource.specs.declared.Inverted.TheVariants as inverted
-use Rattle.resource.specs.declared.Mapped.{Mapped}
-use Rattle.resource.specs.declared.Mapped.TheVariants as mapped
 use Rattle.resource.specs.Calls.{size_of, resource_of, inverse_of}
 use Rattle.resource.specs.Ports.{second_port, on_ports, ports_of}
 use Rattle.symbols.specs.declared.Symbol.{Symbol}
-use Rattle.symbols.specs.declared.Symbol.TheVariants as symbol
 use Rattle.symbols.specs.Selection.{symbol_of}
 use Rattle.confirmation.specs.declared.Send.{Send}
 use Rattle.confirmation.specs.Sent.{as_heard}
@@ -34,6 +32,7 @@ use Rattle.heard.specs.declared.View.TheVariants.{Unheard, Pdcch, Block}
 use Rattle.heard.specs.Heard.{is_data, uplink_refusal, short_refusal, data_refusal, carried_refusal, pdcch_refusal, unset_refusal, heard_refusal, second_refusal, cause_of}
 use Rattle.heard.specs.Memory.{heard_in, view_ago, block_ago}
 use Rattle.heard.proofs.Valid.{valid_long}
+use Rattle.reply.specs.declared.ReplyKind.{ReplyKind}
 use Rattle.reply.specs.Replies.{reply_on, miss_shown, second_bit, lone_answer, bundled_answer, carrier_of, window_state, symbol_answer, multiplexed_answer, window_answer}
 use Rattle.handset.specs.declared.Handset.{Handset}
 use Rattle.handset.specs.Feed.{answer_of, window_settings, next_answer, feed_refusal, fed_as, feed_of}
@@ -41,8 +40,6 @@ use Rattle.handset.specs.Modes.{mode_ago, modes_sound}
 use Rattle.handset.specs.Sound.{slot_sound, previous, all_sound, state_sound, state_refusal}
 use Rattle.station.specs.declared.Place.{Place}
 use Rattle.station.specs.declared.Place.TheVariants as place
-use Rattle.station.specs.declared.Told.{Told}
-use Rattle.station.specs.declared.Told.TheVariants.{NotTold, At}
 use Rattle.station.specs.Readings.{bad_bits, bundled_reading, read_at, read_inverted, dynamic_reading, told_refusal, read_on, read_of}
 use Rattle.agreement.specs.Run.{Schedule}
 
@@ -66,15 +63,15 @@ pub record SameWindows (s t : Settings) : Type 0 where
   pub resource : (n m c : ℕ) → resource_of s n m c ≡ resource_of t n m c
   pub ports : (n m c : ℕ) → ports_of s n m c ≡ ports_of t n m c
   pub inverse : (n r : ℕ) → inverse_of s n r ≡ inverse_of t n r
-  pub read : (n r b0 b1 : ℕ) → read_of s n NotTold r b0 b1 ≡ read_of t n NotTold r b0 b1
+  pub read : (n r b0 b1 : ℕ) → read_of s n None r b0 b1 ≡ read_of t n None r b0 b1
   pub read_told : (n m : ℕ) → is_special s.config (subframe_of s.config n m) ≡ false
-      → (r b0 b1 : ℕ) → read_of s n (At m) r b0 b1 ≡ read_of t n (At m) r b0 b1
+      → (r b0 b1 : ℕ) → read_of s n (Some m) r b0 b1 ≡ read_of t n (Some m) r b0 b1
   pub answer : (n : ℕ) (view : ℕ → View) → window_answer s n view ≡ window_answer t n view
 
 -- And where both allow data in special subframes, nothing moves at all: the same readings, whatever is told, and the same answers to
 -- every feed.
 pub record SameAnswers (s t : Settings) : Type 0 where
-  pub read : (n : ℕ) (told : Told) (r b0 b1 : ℕ) → read_of s n told r b0 b1 ≡ read_of t n told r b0 b1
+  pub read : (n : ℕ) (told : Option ℕ) (r b0 b1 : ℕ) → read_of s n told r b0 b1 ≡ read_of t n told r b0 b1
   pub feed : (next modes : ℕ) (past : List Slot) (x : Heard)
       → (feed_of (record { settings = s; next = next; modes = modes; past = past }) x).answer
       ≡ (feed_of (record { settings = t; next = next; modes = modes; past = past }) x).answer
@@ -117,33 +114,33 @@ module _ (s : Settings) (prefix special : ℕ) (same : settings_refusal s ≡ se
   unfolding read_at bundles bundled_reading bad_bits
   at_alike size p b0 b1 = refl
 
-  inverted_alike : (size : ℕ) (i : Inverted) (b0 b1 : ℕ) → read_inverted s size i b0 b1 ≡ read_inverted t size i b0 b1
-  inverted_alike size (inverted.At m c) b0 b1 = at_alike size _ b0 b1
-  inverted_alike size (inverted.Refused k) b0 b1 = refl
+  inverted_alike : (size : ℕ) (i : Result (ℕ × Cce) ℕ) (b0 b1 : ℕ) → read_inverted s size i b0 b1 ≡ read_inverted t size i b0 b1
+  inverted_alike size (Ok (m, c)) b0 b1 = at_alike size _ b0 b1
+  inverted_alike size (Err k) b0 b1 = refl
 
   dynamic_alike : (n r b0 b1 : ℕ) → dynamic_reading s n r b0 b1 ≡ dynamic_reading t n r b0 b1
   unfolding dynamic_reading
   dynamic_alike n r b0 b1 = rw (inverse_alike n r) (inverted_alike (size_of s n) (inverse_of t n r) b0 b1)
 
-  on_alike : (n : ℕ) (told : Told) (r b0 b1 : ℕ) → read_on s n told r b0 b1 ≡ read_on t n told r b0 b1
+  on_alike : (n : ℕ) (told : Option ℕ) (r b0 b1 : ℕ) → read_on s n told r b0 b1 ≡ read_on t n told r b0 b1
   unfolding read_on
-  on_alike n NotTold r b0 b1 = dynamic_alike n r b0 b1
-  on_alike n (At m) r b0 b1 = rw (at_alike (size_of s n) (place.Block m) b0 b1, dynamic_alike n r b0 b1)
+  on_alike n None r b0 b1 = dynamic_alike n r b0 b1
+  on_alike n (Some m) r b0 b1 = rw (at_alike (size_of s n) (place.Block m) b0 b1, dynamic_alike n r b0 b1)
 
-  read_alike : (n : ℕ) (told : Told) → told_refusal s n told ≡ told_refusal t n told → (r b0 b1 : ℕ) → read_of s n told r b0 b1 ≡ read_of t n told r b0 b1
+  read_alike : (n : ℕ) (told : Option ℕ) → told_refusal s n told ≡ told_refusal t n told → (r b0 b1 : ℕ) → read_of s n told r b0 b1 ≡ read_of t n told r b0 b1
   unfolding read_of
   read_alike n told e r b0 b1 = rw (refused_alike n, e, on_alike n told r b0 b1)
 
-  untold_alike : (n : ℕ) → told_refusal s n NotTold ≡ told_refusal t n NotTold
+  untold_alike : (n : ℕ) → told_refusal s n None ≡ told_refusal t n None
   unfolding told_refusal
   untold_alike n = refl
 
   told_alike : (n m : ℕ) → too_short s (subframe_of s.config n m) ≡ too_short t (subframe_of s.config n m)
-      → told_refusal s n (At m) ≡ told_refusal t n (At m)
+      → told_refusal s n (Some m) ≡ told_refusal t n (Some m)
   unfolding told_refusal has_scheduled
   told_alike n m e = rw e
 
-  not_special : (n m : ℕ) → is_special s.config (subframe_of s.config n m) ≡ false → told_refusal s n (At m) ≡ told_refusal t n (At m)
+  not_special : (n m : ℕ) → is_special s.config (subframe_of s.config n m) ≡ false → told_refusal s n (Some m) ≡ told_refusal t n (Some m)
   unfolding too_short
   not_special n m e = told_alike n m (rw (e, and-false (no_pdsch s.prefix s.special), and-false (no_pdsch prefix special)))
 
@@ -162,26 +159,26 @@ module _ (s : Settings) (prefix special : ℕ) (same : settings_refusal s ≡ se
   unfolding second_port has_second_port
   second_alike r = refl
 
-  on_ports_alike : (x : Mapped) → on_ports s x ≡ on_ports t x
-  on_ports_alike (mapped.At r) = rw (second_alike r.0)
-  on_ports_alike (mapped.Refused k) = refl
+  on_ports_alike : (x : Result Resource ℕ) → on_ports s x ≡ on_ports t x
+  on_ports_alike (Ok r) = rw (second_alike r.0)
+  on_ports_alike (Err k) = refl
 
   ports_alike : (n m c : ℕ) → ports_of s n m c ≡ ports_of t n m c
   unfolding ports_of
   ports_alike n m c = rw (resource_alike n m c) (on_ports_alike (resource_of t n m c))
 
-  reply_alike : (kind : ℕ) (x : Mapped) (b0 b1 : ℕ) → reply_on s kind x b0 b1 ≡ reply_on t kind x b0 b1
+  reply_alike : (kind : ReplyKind) (x : Result Resource ℕ) (b0 b1 : ℕ) → reply_on s kind x b0 b1 ≡ reply_on t kind x b0 b1
   unfolding reply_on
-  reply_alike kind (mapped.At r) b0 b1 = rw (second_alike r.0)
-  reply_alike kind (mapped.Refused k) b0 b1 = refl
+  reply_alike kind (Ok r) b0 b1 = rw (second_alike r.0)
+  reply_alike kind (Err k) b0 b1 = refl
 
   replies_alike : reply_on s ≡ reply_on t
   replies_alike = fun_ext (λ kind. fun_ext (λ x. fun_ext (λ b0. fun_ext (λ b1. reply_alike kind x b0 b1))))
 
-  symbol_alike : (n : ℕ) (view : ℕ → View) (ks : List ℕ) (x : Symbol) → symbol_answer s n view ks x ≡ symbol_answer t n view ks x
+  symbol_alike : (n : ℕ) (view : ℕ → View) (ks : List ℕ) (x : Option Symbol) → symbol_answer s n view ks x ≡ symbol_answer t n view ks x
   unfolding symbol_answer
-  symbol_alike n view ks (symbol.Sent i b0 b1) = rw (carrier_alike n i (view (get_or ks i 0)), replies_alike)
-  symbol_alike n view ks symbol.Silent = refl
+  symbol_alike n view ks (Some y) = rw (carrier_alike n y.index (view (get_or ks y.index 0)), replies_alike)
+  symbol_alike n view ks None = refl
 
   answer_alike : (n : ℕ) (view : ℕ → View) → window_answer s n view ≡ window_answer t n view
   unfolding window_answer bundles bundled_answer lone_answer miss_shown second_bit multiplexed_answer
@@ -198,8 +195,8 @@ module _ (s : Settings) (prefix special : ℕ) (same : settings_refusal s ≡ se
         resource = resource_alike;
         ports = ports_alike;
         inverse = inverse_alike;
-        read = λ n. read_alike n NotTold (untold_alike n);
-        read_told = λ n m e. read_alike n (At m) (not_special n m e);
+        read = λ n. read_alike n None (untold_alike n);
+        read_told = λ n m e. read_alike n (Some m) (not_special n m e);
         answer = answer_alike;
       }
 
@@ -209,9 +206,9 @@ module _ (s : Settings) (prefix special : ℕ) (good : settings_refusal s ≡ 0)
   abbrev u : Settings
   u = with s prefix special
 
-  any_alike : (n : ℕ) (told : Told) → told_refusal s n told ≡ told_refusal u n told
-  any_alike n NotTold = untold_alike s prefix special (good ∙ sym also) n
-  any_alike n (At m) = told_alike s prefix special (good ∙ sym also) n m (short (subframe_of s.config n m))
+  any_alike : (n : ℕ) (told : Option ℕ) → told_refusal s n told ≡ told_refusal u n told
+  any_alike n None = untold_alike s prefix special (good ∙ sym also) n
+  any_alike n (Some m) = told_alike s prefix special (good ∙ sym also) n m (short (subframe_of s.config n m))
 
   cause_alike : (n : ℕ) (block : ℕ → Bool) (x : Heard) → cause_of s n block x ≡ cause_of u n block x
   unfolding cause_of second_refusal
@@ -256,7 +253,7 @@ module _ (s : Settings) (prefix special : ℕ) (good : settings_refusal s ≡ 0)
     feed_alike = rw refusal_alike (go (feed_refusal second x))
       where
         go : (k : ℕ) → (fed_as k first x).answer ≡ (fed_as k second x).answer
-        go zero = next_alike
+        go zero = ap Ok next_alike
         go (suc k) = refl
 
 -- M and K don't move, nor does anything that rests on them alone.

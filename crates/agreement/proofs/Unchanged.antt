@@ -1,6 +1,8 @@
 -- Document 02, U1, moved nothing for a station that sends grants alone: what it added to demand 3 is empty in the runs of such a
 -- station.
 -- Assumes nothing.
+use Rattle.std.proofs.Common.{Option, Some, None, Result, Ok, Err}
+use Rattle.resource.specs.declared.Resource.{Resource}
 use Prim.Native.Nat.{ℕ, zero, suc, ◌-◌, ◌%◌}
 use mathlib.Core.Bool.{Bool, true, false, cond, false≢true}
 use mathlib.Core.List.{List, [], ◌∷◌, map}
@@ -14,7 +16,6 @@ use Rattle.frame.specs.Settings.{or_else}
 use Rattle.confirmation.specs.declared.Send.{Send}
 use Rattle.confirmation.specs.declared.Send.TheVariants as send
 use Rattle.confirmation.specs.Sent.{is_block as is_sent_block, told_from, told_of}
-use Rattle.resource.specs.declared.Mapped.{Mapped}
 use Rattle.heard.specs.declared.Grant.{Grant}
 use Rattle.heard.specs.declared.Heard.{Heard}
 use Rattle.heard.specs.declared.Heard.TheVariants.{Nothing, Granted, Scheduled, Released}
@@ -25,7 +26,6 @@ use Rattle.reply.specs.declared.Reply.{Reply}
 use Rattle.station.specs.declared.Place.{Place}
 use Rattle.station.specs.declared.Place.TheVariants as place
 use Rattle.station.specs.declared.Reading.{Reading}
-use Rattle.station.specs.declared.Told.TheVariants as told
 use Rattle.agreement.specs.Demand3.{Engine, reading_in}
 use Rattle.agreement.specs.Run.{Item, sent_of, sent_ago, heard_ago, heard_in_run, window_at, settings_in, Brings, BringsSent}
 use Rattle.agreement.specs.Window.{Entry, is_heard, is_pdcch, any_of, BlockAt, lost_before, in_time, ReadAs, Bundled}
@@ -80,7 +80,7 @@ module _ (S : ℕ → Send) (H : ℕ → Heard) (ordinary : (k : ℕ) → is_ord
   heard_so : (k : ℕ) → (is_block (H k) ≡ false) × (is_pdcch (H k) ≡ is_heard (H k))
   heard_so k = ordinary_heard (H k) (ordinary_there k)
 
-  untold : (ks : List ℕ) (m : ℕ) → told_from m ks S ≡ told.NotTold
+  untold : (ks : List ℕ) (m : ℕ) → told_from m ks S ≡ None
   untold [] m = refl
   untold (k ∷ ks) m = rw (no_block_sent (S k) (ordinary k)) (untold ks (suc m))
 
@@ -110,10 +110,10 @@ module _ (set : Settings) (sent : ℕ → Send) (ordinary : (s : ℕ) → is_ord
   brought_ago k = ago_brings sent (heard_in_run set items) brings s k
 
   -- The reading is told nothing.
-  pub told_nothing : told_of (window_at set s) (sent_ago sent s) ≡ told.NotTold
+  pub told_nothing : told_of (window_at set s) (sent_ago sent s) ≡ None
   told_nothing = untold (sent_ago sent s) H ordinary_ago brought_ago (window_at set s) 0
 
-  pub reads_as_untold : (e : Engine) → reading_in e (settings_in set items s) sent s ≡ e.read (settings_in set items s) (s % 10) told.NotTold
+  pub reads_as_untold : (e : Engine) → reading_in e (settings_in set items s) sent s ≡ e.read (settings_in set items s) (s % 10) None
   reads_as_untold e = ap (e.read (settings_in set items s) (s % 10)) told_nothing
 
   -- No scheduled block is heard, and what is heard is a PDCCH.
@@ -141,9 +141,9 @@ module _ (set : Settings) (sent : ℕ → Send) (ordinary : (s : ℕ) → is_ord
       there (inl p) = (sym heard_is_pdcch ∙ p.0, p.1)
       there (inr p) = absurd (false≢true (sym none_scheduled ∙ p.1))
 
-  pub sent_as_before : (resource : ℕ → ℕ → Mapped) (read : ℕ → ℕ → ℕ → Reading) (a : Answer)
+  pub sent_as_before : (resource : ℕ → ℕ → Result Resource ℕ) (read : ℕ → ℕ → ℕ → Result Reading ℕ) (a : Result Answer ℕ)
       → Bundled (settings_in set items s) resource read (window_at set s) es a
-      → ((r : Reply) × (a ≡ answer.Sent r)) ↔ ((any_of is_heard es ≡ true) × ZeroFourOrEight)
+      → ((r : Reply) × (a ≡ Ok (answer.Sent r))) ↔ ((any_of is_heard es ≡ true) × ZeroFourOrEight)
   sent_as_before resource read a b = (λ r. due_as_before.0 (b.0.0 r), λ due. b.0.1 (due_as_before.1 due))
 
   -- What a multiplexed reply with index m is read as is a grant that was heard there.

@@ -4,7 +4,9 @@
 -- (handset::feed), change_of (handset::change_mode), resource_of and inverse_of (resource::resource_of and inverse_of), read_of
 -- (station::read).
 -- Assumes nothing.
-use Rattle.std.specs.Prelude.{ℕ, ◌%◌, ◌<◌, true, false, List, [], ◌⊎◌, ◌↔◌, ◌≡◌, length, get_or, take}
+use Rattle.std.specs.Prelude.{Option, Some, None, Result, Ok, Err, ℕ, ◌%◌, ◌<◌, true, false, List, [], ◌⊎◌, ◌↔◌, ◌≡◌, length, get_or, take}
+use Rattle.resource.specs.declared.Cce.{Cce}
+use Rattle.resource.specs.declared.Resource.{Resource}
 use Rattle.frame.specs.declared.Settings.{Settings}
 use Rattle.frame.specs.Distance.{subframe_of}
 use Rattle.frame.specs.Layout.{downlink}
@@ -13,9 +15,6 @@ use Rattle.frame.specs.Settings.{new_mode_refusal, has_scheduled, settings_refus
 use Rattle.frame.specs.Special.{too_short}
 use Rattle.confirmation.specs.declared.Send.{Send}
 use Rattle.confirmation.specs.Sent.{told_of}
-use Rattle.resource.specs.declared.Inverted.{Inverted}
-use Rattle.resource.specs.declared.Mapped.{Mapped}
-use Rattle.resource.specs.declared.Mapped.TheVariants as mapped
 use Rattle.resource.specs.Calls.{size_of, resource_of, inverse_of}
 use Rattle.resource.specs.Formula.{edge, resource_number}
 use Rattle.resource.specs.OneToOne.{OneToOne}
@@ -24,16 +23,14 @@ use Rattle.heard.specs.declared.Heard.{Heard}
 use Rattle.heard.specs.declared.Heard.TheVariants.{Nothing, Scheduled}
 use Rattle.heard.specs.declared.ScheduledBlock.{ScheduledBlock}
 use Rattle.heard.specs.Heard.{is_block, heard_refusal, cause_of}
-use Rattle.handset.specs.declared.Changed.{Changed}
-use Rattle.handset.specs.declared.Fed.{Fed}
+use Rattle.handset.specs.Change.{Changed}
+use Rattle.handset.specs.Feed.{Fed}
 use Rattle.handset.specs.declared.Handset.{Handset}
-use Rattle.handset.specs.declared.Made.{Made}
+use Rattle.handset.specs.Make.{Made}
 use Rattle.handset.specs.Change.{change_of}
 use Rattle.handset.specs.Feed.{feed_of}
 use Rattle.handset.specs.Make.{make_of}
 use Rattle.station.specs.declared.Reading.{Reading}
-use Rattle.station.specs.declared.Told.{Told}
-use Rattle.station.specs.declared.Told.TheVariants as told
 use Rattle.station.specs.Readings.{GivesBack, read_of}
 use Rattle.agreement.specs.Run.{Item, feed, change, item_at, handset_after, heard_in_run, subframe_at, window_at, window_mode, settings_in, sent_ago, heard_ago, Schedule, BringsSent}
 use Rattle.agreement.specs.Window.{in_time, Bundled, Multiplexed}
@@ -42,9 +39,9 @@ pub record Engine : Type 0 where
   pub make : Settings → Made
   pub feed : Handset → Heard → Fed
   pub change : Handset → ℕ → Changed
-  pub resource : Settings → ℕ → ℕ → ℕ → Mapped
-  pub inverse : Settings → ℕ → ℕ → Inverted
-  pub read : Settings → ℕ → Told → ℕ → ℕ → ℕ → Reading
+  pub resource : Settings → ℕ → ℕ → ℕ → Result Resource ℕ
+  pub inverse : Settings → ℕ → ℕ → Result (ℕ × Cce) ℕ
+  pub read : Settings → ℕ → Option ℕ → ℕ → ℕ → ℕ → Result Reading ℕ
 
 -- The engine of this repository: the definitions that the promises of its code are equations with.
 abbrev pub feedback_engine : Engine
@@ -85,14 +82,14 @@ pub record IsSubframe (set : Settings) (items : List Item) (i s : ℕ) (x : Hear
 
 -- The station's reading in the window of s, with these settings and n = s mod 10; it "is told" the position of the scheduled block that
 -- was sent there.
-abbrev pub reading_in : Engine → Settings → (ℕ → Send) → ℕ → ℕ → ℕ → ℕ → Reading
+abbrev pub reading_in : Engine → Settings → (ℕ → Send) → ℕ → ℕ → ℕ → ℕ → Result Reading ℕ
 reading_in e set sent s = e.read set (s % 10) (told_of (window_at set s) (sent_ago sent s))
 
 -- What the reading may be told in the window of n: nothing, or a position of the window where a scheduled resource is set, whose
 -- subframe is not too short for data (U2).
-abbrev pub MayTell : Settings → ℕ → Told → Type 0
-MayTell set n told.NotTold = Unit {0}
-MayTell set n (told.At m) = (m < size_of set n) × (has_scheduled set ≡ true) × (too_short set (subframe_of set.config n m) ≡ false)
+abbrev pub MayTell : Settings → ℕ → Option ℕ → Type 0
+MayTell set n None = Unit {0}
+MayTell set n (Some m) = (m < size_of set n) × (has_scheduled set ≡ true) × (too_short set (subframe_of set.config n m) ≡ false)
 
 -- A scheduled block was heard in an earlier subframe d of the window that subframe s is in.
 abbrev pub SecondIn : ℕ → List Heard → ℕ → Type 0
@@ -103,19 +100,19 @@ SecondIn c heard s =
 pub record HoldsAfter (e : Engine) (set : Settings) (sent : ℕ → Send) (items : List Item) : Type 0 where
   -- "A feed is refused exactly when a cause for a feed .. is met at the run's next subframe, and 8 never is;"
   pub refused_exactly : (i : ℕ) (x : Heard) → IsFeed items i x
-      → ((k : ℕ) × ((fed_at e set items i x).answer ≡ answer.Refused k)) ↔ (cause_at set items i x ≡ 0 → ⊥)
+      → ((k : ℕ) × ((fed_at e set items i x).answer ≡ Err k)) ↔ (cause_at set items i x ≡ 0 → ⊥)
   -- "it then answers its number and leaves the handset"
   pub leaves : (i : ℕ) (x : Heard) → IsFeed items i x → (cause_at set items i x ≡ 0 → ⊥)
-      → fed_at e set items i x ≡ record { answer = answer.Refused (cause_at set items i x); handset = handset_at e set items i }
+      → fed_at e set items i x ≡ record { answer = Err (cause_at set items i x); handset = handset_at e set items i }
   -- 18 is "a second scheduled block in one window": one that is valid by itself is refused so exactly if another was heard there
   pub second : (i : ℕ) (b : ScheduledBlock) → IsFeed items i (Scheduled b) → heard_refusal set (subframe_at set items i % 10) (Scheduled b) ≡ 0
-      → ((fed_at e set items i (Scheduled b)).answer ≡ answer.Refused 18) ↔ SecondIn set.config (heard_in_run set items) (subframe_at set items i)
+      → ((fed_at e set items i (Scheduled b)).answer ≡ Err 18) ↔ SecondIn set.config (heard_in_run set items) (subframe_at set items i)
   -- "A downlink subframe is answered "taken","
   pub taken : (i s : ℕ) (x : Heard) → IsSubframe set items i s x → downlink set.config (s % 10) ≡ true
-      → (fed_at e set items i x).answer ≡ answer.Taken
+      → (fed_at e set items i x).answer ≡ Ok answer.Taken
   -- "an uplink one without a window "no window","; and one with a window "silent" where no reply is sent: SentExactly (Window.antt)
   pub no_window : (i s : ℕ) (x : Heard) → IsSubframe set items i s x → downlink set.config (s % 10) ≡ false → window_at set s ≡ []
-      → (fed_at e set items i x).answer ≡ answer.NoWindow
+      → (fed_at e set items i x).answer ≡ Ok answer.NoWindow
   -- U8: "Refusals 4, 5 and 8 apply and leave the state"; U9: 24 too, for "two ports with mode 1 (a mode change included)". A change is
   -- refused exactly by 4, 5 and 24, for the new mode with the run's other settings, and 8 never is; it answers its number, 0 where it is
   -- not refused,
@@ -138,13 +135,13 @@ pub record HoldsAfter (e : Engine) (set : Settings) (sent : ℕ → Send) (items
 pub record Demand3 (e : Engine) : Type 0 where
   -- "In a window of M downlink subframes, the pairs of position and first CCE map, by 01's formula,"
   pub by_formula : (set : Settings) (n m c : ℕ) → window_refusal set n ≡ 0 → m < size_of set n → c < edge set.nrb 4
-      → e.resource set n m c ≡ mapped.At (record { 0 = resource_number set.nrb set.n1 (size_of set n) m c })
+      → e.resource set n m c ≡ Ok (record { 0 = resource_number set.nrb set.n1 (size_of set n) m c })
   -- "one to one onto the resources N1 to N1 + M × N_4 − 1,"; U9: "One to one and the reading then mean the first port", here and in what
   -- follows
   pub one_to_one : (set : Settings) (n : ℕ) → window_refusal set n ≡ 0
       → OneToOne (size_of set n) (edge set.nrb 4) set.n1 (e.resource set n) (e.inverse set n)
   -- "and the station's reading, given bits it doesn't refuse, gives the pair back", whatever scheduled position it is told
-  pub gives_back : (set : Settings) (n m c r b0 b1 : ℕ) (told : Told) → MayTell set n told → e.resource set n m c ≡ mapped.At (record { 0 = r })
+  pub gives_back : (set : Settings) (n m c r b0 b1 : ℕ) (told : Option ℕ) → MayTell set n told → e.resource set n m c ≡ Ok (record { 0 = r })
       → GivesBack m c (e.read set n told r b0 b1)
   -- "Each downlink subframe is in exactly one window."
   pub exactly_one : (c d : ℕ) → downlink c (d % 10) ≡ true → InExactlyOne c d

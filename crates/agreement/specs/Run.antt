@@ -12,8 +12,8 @@ use Rattle.confirmation.specs.Sent.{is_pdcch, is_block, dai_of, as_heard}
 use Rattle.heard.specs.declared.Heard.{Heard}
 use Rattle.heard.specs.declared.Heard.TheVariants.{Nothing, Granted, Scheduled, Released}
 use Rattle.heard.specs.Heard.{is_block as is_heard_block, heard_refusal, cause_of}
-use Rattle.handset.specs.declared.Changed.{Changed}
-use Rattle.handset.specs.declared.Fed.{Fed}
+use Rattle.handset.specs.Change.{Changed}
+use Rattle.handset.specs.Feed.{Fed}
 use Rattle.handset.specs.declared.Handset.{Handset}
 
 -- "A run is a list of feeds from a fresh handset." U8: it "may now contain [mode] changes, refused ones too".

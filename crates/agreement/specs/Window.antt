@@ -1,13 +1,12 @@
 -- What demand 3 says of one window whose uplink subframe was fed: document 00, demand 3, and document 01, "The runs of demand 3";
 -- document 02, U1 and U9.
 -- Assumes nothing.
-use Rattle.std.specs.Prelude.{ℕ, ◌+◌, ◌/◌, ◌%◌, ◌^◌, ◌<◌, ◌≤◌, Bool, true, false, cond, not, ◌&&◌, ◌||◌, List, [], ◌∷◌, map, ◌⊎◌, ◌↔◌, ◌≡◌, eqb, length, get_or}
+use Rattle.std.specs.Prelude.{Result, Ok, Err, ℕ, ◌+◌, ◌/◌, ◌%◌, ◌^◌, ◌<◌, ◌≤◌, Bool, true, false, cond, not, ◌&&◌, ◌||◌, List, [], ◌∷◌, map, ◌⊎◌, ◌↔◌, ◌≡◌, eqb, length, get_or}
+use Rattle.resource.specs.declared.Resource.{Resource}
 use Rattle.frame.specs.declared.Settings.{Settings}
 use Rattle.frame.specs.Order.{times_of}
 use Rattle.confirmation.specs.declared.Send.{Send}
 use Rattle.confirmation.specs.Sent.{is_pdcch as is_sent_pdcch}
-use Rattle.resource.specs.declared.Mapped.{Mapped}
-use Rattle.resource.specs.declared.Mapped.TheVariants as mapped
 use Rattle.reply.specs.declared.Answer.{Answer}
 use Rattle.reply.specs.declared.Answer.TheVariants as answer
 use Rattle.heard.specs.declared.Heard.{Heard}
@@ -21,8 +20,7 @@ use Rattle.station.specs.declared.Reading.{Reading}
 use Rattle.station.specs.declared.Reading.TheVariants as reading
 use Rattle.symbols.specs.declared.State.{State}
 use Rattle.symbols.specs.declared.State.TheVariants.{Ack, Nack, Dtx}
-use Rattle.symbols.specs.declared.Symbol.TheVariants as symbol
-use Rattle.symbols.specs.Selection.{symbol_of}
+use Rattle.symbols.specs.Selection.{symbol_of, symbol}
 
 -- A subframe of a window: its k, what was sent there and what was heard.
 pub data Entry : Type 0 where
@@ -107,11 +105,11 @@ abbrev pub state_in : Heard → State
 state_in heard = cond (is_heard heard) (cond (decoded_first heard && decoded_second heard) Ack Nack) Dtx
 
 -- A reply is sent, and it is this one; no reply is sent, and the answer is "silent".
-abbrev pub SentExactly : Answer → Type 0 → (Reply → Type 0) → Type 0
+abbrev pub SentExactly : Result Answer ℕ → Type 0 → (Reply → Type 0) → Type 0
 SentExactly a Due Right =
-    (((r : Reply) × (a ≡ answer.Sent r)) ↔ Due)
-    × ((r : Reply) → a ≡ answer.Sent r → Right r)
-    × (((r : Reply) → a ≡ answer.Sent r → ⊥) → a ≡ answer.Silent)
+    (((r : Reply) × (a ≡ Ok (answer.Sent r))) ↔ Due)
+    × ((r : Reply) → a ≡ Ok (answer.Sent r) → Right r)
+    × (((r : Reply) → a ≡ Ok (answer.Sent r) → ⊥) → a ≡ (Ok answer.Silent))
 
 -- U9: "replies carry both": with two antenna ports the second port's resource is one above the first's, on which the reply is read; with
 -- one port there is none, and its number is 0.
@@ -121,19 +119,19 @@ CarriesBoth set r = (set.ports ≡ 2 → r.second.0 ≡ r.resource.0 + 1) × (se
 -- "If 01 bundles it": `set` are the settings in the window's own mode, `ks` is K as printed, `es` the window's subframes in time order;
 -- `resource` is the resource call and `read` the station's reading, with the same settings and n = s mod 10, told the position of the
 -- scheduled block that was sent.
-pub record BundledReply (set : Settings) (resource : ℕ → ℕ → Mapped) (read : ℕ → ℕ → ℕ → Reading) (ks : List ℕ) (es : List Entry) (r : Reply) : Type 0 where
+pub record BundledReply (set : Settings) (resource : ℕ → ℕ → Result Resource ℕ) (read : ℕ → ℕ → ℕ → Result Reading ℕ) (ks : List ℕ) (es : List Entry) (r : Reply) : Type 0 where
   pub kind : r.kind ≡ kind_bundled
   -- "It is read as that last grant", U1: "the last heard grant, whose resource carries the reply, [is] over PDCCHs": its position is
   -- the place of its k in K, and the reply's bits are the ACK bits
   pub is_read : (k c : ℕ) → last_heard es ≡ heard_at k c
       → (m : ℕ) × (m < length ks) × (get_or ks m 0 ≡ k)
-      × (resource m c ≡ mapped.At r.resource)
-      × (read r.resource.0 r.b0 r.b1 ≡ reading.Bundled (place.Pdcch m (record { 0 = c })) r.b0 r.b1)
+      × (resource m c ≡ Ok r.resource)
+      × (read r.resource.0 r.b0 r.b1 ≡ Ok (reading.Bundled (place.Pdcch m (record { 0 = c })) r.b0 r.b1))
   -- U1: "A lone scheduled block is answered too; it .. is read as that block", on the configured resource
   pub alone : (k : ℕ) → any_of is_pdcch es ≡ false → BlockAt k es
       → (m : ℕ) × (m < length ks) × (get_or ks m 0 ≡ k)
       × (r.resource.0 ≡ set.scheduled)
-      × (read r.resource.0 r.b0 r.b1 ≡ reading.Bundled (place.Block m) r.b0 r.b1)
+      × (read r.resource.0 r.b0 r.b1 ≡ Ok (reading.Bundled (place.Block m) r.b0 r.b1))
   -- "and a block's bit is ACK exactly when every heard grant decoded it"; U1: "over a heard scheduled block as well"
   pub first : (r.b0 ≡ 1) ↔ EveryHeard decoded_first es
   pub second : set.blocks ≡ 2 → (r.b1 ≡ 1) ↔ EveryHeard decoded_second es
@@ -142,7 +140,7 @@ pub record BundledReply (set : Settings) (resource : ℕ → ℕ → Mapped) (re
   -- U9: the resource above is that of the first port; this is the second's
   pub ports : CarriesBoth set r
 
-abbrev pub Bundled : Settings → (ℕ → ℕ → Mapped) → (ℕ → ℕ → ℕ → Reading) → List ℕ → List Entry → Answer → Type 0
+abbrev pub Bundled : Settings → (ℕ → ℕ → Result Resource ℕ) → (ℕ → ℕ → ℕ → Result Reading ℕ) → List ℕ → List Entry → Result Answer ℕ → Type 0
 Bundled set resource read ks es a =
     -- "a reply is sent exactly when a grant was heard and 0, 4 or 8 of its grants before the last heard one were lost", over PDCCHs;
     -- or when a scheduled block is the only thing heard
@@ -159,16 +157,16 @@ ReadAs m (Scheduled b) named = named ≡ place.Block m
 ReadAs m (Released p) named = named ≡ place.Pdcch m p.cce
 
 -- The resource r carries it: a PDCCH's own, of a scheduled block the configured one.
-abbrev pub Carries : Settings → (ℕ → ℕ → Mapped) → Place → ℕ → Type 0
-Carries set resource (place.Pdcch m c) r = resource m c.0 ≡ mapped.At (record { 0 = r })
+abbrev pub Carries : Settings → (ℕ → ℕ → Result Resource ℕ) → Place → ℕ → Type 0
+Carries set resource (place.Pdcch m c) r = resource m c.0 ≡ Ok (record { 0 = r })
 Carries set resource (place.Block m) r = r ≡ set.scheduled
 
 -- "If 01 multiplexes it": `states` are the states of its positions, in the order of K.
-pub record MultiplexedReply (set : Settings) (resource : ℕ → ℕ → Mapped) (read : ℕ → ℕ → ℕ → Reading) (ks : List ℕ) (heard : ℕ → Heard) (states : List State) (r : Reply) : Type 0 where
+pub record MultiplexedReply (set : Settings) (resource : ℕ → ℕ → Result Resource ℕ) (read : ℕ → ℕ → ℕ → Result Reading ℕ) (ks : List ℕ) (heard : ℕ → Heard) (states : List State) (r : Reply) : Type 0 where
   pub kind : r.kind ≡ kind_multiplexed
   -- "01's symbol for its state is sent": its index and its two bits
   pub index : ℕ
-  pub is_symbol : symbol_of states ≡ symbol.Sent index r.b0 r.b1
+  pub is_symbol : symbol_of states ≡ symbol index r.b0 r.b1
   -- the grant at its index, on whose resource it is sent; U1: a scheduled block there, whose "position uses that resource"
   pub named : Place
   pub is_heard : ReadAs index (heard (get_or ks index 0)) named
@@ -176,14 +174,14 @@ pub record MultiplexedReply (set : Settings) (resource : ℕ → ℕ → Mapped)
   -- "and read as the grant at its index", or as that block, "delivered for exactly the positions that are A in every state sending
   -- the same symbol": bit p of the set is position p
   pub delivered : ℕ
-  pub is_read : read r.resource.0 r.b0 r.b1 ≡ reading.Multiplexed named delivered
+  pub is_read : read r.resource.0 r.b0 r.b1 ≡ Ok (reading.Multiplexed named delivered)
   pub exactly : (p : ℕ) → p < length ks
-      → (delivered / 2 ^ p % 2 ≡ 1) ↔ ((ss : List State) → length ss ≡ length ks → symbol_of ss ≡ symbol.Sent index r.b0 r.b1 → get_or ss p Dtx ≡ Ack)
+      → (delivered / 2 ^ p % 2 ≡ 1) ↔ ((ss : List State) → length ss ≡ length ks → symbol_of ss ≡ symbol index r.b0 r.b1 → get_or ss p Dtx ≡ Ack)
   pub no_other : delivered < 2 ^ length ks
   -- U9: two ports have no mode 1, so that there is no second resource
   pub one_port : r.second.0 ≡ 0
 
-abbrev pub Multiplexed : Settings → (ℕ → ℕ → Mapped) → (ℕ → ℕ → ℕ → Reading) → List ℕ → (ℕ → Heard) → List Entry → Answer → Type 0
+abbrev pub Multiplexed : Settings → (ℕ → ℕ → Result Resource ℕ) → (ℕ → ℕ → ℕ → Result Reading ℕ) → List ℕ → (ℕ → Heard) → List Entry → Result Answer ℕ → Type 0
 Multiplexed set resource read ks heard es a =
     -- "is sent exactly when a grant was heard", or a scheduled block
     SentExactly a (any_of is_heard es ≡ true) (MultiplexedReply set resource read ks heard (map (λ (k : ℕ). state_in (heard k)) ks))

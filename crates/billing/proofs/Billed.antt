@@ -1,5 +1,6 @@
 -- What is charged was decoded (specs/Billing.antt), of the engine of this repository and its crediting call.
 -- Assumes nothing.
+use Rattle.std.proofs.Common.{Result, Ok, Err}
 use Prim.Native.Nat.{ℕ, zero, suc, ◌+◌, ◌-◌, ◌*◌, ◌%◌, ◌<◌, ◌≤◌}
 use mathlib.Core.Bool.{Bool, true, false, cond}
 use mathlib.Core.List.{List, [], ◌∷◌}
@@ -11,6 +12,7 @@ use native.Mathlib.Omega.{arith}
 use lib.Dec.{eqb}
 use lib.ListN.{length, take}
 use borrow.Author.Tests.{le-leb, lt-leb, le-ltb}
+use Rattle.std.proofs.Common.{Ok}
 use Rattle.frame.specs.declared.Settings.{Settings}
 use Rattle.frame.specs.Distance.{before}
 use Rattle.frame.specs.Order.{member, position_of}
@@ -33,11 +35,11 @@ use Rattle.confirming.specs.Blocks.{reading_refusal}
 use Rattle.confirming.specs.Records.{sent_in}
 use Rattle.confirming.specs.Refusals.{blocks_sent, sent_refusal, call_refusal}
 use Rattle.account.specs.declared.Account.{Account}
-use Rattle.account.specs.Account.{account_refusal, open_of, add_refusal, add_of}
+use Rattle.account.specs.Account.{account_refusal, open_of, account_at, add_refusal, add_of}
 use Rattle.account.specs.Credits.{Booked, credited_in, from_new}
 use Rattle.account.proofs.Credits.{over_any_list}
 use Rattle.account.proofs.Equation.{one_or_none}
-use Rattle.account.proofs.Totals.{accounts, past, within, added}
+use Rattle.account.proofs.Totals.{accounts, within, given}
 use Rattle.credit.specs.Credit.{own_bit, credited, bad_records, sizes_refusal, prior_refusal, sum_below, octets_at, octets_where, credited_octets, added_of, credit_by, credit_reading, credit_of}
 use Rattle.agreement.specs.Confirmation.{reading_at}
 use Rattle.agreement.specs.Demand3.{Engine, feedback_engine, fed_at, reading_in, HoldsAfter}
@@ -155,10 +157,10 @@ module _ (b : Billable feedback_engine) where
   brought : (k : ℕ) → Brings (sent k) (H k)
   brought k = ago_brings b.sent (heard_in_run b.set b.items) b.replied.brings b.s k
 
-  abbrev pub read : Reading
+  abbrev pub read : Result Reading ℕ
   read = reading_at feedback_engine b.set b.sent b.items b.s b.r
 
-  abbrev answer : Answer
+  abbrev answer : Result Answer ℕ
   answer = (fed_at feedback_engine b.set b.items b.replied.item b.replied.brought).answer
 
   bundled_read_holds : Bundled own (feedback_engine.resource own n) (reading_in feedback_engine own b.sent b.s) K (in_time sent H K) answer
@@ -248,9 +250,9 @@ module _ (b : Billable feedback_engine) where
         left = λ _. (refl, refl);
       }
 
-  bill_added : (a : Account) → off b a ≡ 0 → a.octets + owed ≤ 1000000000000 → (add_of a owed).refusal ≡ 0
-      → Bill b a (record { refusal = 0; octets = owed; account = (add_of a owed).account })
-  bill_added a e fits none =
+  bill_added : (a more : Account) → off b a ≡ 0 → a.octets + owed ≤ 1000000000000 → add_of a owed ≡ Ok more
+      → Bill b a (record { refusal = 0; octets = owed; account = more })
+  bill_added a more e fits sum =
       record {
         twenty_five = (λ five. absurd (omega arith), λ some. absurd (some e));
         twenty_six = (λ six. absurd (omega arith), λ over. absurd (omega (arith, over.1)));
@@ -258,28 +260,26 @@ module _ (b : Billable feedback_engine) where
         octets = λ _. refl;
         decoded = decoded_there_holds;
         most = no_more;
-        grown = λ _. accounts.grown a owed none;
+        grown = λ _. accounts.grown a owed more sum;
         left = λ refused. absurd (refused refl);
       }
 
   bill : (a : Account) → Bill b a (credit_at b credit_of a)
-  unfolding add_of
   bill a = go (off_or_not a) (dec_lt 1000000000000 (a.octets + owed))
     where
       go : (off b a ≡ 0) ⊎ (off b a ≡ 25) → Dec (1000000000000 < a.octets + owed) → Bill b a (credit_at b credit_of a)
       go (inr e) total = rw (refused_answer a 24 e) (bill_off a e)
       go (inl e) (yes over) =
-          rw (accepted_answer a e, past a owed (account_fine b a e) over) (bill_over a e over)
+          rw (accepted_answer a e, (accounts.over a owed (account_fine b a e)).1 over) (bill_over a e over)
       go (inl e) (no fits) =
-          let zero = within a owed (account_fine b a e) (omega arith) in
-          rw (accepted_answer a e, zero) (rw zero at (bill_added a e (omega arith) zero))
+          let sum = given a owed (within a owed (account_fine b a e) (omega arith)) in
+          rw (accepted_answer a e, sum) (bill_added a _ e (omega arith) sum)
 
 -- Over any list: of every call of which this is said of each.
 module _ {e : Engine} (credit : Crediting) (each : (b : Billable e) (a : Account) → Bill b a (credit_at b credit a)) where
   -- One that is not refused adds its octets to an account that was not off.
   booked : (b : Billable e) (a : Account) → Booked a (answered credit b a)
-  unfolding add_of
-  booked b a = record { leaves = λ h. ((each b a).left h).1; adds = λ h. (fits h, made h) }
+  booked b a = record { leaves = λ h. ((each b a).left h).1; adds = made }
     where
       fine : (credit_at b credit a).refusal ≡ 0 → Dec (off b a ≡ 0) → account_refusal a ≡ 0
       fine h (yes none) = account_fine b a none
@@ -290,10 +290,13 @@ module _ {e : Engine} (credit : Crediting) (each : (b : Billable e) (a : Account
           let g = (each b a).grown h in
           within a (credit_at b credit a).octets (fine h (ℕ_discrete (off b a) 0)) (omega (arith, g.octets, g.most))
 
-      made : (credit_at b credit a).refusal ≡ 0 → (credit_at b credit a).account ≡ (add_of a (credit_at b credit a).octets).account
+      made : (credit_at b credit a).refusal ≡ 0 → add_of a (credit_at b credit a).octets ≡ Ok (credit_at b credit a).account
       made h =
           let g = (each b a).grown h in
-          accounts.only (credit_at b credit a).account g.accepted ∙ rw (g.price, g.octets) (sym (added a (credit_at b credit a).octets (fits h)))
+          let same : (credit_at b credit a).account ≡ account_at a.price (a.octets + (credit_at b credit a).octets) =
+          accounts.only (credit_at b credit a).account g.accepted ∙ rw (g.price, g.octets)
+          in
+          given a (credit_at b credit a).octets (fits h) ∙ rw same
 
   credited_most : (bs : List (Billable e)) (a : Account) → credited_in (answered credit) a bs ≤ decoded_in bs
   credited_most [] a = omega arith

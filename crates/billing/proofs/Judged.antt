@@ -1,12 +1,13 @@
 -- The verdict of feedback_confirmed in the runs of demand 3 (specs/Verdict.antt): a truthful station is not refused, and each block that is
 -- called confirmed was decoded.
 -- Assumes nothing.
+use Rattle.std.proofs.Common.{Result, Ok, Err}
 use Prim.Native.Nat.{ℕ}
 use mathlib.Core.Path.{◌≡◌, ◌∙◌}
 use Rattle.station.specs.declared.Reading.{Reading}
 use Rattle.confirmation.specs.Confirmed.{confirmed}
 use Rattle.confirmation.proofs.Same.{confirmed_same}
-use Rattle.confirming.specs.declared.Confirmed.{Confirmed}
+use Rattle.confirming.specs.Blocks.{Confirmed}
 use Rattle.confirming.specs.Blocks.{confirmed_of}
 use Rattle.confirming.specs.Exactly.{reply_read, HasConfirmed}
 use Rattle.confirming.proofs.Answers.{blocks_confirmed}
@@ -22,7 +23,7 @@ module _ (b : Billable feedback_engine) where
   answer = confirm_at b confirmed_of
 
   -- The call reads what the station reads.
-  reply : Reading
+  reply : Result Reading ℕ
   reply = reply_read (own b) (n b) b.w b.r.resource.0 b.r.b0 b.r.b1
 
   reply_is : reply ≡ read b

@@ -1,6 +1,7 @@
 -- What a crediting call asks of what was sent it asks at the k of the window alone: two stations that sent the same there are told,
 -- credited and refused alike.
 -- Assumes nothing.
+use Rattle.std.proofs.Common.{Result, Ok, Err}
 use Prim.Native.Nat.{ℕ, ◌+◌, ◌≤◌}
 use mathlib.Core.Bool.{Bool, true, false, cond, not, ◌&&◌, false≢true, or-true}
 use mathlib.Core.List.{List, [], ◌∷◌, map}
@@ -27,7 +28,7 @@ module _ (c n : ℕ) (f g : ℕ → Send) (same : (k : ℕ) → member k (window
   pub same_told : told_of (window_of c n) f ≡ told_of (window_of c n) g
   same_told = told_same f g (window_of c n) same
 
-  pub same_credited : (read : Reading) → credited (window_of c n) f read ≡ credited (window_of c n) g read
+  pub same_credited : (read : Result Reading ℕ) → credited (window_of c n) f read ≡ credited (window_of c n) g read
   unfolding credited
   same_credited read = fun_ext (λ m. fun_ext (λ block. rw (confirmed_same f g c n same read m block)))
 

@@ -3,6 +3,7 @@
 -- a block has 193 octets, in a special subframe, whose column is 7, 137; with N_PRB 1 the octets of I_TBS 0, 1, 2, .. are 2, 3, 4, 5, 7,
 -- 9.
 -- Assumes nothing.
+use Rattle.std.proofs.Common.{Result, Ok, Err}
 use Prim.Native.Nat.{ℕ}
 use mathlib.Core.List.{List, [], ◌∷◌, map}
 use mathlib.Core.Path.{◌≡◌, refl, sym, ap, ◌∙◌}
@@ -29,7 +30,7 @@ use Rattle.agreement.specs.Demand3.{Engine, feedback_engine, fed_at, IsSubframe}
 use Rattle.agreement.specs.Run.{sent_ago, window_at}
 use Rattle.engines.proofs.Computing.{schedules, stations}
 use Rattle.engines.proofs.Finite.{sending}
-use Rattle.engines.proofs.Worked.{Run, Worked, answer_at, fed_nothing, fed_nothing_at, times, all_heard, all_heard_holds, last_two_lost, last_two_lost_holds, four_lost, four_lost_holds, sole_block, sole_block_holds, second_undecoded, second_undecoded_holds, shared_by_three, symbol_shared_by_three, lone_block, lone_block_holds}
+use Rattle.engines.proofs.Worked.{Run, Worked, kind_of, answer_at, fed_nothing, fed_nothing_at, times, all_heard, all_heard_holds, last_two_lost, last_two_lost_holds, four_lost, four_lost_holds, sole_block, sole_block_holds, second_undecoded, second_undecoded_holds, shared_by_three, symbol_shared_by_three, lone_block, lone_block_holds}
 use Rattle.engines.proofs.ChangedRuns.{between_windows, between_windows_holds}
 use Rattle.billing.specs.Billing.{SaysSent, Billable, credit_at, decoded_there, octets_there, answered, decoded_in}
 
@@ -66,7 +67,7 @@ module _ (set : Settings) (sent : ℕ → Send) (s : ℕ) (w : SentWindow) where
 -- A reply of a worked run to item i, which is its subframe s and brought nothing, with these records.
 unfoldable pub billable : {e : Engine} (run : Run) → Worked run → (i s : ℕ) (r : Reply) (at : List Sent)
     → IsSubframe run.set run.items i s Nothing
-    → (fed_at e run.set run.items i Nothing).answer ≡ answer.Sent r
+    → (fed_at e run.set run.items i Nothing).answer ≡ Ok (answer.Sent r)
     → map send_of (take (length (window_at run.set s)) at) ≡ map (sent_ago (sending run.sends) s) (window_at run.set s)
     → Billable e
 billable run worked i s r at subframe answered says =
@@ -90,7 +91,7 @@ billable run worked i s r at subframe answered says =
     }
 
 abbrev pub reply_of : ℕ → ℕ → ℕ → ℕ → Reply
-reply_of kind r b0 b1 = record { kind = kind; resource = record { 0 = r }; b0 = b0; b1 = b1; second = record { 0 = 0 } }
+reply_of kind r b0 b1 = record { kind = kind_of kind; resource = record { 0 = r }; b0 = b0; b1 = b1; second = record { 0 = 0 } }
 
 -- The definitions that a crediting call computes with.
 unfoldable pub crediting : Unit {0}

@@ -24,6 +24,7 @@
 -- `most` follows from `octets`, `decoded` and `left`, and `list` from `each` (`over_list` in Billed.antt); they stay, since they are what
 -- a tenant reads.
 -- Assumes nothing.
+use Rattle.std.proofs.Common.{Result, Ok, Err}
 use Prim.Native.Nat.{ℕ, ◌+◌, ◌*◌}
 use mathlib.Core.Bool.{Bool, false, cond, ◌&&◌, ◌||◌, false≢true}
 use mathlib.Core.List.{List, [], ◌∷◌}
@@ -45,7 +46,7 @@ use Rattle.confirming.specs.Blocks.{reading_refusal}
 use Rattle.confirming.specs.Records.{nothing_sent, send_of, sent_in}
 use Rattle.account.specs.declared.Account.{Account}
 use Rattle.account.specs.Account.{account_at}
-use Rattle.credit.specs.declared.Credited.{Credited}
+use Rattle.credit.specs.Credit.{Credited}
 use Rattle.credit.specs.Credit.{own_bit, credited, octets_where, credited_octets, added_of, refused_or, credit_by, credit_reading, credit_of}
 use Rattle.agreement.specs.Demand3.{Engine, feedback_engine}
 use Rattle.engines.proofs.Computing.{schedules}
@@ -123,12 +124,12 @@ not_octets_refused d = omega (arith, ((d.each both_heard (account_at 300000 9999
 
 -- The call by another rule of which blocks a reading credits; by 02's it is the right one.
 abbrev Rule : Type 0
-Rule = List ℕ → (ℕ → Send) → Reading → ℕ → ℕ → Bool
+Rule = List ℕ → (ℕ → Send) → Result Reading ℕ → ℕ → ℕ → Bool
 
 abbrev by_rule : Rule → Crediting
 by_rule rule s n w r b0 b1 a =
     let ks : List ℕ = window_of s.config n in
-    let read : Reading = credit_reading s n w r b0 b1 a in
+    let read : Result Reading ℕ = credit_reading s n w r b0 b1 a in
     refused_or (reading_refusal read) a (added_of a (octets_where s.config n w (rule ks (sent_in ks w) read)))
 
 pub right_rule : by_rule credited ≡ credit_of
@@ -153,13 +154,13 @@ abbrev Speaking : Type 0
 Speaking = List ℕ → (ℕ → Send) → ℕ → ℕ → Bool
 
 abbrev by_speaking : Speaking → Rule
-by_speaking speaks ks sent (reading.Bundled (place.Pdcch named c) b0 b1) m block =
+by_speaking speaks ks sent (Ok (reading.Bundled (place.Pdcch named c) b0 b1)) m block =
     let x : Send = sent (get_or ks m 0) in
     (ltb m (length ks) && ltb block (blocks_of x) && (named_sent ks sent (place.Pdcch named c) && speaks ks sent named m && acknowledged x block b0 b1))
-    && own_bit (reading.Bundled (place.Pdcch named c) b0 b1) block
-by_speaking speaks ks sent (reading.Bundled (place.Block named) b0 b1) m block = credited ks sent (reading.Bundled (place.Block named) b0 b1) m block
-by_speaking speaks ks sent (reading.Multiplexed named positions) m block = credited ks sent (reading.Multiplexed named positions) m block
-by_speaking speaks ks sent (reading.Refused k) m block = credited ks sent (reading.Refused k) m block
+    && own_bit (Ok (reading.Bundled (place.Pdcch named c) b0 b1)) block
+by_speaking speaks ks sent (Ok (reading.Bundled (place.Block named) b0 b1)) m block = credited ks sent (Ok (reading.Bundled (place.Block named) b0 b1)) m block
+by_speaking speaks ks sent (Ok (reading.Multiplexed named positions)) m block = credited ks sent (Ok (reading.Multiplexed named positions)) m block
+by_speaking speaks ks sent (Err k) m block = credited ks sent (Err k) m block
 
 -- For the kinds that `for` names: that one, and those before it if at most `limit` are counted up to and with it.
 abbrev speaking : (Send → Bool) → ((ℕ → Send) → ℕ → List ℕ → ℕ) → ℕ → Speaking
@@ -168,13 +169,13 @@ speaking for count limit ks sent named m =
     let last : ℕ = get_or ks named 0 in
     for (sent k) && (eqb k last || (leb (count sent last (times_of ks)) limit && leb last k))
 
-pub right_speaking : (ks : List ℕ) (sent : ℕ → Send) (read : Reading) (m block : ℕ)
+pub right_speaking : (ks : List ℕ) (sent : ℕ → Send) (read : Result Reading ℕ) (m block : ℕ)
     → by_speaking (speaking is_pdcch sent_up_to 4) ks sent read m block ≡ credited ks sent read m block
 unfolding credited confirmed
-right_speaking ks sent (reading.Bundled (place.Pdcch named c) b0 b1) m block = refl
-right_speaking ks sent (reading.Bundled (place.Block named) b0 b1) m block = refl
-right_speaking ks sent (reading.Multiplexed named positions) m block = refl
-right_speaking ks sent (reading.Refused k) m block = refl
+right_speaking ks sent (Ok (reading.Bundled (place.Pdcch named c) b0 b1)) m block = refl
+right_speaking ks sent (Ok (reading.Bundled (place.Block named) b0 b1)) m block = refl
+right_speaking ks sent (Ok (reading.Multiplexed named positions)) m block = refl
+right_speaking ks sent (Err k) m block = refl
 
 -- Five for four: four grants are lost and the fifth is heard.
 pub not_five : Billed feedback_engine (by_rule (by_speaking (speaking is_pdcch sent_up_to 5))) → ⊥

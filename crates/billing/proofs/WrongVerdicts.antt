@@ -9,7 +9,7 @@
 use mathlib.Core.Bool.{false≢true}
 use mathlib.Core.Path.{refl}
 use native.Mathlib.Omega.{arith}
-use Rattle.confirming.specs.declared.Confirmed.{Confirmed}
+use Rattle.confirming.specs.Blocks.{Confirmed}
 use Rattle.confirming.specs.Blocks.{confirmed_of}
 use Rattle.agreement.specs.Demand3.{feedback_engine}
 use Rattle.billing.specs.Verdict.{Confirming, Judged}

@@ -14,7 +14,7 @@ use Rattle.account.specs.declared.Account.{Account}
 use Rattle.account.specs.Account.{account_refusal}
 use Rattle.account.specs.Credits.{Answer, from_new, Charged}
 use Rattle.account.specs.Laws.{Grown}
-use Rattle.credit.specs.declared.Credited.{Credited}
+use Rattle.credit.specs.Credit.{Credited}
 use Rattle.credit.specs.Credit.{credited, sizes_refusal, octets_where}
 use Rattle.agreement.specs.Confirmation.{Replied, reading_at, heard_there, decoded_block}
 use Rattle.agreement.specs.Demand3.{Engine}

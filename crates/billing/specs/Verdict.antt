@@ -4,7 +4,7 @@
 use Rattle.std.specs.Prelude.{ℕ, ◌/◌, ◌%◌, ◌^◌, ◌<◌, true, ◌↔◌, ◌≡◌}
 use Rattle.frame.specs.declared.Settings.{Settings}
 use Rattle.confirmation.specs.Confirmed.{confirmed}
-use Rattle.confirming.specs.declared.Confirmed.{Confirmed}
+use Rattle.confirming.specs.Blocks.{Confirmed}
 use Rattle.confirming.specs.declared.SentWindow.{SentWindow}
 use Rattle.agreement.specs.Confirmation.{reading_at}
 use Rattle.agreement.specs.Demand3.{Engine}

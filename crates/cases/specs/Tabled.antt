@@ -1,20 +1,16 @@
 -- The cases that document 01 wants proved ("Cases to prove"), as one fact about the definitions; its lines in their order, and the case
 -- of document 02, U9.
 -- Assumes nothing.
-use Rattle.std.specs.Prelude.{ℕ, zero, suc, cond, List, [], ◌∷◌, map, ◌≡◌, eqb}
+use Rattle.std.specs.Prelude.{Result, Ok, Err, Some, None, ℕ, zero, suc, cond, List, [], ◌∷◌, map, ◌≡◌, eqb}
+use Rattle.resource.specs.declared.ports.OnPorts.{OnPorts}
+use Rattle.resource.specs.declared.Resource.{Resource}
 use Rattle.frame.specs.declared.Settings.{Settings}
 use Rattle.frame.specs.Distance.{before}
 use Rattle.frame.specs.Settings.{no_resource}
 use Rattle.frame.specs.Table.{window_of}
-use Rattle.resource.specs.declared.Inverted.TheVariants as inverted
-use Rattle.resource.specs.declared.Mapped.{Mapped}
-use Rattle.resource.specs.declared.Mapped.TheVariants as mapped
 use Rattle.resource.specs.Calls.{size_of, resource_of, inverse_of}
-use Rattle.resource.specs.declared.PortsMapped.{PortsMapped}
-use Rattle.resource.specs.declared.PortsMapped.TheVariants as ports
 use Rattle.resource.specs.Formula.{edge}
 use Rattle.resource.specs.Ports.{ports_of}
-use Rattle.claims.specs.declared.Checked.TheVariants as checked
 use Rattle.claims.specs.Bits.{bit_room_of, bit_checked_of}
 use Rattle.claims.specs.Claims.{room_of, checked_of}
 use Rattle.reply.specs.declared.Answer.TheVariants as answer
@@ -45,12 +41,12 @@ abbrev pub subframe_position : ℕ → ℕ → List ℕ → ℕ
 subframe_position x n [] = zero
 subframe_position x n (k ∷ ks) = cond (eqb (before n k) x) zero (suc (subframe_position x n ks))
 
-abbrev pub at : ℕ → Mapped
-at r = mapped.At (record { 0 = r })
+abbrev pub at : ℕ → Result Resource ℕ
+at r = Ok (record { 0 = r })
 
 -- the first port's resource, and the second port's, 0 where there is none
-abbrev pub on_ports : ℕ → ℕ → PortsMapped
-on_ports r second = ports.At (record { 0 = r }) (record { 0 = second })
+abbrev pub on_ports : ℕ → ℕ → Result OnPorts ℕ
+on_ports r second = Ok (record { first = (record { 0 = r }); second = (record { 0 = second }) })
 
 -- the claims (0,10) and (1,0), each m × 256 + first CCE
 abbrev pub two_claims : List ℕ
@@ -77,9 +73,9 @@ pub record Tabled : Type 0 where
   pub pair011 : resource_of (cell 1) 2 0 11 ≡ at 32
   pub pair160 : resource_of (cell 1) 2 1 60 ≡ at 131
   -- "c 61 is refused 11; resources 9 and 132 are refused 13."
-  pub refused61 : (resource_of (cell 1) 2 0 61 ≡ mapped.Refused 11) × (resource_of (cell 1) 2 1 61 ≡ mapped.Refused 11)
-  pub refused9 : inverse_of (cell 1) 2 9 ≡ inverted.Refused 13
-  pub refused132 : inverse_of (cell 1) 2 132 ≡ inverted.Refused 13
+  pub refused61 : (resource_of (cell 1) 2 0 61 ≡ Err 11) × (resource_of (cell 1) 2 1 61 ≡ Err 11)
+  pub refused9 : inverse_of (cell 1) 2 9 ≡ Err 13
+  pub refused132 : inverse_of (cell 1) 2 132 ≡ Err 13
   -- "N_RB 6 gives 0, 1, 3, 5, 7; N_RB 110 gives 0, 24, 61, 97, 134."
   pub bandwidth6 : edges 6 ≡ 0 ∷ 1 ∷ 3 ∷ 5 ∷ 7 ∷ []
   pub bandwidth110 : edges 110 ≡ 0 ∷ 24 ∷ 61 ∷ 97 ∷ 134 ∷ []
@@ -95,5 +91,5 @@ pub record Tabled : Type 0 where
   pub ports010 : ports_of (two_ports 1) 2 0 10 ≡ on_ports 20 21
   pub ports10 : ports_of (two_ports 1) 2 1 0 ≡ on_ports 21 22
   pub ports_room : (room_of (two_ports 1) 2 ≡ 123) × (bit_room_of (two_ports 1) 2 ≡ 16)
-  pub ports_clash : (checked_of (two_ports 1) 2 two_claims 123 ≡ checked.Clash 1) × (bit_checked_of (two_ports 1) 2 two_claims 16 ≡ checked.Clash 1)
-  pub one_port : (ports_of (cell 1) 2 0 10 ≡ on_ports 20 0) × (checked_of (cell 1) 2 two_claims 122 ≡ checked.Clean)
+  pub ports_clash : (checked_of (two_ports 1) 2 two_claims 123 ≡ Ok (Some 1)) × (bit_checked_of (two_ports 1) 2 two_claims 16 ≡ Ok (Some 1))
+  pub one_port : (ports_of (cell 1) 2 0 10 ≡ on_ports 20 0) × (checked_of (cell 1) 2 two_claims 122 ≡ Ok None)

@@ -1,26 +1,26 @@
 -- The scratch of the bit form bit by bit: it is as document 02 says, and no other scratch is.
 -- Assumes nothing.
+use Rattle.std.proofs.Common.{Result, Ok, Err}
+use Rattle.resource.specs.declared.Resource.{Resource}
 use Prim.Native.Nat.{ℕ, zero, suc, ◌+◌, ◌*◌, ◌/◌, ◌%◌, ◌^◌, ◌<◌, ◌≤◌}
 use mathlib.Core.Bool.{Bool, true, false, cond, ◌&&◌}
 use mathlib.Core.List.{List, ◌++◌}
 use mathlib.Core.Path.{◌≡◌, refl, sym, ap₂, ◌∙◌}
 use native.Mathlib.Omega.{arith}
 use lib.Dec.{ltb, eqb}
-use lib.ListN.{length, get_or, take, drop, take-append-drop, length-append, length-drop}
-use lib.Seq.{length-take-le, drop_at, get_or-take, ext_get_or}
+use lib.ListN.{length, get_or, take, drop, take-append-drop}
+use lib.Seq.{length-take-le, get_or-take, ext_get_or}
 use borrow.Author.Tests.{ltb-true, ltb-false, ne_eqb}
+use Rattle.std.proofs.lemmas.List.FromFn.{length-map-range_with_len, get_or-map-range_with_len}
 use Rattle.frame.specs.declared.Settings.{Settings}
 use Rattle.frame.specs.Settings.{or_else, has_second_port, window_refusal}
-use Rattle.resource.specs.declared.Mapped.{Mapped}
-use Rattle.resource.specs.declared.Mapped.TheVariants as mapped
 use Rattle.resource.proofs.OneToOne.{resource_range}
-use Rattle.claims.specs.declared.Checked.{Checked}
-use Rattle.claims.specs.declared.Checked.TheVariants.{Clean, Clash, Refused}
 use Rattle.claims.specs.Bits.{bit_room_of, bit_checked_of, bytes_from, bit_marked_up_to, bit_scratch_of}
-use Rattle.claims.specs.Claims.{claim_position, claim_cce, claimed, resources_of, room_of, first_clash, scratch_refusal, checked_on, refused_or, checked_with, takes, marked, scratch_after}
+use Rattle.claims.specs.Claims.{claim_position, claim_cce, claimed, resources_of, room_of, first_clash, scratch_refusal, Checked, checked_on, refused_or, checked_with, takes, marked, scratch_after}
 use Rattle.claims.specs.Forms.{bit_at, BitByBit, Answered, BitForm}
-use Rattle.claims.proofs.BitMarks as bits
-use Rattle.claims.proofs.Packed.{bits_below, bits_only, bytes_length, bytes_at}
+use Rattle.claims.specs.Form.{bit_room, bits_laid}
+use Rattle.claims.specs.Laws.{bits_below, bits_only, byte_in_room, bytes_length, byte_at, bit_at_holds}
+use Rattle.claims.proofs.Front.{front_at, tail_kept, same_length}
 
 -- Where the answer is no refusal, the settings, the subframe and the scratch are not refused.
 pub accepted_with : (s : Settings) (n : ℕ) (claims : List ℕ) (room lent : ℕ) → Answered (checked_with s n claims room lent)
@@ -36,9 +36,8 @@ accepted_with s n claims room lent a = go (window_refusal s n) (ltb lent room) r
 
 -- The scratch of an answer that is no refusal has the marks.
 pub answered_scratch : (v : Checked) (new old : List ℕ) → Answered v → scratch_after v new old ≡ new
-answered_scratch Clean new old a = refl
-answered_scratch (Clash i) new old a = refl
-answered_scratch (Refused _ _) new old a = elim a [ ]
+answered_scratch (Ok clash) new old a = refl
+answered_scratch (Err refused) new old a = absurd a
 
 module _ (s : Settings) (n : ℕ) (accepted : window_refusal s n ≡ 0) (claims : List ℕ) where
   -- No claim has a resource past the room.
@@ -46,9 +45,9 @@ module _ (s : Settings) (n : ℕ) (accepted : window_refusal s n ≡ 0) (claims 
   unfolding room_of resources_of
   past claim t h = go (claimed s n claim) refl
     where
-      go : (a : Mapped) → claimed s n claim ≡ a → takes s a (t + s.n1) ≡ false
-      go (mapped.Refused k) e = refl
-      go (mapped.At r) e =
+      go : (a : Result Resource ℕ) → claimed s n claim ≡ a → takes s a (t + s.n1) ≡ false
+      go (Err k) e = refl
+      go (Ok r) e =
           let f = resource_range s n accepted (claim_position claim) (claim_cce claim) r.0 e in
           rw (ne_eqb r.0 (t + s.n1) (λ same. omega (arith, f.1))) (next (has_second_port s) h)
         where
@@ -63,23 +62,29 @@ module _ (s : Settings) (n : ℕ) (accepted : window_refusal s n ≡ 0) (claims 
   unmarked (suc e) t h = rw (past (get_or claims e 0) t h, unmarked e t h)
 
   module _ (old : List ℕ) (enough : bit_room_of s n ≤ length old) (e : ℕ) where
-    tail : drop (bit_room_of s n) (bit_marked_up_to s n claims old e) ≡ drop (bit_room_of s n) old
-    unfolding bit_marked_up_to
-    tail = drop_at (bytes_from (marked s n claims e) (bit_room_of s n) 0) _ (bit_room_of s n) (bytes_length (marked s n claims e) (bit_room_of s n) 0)
-
-    long : length (bit_marked_up_to s n claims old e) ≡ length old
-    unfolding bit_marked_up_to
-    long = simp (length-append, bytes_length, length-drop) (omega arith)
+    -- What is written, in front.
+    abbrev written : List ℕ
+    written = bits_laid (marked s n claims e) (room_of s n)
 
     by_bits : BitByBit s n claims old (bit_marked_up_to s n claims old e) e
+    unfolding bit_marked_up_to bit_room_of
     by_bits =
         record {
-          marks = λ t h. bits.bit_at_holds s n claims old e t (bits.byte_in_room s n t h);
-          unused = λ t past below. bits.bit_at_holds s n claims old e t (omega arith) ∙ rw (unmarked e t past);
-          bytes = λ j h. rw (bits.byte_at s n claims old e j h) (bits_below (marked s n claims e) 8 (8 * j));
-          kept = tail;
-          long = long;
+          marks = λ t h. bit t (byte_in_room (room_of s n) t h);
+          unused = λ t past below. bit t (omega arith) ∙ rw (unmarked e t past);
+          bytes = λ j h. rw (at j h, byte_at (marked s n claims e) (room_of s n) j h) (bits_below (marked s n claims e) 8 (8 * j));
+          kept = tail_kept written old (bit_room (room_of s n)) whole;
+          long = same_length written old (bit_room (room_of s n)) whole enough;
         }
+      where
+        whole : length written ≡ bit_room (room_of s n)
+        whole = bytes_length (marked s n claims e) (room_of s n)
+
+        at : (j : ℕ) → j < bit_room (room_of s n) → get_or (written ++ drop (bit_room (room_of s n)) old) j 0 ≡ get_or written j 0
+        at = front_at written old (bit_room (room_of s n)) whole
+
+        bit : (t : ℕ) → t / 8 < bit_room (room_of s n) → bit_at (written ++ drop (bit_room (room_of s n)) old) t ≡ cond (marked s n claims e t) 1 0
+        bit t h = rw (at (t / 8) h) (bit_at_holds (marked s n claims e) (room_of s n) t h)
 
     -- No other scratch is so, bit by bit.
     no_other : (new : List ℕ) → BitByBit s n claims old new e → new ≡ bit_marked_up_to s n claims old e
@@ -100,11 +105,11 @@ module _ (s : Settings) (n : ℕ) (accepted : window_refusal s n ≡ 0) (claims 
         front : take (bit_room_of s n) new ≡ bytes_from (marked s n claims e) (bit_room_of s n) 0
         front =
             ext_get_or 0 (take (bit_room_of s n) new) (bytes_from (marked s n claims e) (bit_room_of s n) 0)
-            (length-take-le (bit_room_of s n) new room_here ∙ sym (bytes_length (marked s n claims e) (bit_room_of s n) 0)) λ j h.
+            (length-take-le (bit_room_of s n) new room_here ∙ sym (length-map-range_with_len _ 0 (bit_room_of s n))) λ j h.
             let below : j < bit_room_of s n = rw (length-take-le (bit_room_of s n) new room_here) at h in
             get_or-take (bit_room_of s n) new j 0 below
             ∙ bits_only (marked s n claims e) 8 (8 * j) (get_or new j 0) (b.bytes j below) (at_bit j below)
-            ∙ sym (bytes_at (marked s n claims e) (bit_room_of s n) j below)
+            ∙ sym (get_or-map-range_with_len _ 0 (bit_room_of s n) j j 0 below (omega arith))
           where
             at_bit : (j : ℕ) → j < bit_room_of s n → (k : ℕ) → k < 8 → get_or new j 0 / 2 ^ k % 2 ≡ cond (marked s n claims e (8 * j + k)) 1 0
             at_bit j below k h =
@@ -113,7 +118,7 @@ module _ (s : Settings) (n : ℕ) (accepted : window_refusal s n ≡ 0) (claims 
                 rw (quotient, rest) at (bit (8 * j + k) (omega arith))
 
 module _ (s : Settings) (n : ℕ) (claims old : List ℕ) where
-  refused_left : (k i : ℕ) → bit_checked_of s n claims (length old) ≡ Refused k i → bit_scratch_of s n claims old ≡ old
+  refused_left : (k i : ℕ) → bit_checked_of s n claims (length old) ≡ Err (k, i) → bit_scratch_of s n claims old ≡ old
   unfolding bit_scratch_of
   refused_left k i e = rw e
 

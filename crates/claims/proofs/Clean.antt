@@ -1,6 +1,7 @@
 -- The answer is clean exactly when nothing is refused, no claim is bad and no resource of one claim is another's, over both ports and
 -- in either form of the scratch.
 -- Assumes nothing.
+use Rattle.std.proofs.Common.{Ok, Err, Some, None}
 use Prim.Native.Nat.{ℕ, zero, suc, ◌<◌}
 use mathlib.Core.Bool.{Bool, true, false, cond, false≢true}
 use mathlib.Core.List.{List}
@@ -13,7 +14,6 @@ use lib.ListN.{length, get_or}
 use borrow.Author.Tests.{le-ltb, ltb-false}
 use Rattle.frame.specs.declared.Settings.{Settings}
 use Rattle.frame.proofs.Bools.{neither_test, never_true}
-use Rattle.claims.specs.declared.Checked.TheVariants.{Clean, Clash, Refused}
 use Rattle.claims.specs.Claims.{is_bad, first_bad, clashes, earlier, first_clash, scratch_refusal, refused_or, checked_on, checked_with}
 use Rattle.claims.specs.Clean.{AllClean}
 use Rattle.claims.proofs.First.{first_none, first_bad_holds, first_clash_holds}
@@ -32,14 +32,14 @@ module _ (s : Settings) (n : ℕ) (claims : List ℕ) (x : ℕ) where
   earlier_none (suc e) h = rw (h e (omega arith)) (earlier_none e λ i b. h i (omega arith))
 
 -- Only one way leads to a clean answer.
-only_clean : (k x y : ℕ) (a b : Bool) → refused_or k (cond a (Refused 16 x) (cond b (Clash y) Clean)) ≡ Clean → (k ≡ 0) × (a ≡ false) × (b ≡ false)
+only_clean : (k x y : ℕ) (a b : Bool) → refused_or k (cond a (Err (16, x)) (Ok (cond b (Some y) None))) ≡ Ok None → (k ≡ 0) × (a ≡ false) × (b ≡ false)
 only_clean (suc k) x y a b e = let z : ◌≡◌ {A = ℕ} 0 1 = cc in absurd (omega arith)
 only_clean zero x y true b e = let z : ◌≡◌ {A = ℕ} 0 1 = cc in absurd (omega arith)
 only_clean zero x y false true e = let z : ◌≡◌ {A = ℕ} 0 1 = cc in absurd (omega arith)
 only_clean zero x y false false e = (refl, refl, refl)
 
 module _ (s : Settings) (n : ℕ) (claims : List ℕ) (room lent : ℕ) where
-  clean_to : checked_with s n claims room lent ≡ Clean → AllClean s n claims room lent
+  clean_to : checked_with s n claims room lent ≡ Ok None → AllClean s n claims room lent
   unfolding checked_with checked_on
   clean_to e =
       let f = only_clean (scratch_refusal s n room lent) (first_bad s n claims) (first_clash s n claims)
@@ -54,7 +54,7 @@ module _ (s : Settings) (n : ℕ) (claims : List ℕ) (room lent : ℕ) where
             false≢true (sym none ∙ (share_exactly s n (get_or claims i 0) (get_or claims j 0)).1 (r, p, q));
       }
 
-  clean_from : AllClean s n claims room lent → checked_with s n claims room lent ≡ Clean
+  clean_from : AllClean s n claims room lent → checked_with s n claims room lent ≡ Ok None
   unfolding checked_with checked_on first_bad first_clash
   clean_from a =
       let bad = first_none (λ (i : ℕ). is_bad s n (get_or claims i 0)) (length claims) (length claims) a.good (le_refl _) (le_refl _) in
@@ -65,5 +65,5 @@ module _ (s : Settings) (n : ℕ) (claims : List ℕ) (room lent : ℕ) where
       (le_refl _) (le_refl _) in
       rw (a.accepted, le-ltb (first_bad s n claims) (length claims) (omega arith), le-ltb (first_clash s n claims) (length claims) (omega arith))
 
-  pub clean_exactly : (checked_with s n claims room lent ≡ Clean) ↔ AllClean s n claims room lent
+  pub clean_exactly : (checked_with s n claims room lent ≡ Ok None) ↔ AllClean s n claims room lent
   clean_exactly = (clean_to, clean_from)

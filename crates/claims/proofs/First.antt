@@ -1,15 +1,16 @@
 -- `first_index` is the first index at which the test passes, and only that index is first; so for the first bad claim and the first clash.
 -- Assumes nothing.
 use Prim.Native.Nat.{ℕ, zero, suc, ◌+◌, ◌<◌, ◌≤◌}
-use mathlib.Core.Bool.{Bool, true, false, cond, false≢true}
-use mathlib.Core.List.{List}
+use mathlib.Core.Bool.{Bool, true, false, cond, not, false≢true}
+use mathlib.Core.List.{List, [], ◌∷◌}
 use mathlib.Core.Logic.{⊎_elim}
 use mathlib.Core.Path.{◌≡◌, refl, sym, ◌∙◌}
 use native.Mathlib.Nat.{eq-or-lt_of_le, zero-add}
 use native.Mathlib.Omega.{arith}
 use lib.ListN.{length, get_or}
+use Rattle.std.specs.List.{position, position_or_len}
 use Rattle.frame.specs.declared.Settings.{Settings}
-use Rattle.claims.specs.Claims.{is_bad, first_index, first_bad, earlier, first_clash}
+use Rattle.claims.specs.Claims.{is_bad, first_index, first_bad, earlier, first_clash, found}
 use Rattle.claims.specs.First.{First}
 
 module _ (test : ℕ → Bool) where
@@ -56,6 +57,27 @@ module _ (test : ℕ → Bool) where
     first_none a b =
         first_only_holds n i
         (record { least = omega arith; most = a; before = λ k low. before k; passes = λ h. absurd (omega arith) })
+
+-- In a list it is the place at which a search of the list stops.
+later : (test : ℕ → Bool) (count i : ℕ) → first_index test count (suc i) ≡ suc (first_index (λ k. test (suc k)) count i)
+later test zero i = refl
+later test (suc count) i = rw (later test count (suc i)) (go (test (suc i)))
+  where
+    go : (b : Bool) → cond b (suc i) (suc (first_index (λ k. test (suc k)) count (suc i))) ≡ suc (cond b i (first_index (λ k. test (suc k)) count (suc i)))
+    go true = refl
+    go false = refl
+
+first_in_list : (test : ℕ → Bool) (xs : List ℕ) → first_index (λ k. test (get_or xs k 0)) (length xs) 0 ≡ position_or_len test xs
+first_in_list test [] = refl
+first_in_list test (x ∷ xs) = rw (later (λ k. test (get_or (x ∷ xs) k 0)) (length xs) 0, first_in_list test xs) (go (test x))
+  where
+    go : (b : Bool) → cond b 0 (suc (position_or_len test xs)) ≡ cond (not b) (1 + position_or_len test xs) 0
+    go true = refl
+    go false = omega arith
+
+pub position_bad : (s : Settings) (n : ℕ) (claims : List ℕ) → position (is_bad s n) claims ≡ found (first_bad s n claims) (length claims)
+unfolding first_bad
+position_bad s n claims = rw (first_in_list (is_bad s n) claims)
 
 pub first_bad_holds : (s : Settings) (n : ℕ) (claims : List ℕ)
     → First (λ (i : ℕ). is_bad s n (get_or claims i 0)) 0 (length claims) (first_bad s n claims)

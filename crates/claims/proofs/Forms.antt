@@ -13,9 +13,9 @@ use Rattle.frame.specs.Settings.{or_else, window_refusal}
 use Rattle.claims.specs.Bits.{bit_room_of, bit_checked_of, bit_scratch_of}
 use Rattle.claims.specs.Claims.{room_of, first_clash, scratch_refusal, checked_on, refused_or, checked_with, checked_of, marked_up_to, scratch_of}
 use Rattle.claims.specs.Forms.{bit_at, Answered, FormsAgree}
-use Rattle.claims.proofs.Marks as bytes
 use Rattle.claims.proofs.BitByBit.{answered_scratch, answered_bits}
-use Rattle.claims.proofs.Read.{room_most}
+use Rattle.claims.proofs.Front.{byte_marked}
+use Rattle.claims.proofs.Counts.{room_most}
 
 -- Two forms that each have their scratch answer alike, and so do any two where settings or subframe are refused.
 module _ (s : Settings) (n : ℕ) (claims : List ℕ) (room lent room' lent' : ℕ) where
@@ -52,7 +52,7 @@ bit_is_byte : (s : Settings) (n : ℕ) (claims old bit_old : List ℕ) → Answe
 unfolding scratch_of
 bit_is_byte s n claims old bit_old a b t h =
     (answered_bits s n claims bit_old b).marks t h
-    ∙ sym (bytes.byte_at s n claims old (first_clash s n claims) t h)
+    ∙ sym (byte_marked s n claims old (first_clash s n claims) t h)
     ∙ ap (λ (l : List ℕ). get_or l t 0)
     (sym (answered_scratch (checked_of s n claims (length old)) (marked_up_to s n claims old (first_clash s n claims)) old a))
 

@@ -1,14 +1,13 @@
 pub mod BitByBit
-pub mod BitMarks
 pub mod Checks
 pub mod Clean
+pub mod Counts
 pub mod First
 pub mod Forms
-pub mod Marks
+pub mod Front
+pub mod Marked
 pub mod Offsets
 pub mod OnPorts
-pub mod Packed
-pub mod Read
 pub mod Share
 pub mod Turn
 pub mod Worked

@@ -1,5 +1,8 @@
 -- What document 02, U9, says of claims, proved: specs/OnPorts.antt.
 -- Assumes nothing.
+use Rattle.std.proofs.Common.{Result, Ok, Err}
+use Rattle.resource.specs.declared.ports.OnPorts.{OnPorts as BothPorts}
+use Rattle.resource.specs.declared.Resource.{Resource}
 use Prim.Native.Nat.{ℕ, zero, suc, ◌+◌, ◌-◌, ◌/◌, ◌<◌, ◌≤◌}
 use mathlib.Core.Bool.{Bool, true, false, cond, ◌||◌, or-true, false≢true}
 use mathlib.Core.List.{List, [], ◌∷◌}
@@ -14,26 +17,20 @@ use Rattle.frame.specs.declared.Settings.{Settings}
 use Rattle.frame.specs.Order.{member}
 use Rattle.frame.specs.Settings.{or_else, has_second_port, window_refusal}
 use Rattle.frame.proofs.Ports.{two_have_second, one_has_none}
-use Rattle.resource.specs.declared.Mapped.{Mapped}
-use Rattle.resource.specs.declared.Mapped.TheVariants as mapped
-use Rattle.resource.specs.declared.PortsMapped.{PortsMapped}
-use Rattle.resource.specs.declared.PortsMapped.TheVariants as both
 use Rattle.resource.specs.Ports.{second_port, on_ports, ports_of}
 use Rattle.resource.proofs.OneToOne.{resource_call, resource_range}
 use Rattle.resource.proofs.SecondPort.{port_above, call_most}
-use Rattle.claims.specs.declared.Checked.{Checked}
-use Rattle.claims.specs.declared.Checked.TheVariants.{Clean, Clash, Refused}
 use Rattle.claims.specs.Bits.{bit_room_of}
-use Rattle.claims.specs.Claims.{claim_position, claim_cce, claimed, resources_of, ports_more, room_of, is_bad, first_bad, takes, clashes, earlier, first_clash, scratch_refusal, checked_at, checked_on, refused_or, checked_with, checked_of, marked, marked_up_to, scratch_of}
+use Rattle.claims.specs.Claims.{claim_position, claim_cce, claimed, resources_of, ports_more, room_of, is_bad, first_bad, takes, clashes, earlier, first_clash, scratch_refusal, Checked, found, checked_at, checked_on, refused_or, checked_with, checked_of, marked, marked_up_to, scratch_of}
 use Rattle.claims.specs.Clean.{HasOnPort}
 use Rattle.claims.specs.Forms.{Answered}
 use Rattle.claims.specs.Marking.{Has}
 use Rattle.claims.specs.OnPorts.{OnPorts, TwoPorts, first_equal, OnePort, SameCell, MixedCell, ClaimsOnPorts}
 use Rattle.claims.proofs.BitByBit.{accepted_with, answered_scratch}
+use Rattle.claims.proofs.Front as front
 use Rattle.claims.proofs.First.{first_only_holds, first_bad_holds, first_clash_holds}
-use Rattle.claims.proofs.Marks as bytes
-use Rattle.claims.proofs.Marks.{either_first}
-use Rattle.claims.proofs.Read.{resources_most}
+use Rattle.claims.proofs.Counts.{resources_most}
+use Rattle.claims.proofs.Marked.{either_first}
 use Rattle.claims.proofs.Share.{one_of, one_resource, takes_to, takes_from, share_exactly, equal_exactly, apart_exactly}
 
 -- A number is among the first i + 1 of a list where it is the last of them or among the others.
@@ -68,21 +65,18 @@ module _ (s : Settings) (n a : ℕ) where
   abbrev c : ℕ
   c = claim_cce a
 
-  same_ports : (x p second q : ℕ) → both.At (record { 0 = x }) (record { 0 = second }) ≡ both.At (record { 0 = p }) (record { 0 = q }) → (x ≡ p) × (second ≡ q)
-  same_ports x p second q e = (ap (λ (y : PortsMapped). (numbers y).0) e, ap (λ (y : PortsMapped). (numbers y).1) e)
-    where
-      numbers : PortsMapped → ℕ × ℕ
-      numbers (both.At first next) = (first.0, next.0)
-      numbers (both.Refused k) = (0, 0)
+  abbrev numbers : Result BothPorts ℕ → ℕ × ℕ
+  numbers (Ok both) = (both.first.0, both.second.0)
+  numbers (Err k) = (0, 0)
 
-  given_exactly : (p q : ℕ) → ports_of s n m c ≡ both.At (record { 0 = p }) (record { 0 = q })
+  given_exactly : (p q : ℕ) → ports_of s n m c ≡ Ok (record { first = (record { 0 = p }); second = (record { 0 = q }) })
       → (r : ℕ) → HasOnPort s n a r ↔ ((r ≡ p) ⊎ ((s.ports ≡ 2) × (r ≡ q)))
   unfolding ports_of
   given_exactly p q e r = go (claimed s n a) refl e
     where
-      go : (x : Mapped) → claimed s n a ≡ x → on_ports s x ≡ both.At (record { 0 = p }) (record { 0 = q }) → HasOnPort s n a r ↔ ((r ≡ p) ⊎ ((s.ports ≡ 2) × (r ≡ q)))
-      go (mapped.At x) there e =
-          let f = same_ports x.0 p (second_port s x.0) q e in
+      go : (x : Result Resource ℕ) → claimed s n a ≡ x → on_ports s x ≡ Ok (record { first = (record { 0 = p }); second = (record { 0 = q }) }) → HasOnPort s n a r ↔ ((r ≡ p) ⊎ ((s.ports ≡ 2) × (r ≡ q)))
+      go (Ok x) there e =
+          let f : (x.0 ≡ p) × (second_port s x.0 ≡ q) = (ap (λ (y : Result BothPorts ℕ). (numbers y).0) e, ap (λ (y : Result BothPorts ℕ). (numbers y).1) e) in
           let above : s.ports ≡ 2 → second_port s x.0 ≡ x.0 + 1 = λ two. port_above s x.0 two (omega (arith, call_most s n m c x.0 there)) in (
             ⊎_elim
                 (λ has. inl (one_resource s n a r x.0 has there ∙ f.0))
@@ -93,15 +87,15 @@ module _ (s : Settings) (n a : ℕ) where
                 (λ e. inl (rw (e ∙ sym f.0) there))
                 (λ on. inr (on.0, x.0, there, on.1 ∙ sym f.1 ∙ above on.0)),
           )
-      go (mapped.Refused k) there e = let z : ◌≡◌ {A = ℕ} 0 1 = cc in absurd (omega arith)
+      go (Err k) there e = let z : ◌≡◌ {A = ℕ} 0 1 = cc in absurd (omega arith)
 
-  none_refused : (k : ℕ) → ports_of s n m c ≡ both.Refused k → (r : ℕ) → HasOnPort s n a r → ⊥
+  none_refused : (k : ℕ) → ports_of s n m c ≡ Err k → (r : ℕ) → HasOnPort s n a r → ⊥
   unfolding ports_of
   none_refused k e r on = go (claimed s n a) refl e (takes_from s n a r on)
     where
-      go : (x : Mapped) → claimed s n a ≡ x → on_ports s x ≡ both.Refused k → takes s (claimed s n a) r ≡ true → ⊥
-      go (mapped.At x) there e h = let z : ◌≡◌ {A = ℕ} 0 1 = cc in omega arith
-      go (mapped.Refused j) there e h = false≢true (sym (ap (λ (x : Mapped). takes s x r) there) ∙ h)
+      go : (x : Result Resource ℕ) → claimed s n a ≡ x → on_ports s x ≡ Err k → takes s (claimed s n a) r ≡ true → ⊥
+      go (Ok x) there e h = let z : ◌≡◌ {A = ℕ} 0 1 = cc in omega arith
+      go (Err j) there e h = false≢true (sym (ap (λ (x : Result Resource ℕ). takes s x r) there) ∙ h)
 
 on_ports_holds : (s : Settings) (n : ℕ) → OnPorts s n
 on_ports_holds s n =
@@ -203,7 +197,7 @@ module _ (s : Settings) (n : ℕ) (one : s.ports ≡ 1) where
   no_bad claims lent a i h = go (scratch_refusal s n (room_of s n) lent) (ltb (first_bad s n claims) (length claims)) refl a
     where
       go : (k : ℕ) (b : Bool) → ltb (first_bad s n claims) (length claims) ≡ b
-          → Answered (refused_or k (cond b (Refused 16 (first_bad s n claims)) (cond (ltb (first_clash s n claims) (length claims)) (Clash (first_clash s n claims)) Clean)))
+          → Answered (refused_or k (cond b (Err (16, first_bad s n claims)) (Ok (found (first_clash s n claims) (length claims)))))
           → is_bad s n (get_or claims i 0) ≡ false
       go (suc k) b e a = absurd a
       go zero true e a = absurd a
@@ -219,16 +213,16 @@ module _ (s : Settings) (n : ℕ) (one : s.ports ≡ 1) where
 
     byte_here : (t : ℕ) → t < resources_of s n → get_or (scratch_of s n claims old) t 0 ≡ cond (marked s n claims (first_equal claims) t) 1 0
     byte_here t h =
-        ap (λ (l : List ℕ). get_or l t 0) as_marked ∙ bytes.byte_at s n claims old (first_equal claims) t (rw same_room h)
+        ap (λ (l : List ℕ). get_or l t 0) as_marked ∙ front.byte_marked s n claims old (first_equal claims) t (rw same_room h)
 
     kept_later : drop (resources_of s n) (scratch_of s n claims old) ≡ drop (resources_of s n) old
-    kept_later = rw (as_marked, ← same_room) (bytes.tail_kept s n claims old (first_equal claims))
+    kept_later = rw (as_marked, ← same_room) (front.later_kept s n claims old (first_equal claims))
 
     as_long : length (scratch_of s n claims old) ≡ length old
-    as_long = ap length as_marked ∙ bytes.marked_length s n claims old (first_equal claims) (accepted_with s n claims (room_of s n) (length old) a).1
+    as_long = ap length as_marked ∙ front.as_long s n claims old (first_equal claims) (accepted_with s n claims (room_of s n) (length old) a).1
 
   -- On a refusal the scratch is as it was.
-  as_was : (claims old : List ℕ) (k i : ℕ) → checked_of s n claims (length old) ≡ Refused k i → scratch_of s n claims old ≡ old
+  as_was : (claims old : List ℕ) (k i : ℕ) → checked_of s n claims (length old) ≡ Err (k, i) → scratch_of s n claims old ≡ old
   unfolding scratch_of
   as_was claims old k i e = rw e
 
@@ -236,9 +230,8 @@ module _ (s : Settings) (n : ℕ) (one : s.ports ≡ 1) where
   always_long claims old = go (checked_of s n claims (length old)) refl
     where
       go : (v : Checked) → checked_of s n claims (length old) ≡ v → length (scratch_of s n claims old) ≡ length old
-      go Clean e = as_long claims old (rw e tt)
-      go (Clash i) e = as_long claims old (rw e tt)
-      go (Refused k i) e = ap length (as_was claims old k i e)
+      go (Ok clash) e = as_long claims old (rw e tt)
+      go (Err (k, i)) e = ap length (as_was claims old k i e)
 
   one_port_holds : OnePort s n
   one_port_holds =

@@ -1,6 +1,8 @@
 -- When two claims clash: exactly when a resource of one is a resource of the other, over both ports. With one port those are equal claims,
 -- with two they are claims whose first resources are at most 1 apart.
 -- Assumes nothing.
+use Rattle.std.proofs.Common.{Result, Ok, Err}
+use Rattle.resource.specs.declared.Resource.{Resource}
 use Prim.Native.Nat.{ℕ, ◌+◌, ◌<◌, ◌≤◌}
 use mathlib.Core.Bool.{Bool, true, false, not, ◌&&◌, ◌||◌, or-true, or-false, not-not, false≢true}
 use mathlib.Core.Logic.{◌⊎◌, inl, inr, ⊎_elim, ◌↔◌}
@@ -13,8 +15,6 @@ use Rattle.frame.specs.declared.Settings.{Settings}
 use Rattle.frame.specs.Settings.{has_second_port, window_refusal}
 use Rattle.frame.proofs.Bools.{both}
 use Rattle.frame.proofs.Ports.{second_of_two, two_have_second}
-use Rattle.resource.specs.declared.Mapped.{Mapped}
-use Rattle.resource.specs.declared.Mapped.TheVariants as mapped
 use Rattle.resource.specs.Calls.{size_of}
 use Rattle.resource.specs.Formula.{edge}
 use Rattle.resource.proofs.OneToOne.{calls_one_to_one}
@@ -51,13 +51,13 @@ module _ (s : Settings) (n : ℕ) where
   pub takes_to : (claim r : ℕ) → takes s (claimed s n claim) r ≡ true → HasOnPort s n claim r
   takes_to claim r h = go (claimed s n claim) refl h
     where
-      go : (a : Mapped) → claimed s n claim ≡ a → takes s a r ≡ true → HasOnPort s n claim r
-      go (mapped.At x) e h =
+      go : (a : Result Resource ℕ) → claimed s n claim ≡ a → takes s a r ≡ true → HasOnPort s n claim r
+      go (Ok x) e h =
           ⊎_elim
-          (λ same. inl (subst (λ (q : ℕ). claimed s n claim ≡ mapped.At (record { 0 = q })) (eqb-true x.0 r same) e))
+          (λ same. inl (subst (λ (q : ℕ). claimed s n claim ≡ Ok (record { 0 = q })) (eqb-true x.0 r same) e))
           (λ next. let f = both (has_second_port s) (eqb (x.0 + 1) r) next in inr (second_of_two s f.0, x.0, e, sym (eqb-true (x.0 + 1) r f.1)))
           (one_of (eqb x.0 r) (has_second_port s && eqb (x.0 + 1) r) h)
-      go (mapped.Refused k) e h = absurd (false≢true h)
+      go (Err k) e h = absurd (false≢true h)
 
   pub takes_from : (claim r : ℕ) → HasOnPort s n claim r → takes s (claimed s n claim) r ≡ true
   takes_from claim r (inl has) = rw (has, eq-eqb r r refl)
@@ -69,15 +69,15 @@ module _ (s : Settings) (n : ℕ) where
   unfolding clashes
   share_exactly a b = (λ e. to (claimed s n b) refl e, from)
     where
-      to : (y : Mapped) → claimed s n b ≡ y → meets s (claimed s n a) y ≡ true → (r : ℕ) × HasOnPort s n a r × HasOnPort s n b r
-      to (mapped.At y) e h =
+      to : (y : Result Resource ℕ) → claimed s n b ≡ y → meets s (claimed s n a) y ≡ true → (r : ℕ) × HasOnPort s n a r × HasOnPort s n b r
+      to (Ok y) e h =
           ⊎_elim
           (λ first. (y.0, takes_to a y.0 first, inl e))
           (λ next.
           let f = both (has_second_port s) (takes s (claimed s n a) (y.0 + 1)) next in
           (y.0 + 1, takes_to a (y.0 + 1) f.1, inr (second_of_two s f.0, y.0, e, refl)))
           (one_of (takes s (claimed s n a) y.0) (has_second_port s && takes s (claimed s n a) (y.0 + 1)) h)
-      to (mapped.Refused k) e h = absurd (false≢true h)
+      to (Err k) e h = absurd (false≢true h)
 
       on : (r : ℕ) → HasOnPort s n a r → HasOnPort s n b r → meets s (claimed s n a) (claimed s n b) ≡ true
       on r has (inl there) = rw (there, takes_from a r has)
@@ -92,9 +92,9 @@ module _ (s : Settings) (n : ℕ) where
   pub one_resource : (a p q : ℕ) → Has s n a p → Has s n a q → p ≡ q
   one_resource a p q ha hb = ap number (sym ha ∙ hb)
     where
-      number : Mapped → ℕ
-      number (mapped.At x) = x.0
-      number (mapped.Refused k) = 0
+      number : Result Resource ℕ → ℕ
+      number (Ok x) = x.0
+      number (Err k) = 0
 
   -- With one port, and where neither is bad: exactly if they are equal.
   pub equal_exactly : has_second_port s ≡ false → window_refusal s n ≡ 0 → (a b : ℕ) → is_bad s n a ≡ false → is_bad s n b ≡ false → clashes s n a b ≡ eqb a b

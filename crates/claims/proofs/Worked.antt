@@ -1,6 +1,7 @@
 -- Claims on numbers: in the cell of document 01's cases with one antenna port by bits (document 02, U6) and with two (U9), and in the
 -- widest window.
 -- Assumes nothing.
+use Rattle.std.proofs.Common.{Ok, Err, Some, None}
 use Prim.Native.Nat.{ℕ, ◌+◌, ◌*◌}
 use mathlib.Core.List.{List, [], ◌∷◌, ◌++◌}
 use mathlib.Core.Path.{◌≡◌, refl}
@@ -11,10 +12,8 @@ use Rattle.frame.specs.Special.{special_refusal}
 use Rattle.frame.specs.Table.{table, window_of}
 use Rattle.resource.specs.Calls.{pair_refusal, resource_of}
 use Rattle.resource.specs.Formula.{edge, region_of, resource_number}
-use Rattle.claims.specs.declared.Checked.{Checked}
-use Rattle.claims.specs.declared.Checked.TheVariants.{Clean, Clash, Refused}
 use Rattle.claims.specs.Bits.{bit_room_of, bit_checked_of, bit_marked_up_to, bit_scratch_of}
-use Rattle.claims.specs.Claims.{resources_of, room_of, is_bad, first_bad, clashes, first_clash, scratch_refusal, checked_on, checked_with, checked_of, marked_up_to, scratch_of}
+use Rattle.claims.specs.Claims.{resources_of, room_of, is_bad, first_bad, clashes, first_clash, scratch_refusal, Checked, checked_on, checked_with, checked_of, marked_up_to, scratch_of}
 
 -- A cell in mode 0, of one block, with no scheduled resource, in which special subframes carry data; the last number is that of the
 -- antenna ports.
@@ -41,15 +40,15 @@ ComesTo claims v new = (bit_checked_of cell 2 claims 17 ≡ v) × (bit_scratch_o
 pub record InTheCell : Type 0 where
   pub rooms : (room_of cell 2 ≡ 122) × (bit_room_of cell 2 ≡ 16)
   -- resources 10, 20 and 21 are offsets 0, 10 and 11: bit 0 of byte 0, bits 2 and 3, which is 12, of byte 1; byte 16 keeps its value
-  pub clean : ComesTo (claim_of 0 0 ∷ claim_of 0 10 ∷ claim_of 1 0 ∷ []) Clean (1 ∷ 12 ∷ replicate 14 0 ++ 255 ∷ [])
+  pub clean : ComesTo (claim_of 0 0 ∷ claim_of 0 10 ∷ claim_of 1 0 ∷ []) (Ok None) (1 ∷ 12 ∷ replicate 14 0 ++ 255 ∷ [])
   -- only the claims before the clash are marked
-  pub clash : ComesTo (claim_of 0 0 ∷ claim_of 0 10 ∷ claim_of 0 0 ∷ claim_of 1 0 ∷ []) (Clash 2) (1 ∷ 4 ∷ replicate 14 0 ++ 255 ∷ [])
+  pub clash : ComesTo (claim_of 0 0 ∷ claim_of 0 10 ∷ claim_of 0 0 ∷ claim_of 1 0 ∷ []) (Ok (Some 2)) (1 ∷ 4 ∷ replicate 14 0 ++ 255 ∷ [])
   -- resource 131, the last, is offset 121: bit 1 of byte 15, whose six unused bits are 0
-  pub last : ComesTo (claim_of 1 60 ∷ []) Clean (replicate 15 0 ++ 2 ∷ 255 ∷ [])
-  pub empty : ComesTo [] Clean (replicate 16 0 ++ 255 ∷ [])
+  pub last : ComesTo (claim_of 1 60 ∷ []) (Ok None) (replicate 15 0 ++ 2 ∷ 255 ∷ [])
+  pub empty : ComesTo [] (Ok None) (replicate 16 0 ++ 255 ∷ [])
   -- CCE 61 is bad, after a clash too, and nothing is written
-  pub bad : ComesTo (claim_of 0 5 ∷ claim_of 0 5 ∷ claim_of 0 61 ∷ []) (Refused 16 2) dirty
-  pub short : (bit_checked_of cell 2 [] 15 ≡ Refused 15 0) × (bit_scratch_of cell 2 [] (replicate 15 255) ≡ replicate 15 255)
+  pub bad : ComesTo (claim_of 0 5 ∷ claim_of 0 5 ∷ claim_of 0 61 ∷ []) (Err (16, 2)) dirty
+  pub short : (bit_checked_of cell 2 [] 15 ≡ Err (15, 0)) × (bit_scratch_of cell 2 [] (replicate 15 255) ≡ replicate 15 255)
 
 pub in_the_cell : InTheCell
 unfolding cell_refusal mode_refusal blocks_refusal has_scheduled scheduled_refusal special_refusal has_second_port ports_mode_refusal ports_refusal later_refusal settings_refusal no_window_refusal window_refusal table window_of pair_refusal resource_of edge region_of resource_number bit_room_of bit_marked_up_to bit_scratch_of resources_of room_of is_bad first_bad clashes first_clash scratch_refusal checked_on checked_with
@@ -75,21 +74,21 @@ dirty_bytes = replicate 124 255
 pub record OnTwoPorts : Type 0 where
   pub rooms : (room_of two_ports 2 ≡ 123) × (bit_room_of two_ports 2 ≡ 16)
   -- U9: "(0,10) takes 20 and 21, (1,0) 21 and 22", a clash; offsets 10 and 11 are marked
-  pub clash : (checked_of two_ports 2 (claim_of 0 10 ∷ claim_of 1 0 ∷ []) 124 ≡ Clash 1)
+  pub clash : (checked_of two_ports 2 (claim_of 0 10 ∷ claim_of 1 0 ∷ []) 124 ≡ Ok (Some 1))
       × (scratch_of two_ports 2 (claim_of 0 10 ∷ claim_of 1 0 ∷ []) dirty_bytes ≡ replicate 10 0 ++ 1 ∷ 1 ∷ replicate 111 0 ++ 255 ∷ [])
-  pub bit_clash : (bit_checked_of two_ports 2 (claim_of 0 10 ∷ claim_of 1 0 ∷ []) 17 ≡ Clash 1)
+  pub bit_clash : (bit_checked_of two_ports 2 (claim_of 0 10 ∷ claim_of 1 0 ∷ []) 17 ≡ Ok (Some 1))
       × (bit_scratch_of two_ports 2 (claim_of 0 10 ∷ claim_of 1 0 ∷ []) dirty ≡ 0 ∷ 12 ∷ replicate 14 0 ++ 255 ∷ [])
   -- in the other order too: 21 and 22, then 20 and 21
-  pub downward : checked_of two_ports 2 (claim_of 1 0 ∷ claim_of 0 10 ∷ []) 124 ≡ Clash 1
+  pub downward : checked_of two_ports 2 (claim_of 1 0 ∷ claim_of 0 10 ∷ []) 124 ≡ Ok (Some 1)
   -- (0,10) and (1,1), which takes 22 and 23, are clean: bits 2 to 5 of byte 1 are 4 + 8 + 16 + 32
-  pub clean : (bit_checked_of two_ports 2 (claim_of 0 10 ∷ claim_of 1 1 ∷ []) 17 ≡ Clean)
+  pub clean : (bit_checked_of two_ports 2 (claim_of 0 10 ∷ claim_of 1 1 ∷ []) 17 ≡ Ok None)
       × (bit_scratch_of two_ports 2 (claim_of 0 10 ∷ claim_of 1 1 ∷ []) dirty ≡ 0 ∷ 60 ∷ replicate 14 0 ++ 255 ∷ [])
   -- the last claim takes 131 and 132: offset 122 is the one resource more
-  pub last : (checked_of two_ports 2 (claim_of 1 60 ∷ []) 123 ≡ Clean)
+  pub last : (checked_of two_ports 2 (claim_of 1 60 ∷ []) 123 ≡ Ok None)
       × (scratch_of two_ports 2 (claim_of 1 60 ∷ []) dirty_bytes ≡ replicate 121 0 ++ 1 ∷ 1 ∷ 255 ∷ [])
-  pub short : (checked_of two_ports 2 [] 122 ≡ Refused 15 0) × (bit_checked_of two_ports 2 [] 15 ≡ Refused 15 0)
+  pub short : (checked_of two_ports 2 [] 122 ≡ Err (15, 0)) × (bit_checked_of two_ports 2 [] 15 ≡ Err (15, 0))
   -- with one port the two are clean
-  pub one_port : checked_of cell 2 (claim_of 0 10 ∷ claim_of 1 0 ∷ []) 124 ≡ Clean
+  pub one_port : checked_of cell 2 (claim_of 0 10 ∷ claim_of 1 0 ∷ []) 124 ≡ Ok None
 
 pub on_two_ports_holds : OnTwoPorts
 unfolding cell_refusal mode_refusal blocks_refusal has_scheduled scheduled_refusal special_refusal has_second_port ports_mode_refusal ports_refusal later_refusal settings_refusal no_window_refusal window_refusal table window_of pair_refusal resource_of edge region_of resource_number bit_room_of bit_marked_up_to bit_scratch_of resources_of room_of is_bad first_bad clashes first_clash scratch_refusal checked_on checked_with marked_up_to scratch_of
@@ -109,8 +108,8 @@ on_two_ports_holds =
 -- that the two forms do not answer alike where one of them has too little.
 pub record InTheWidest : Type 0 where
   pub rooms : (room_of (plain 5 110 0 1) 2 ≡ 1206) × (bit_room_of (plain 5 110 0 1) 2 ≡ 151)
-  pub bits : (bit_checked_of (plain 5 110 0 1) 2 [] 151 ≡ Clean) × (bit_checked_of (plain 5 110 0 1) 2 [] 150 ≡ Refused 15 0)
-  pub bytes : checked_of (plain 5 110 0 1) 2 [] 151 ≡ Refused 15 0
+  pub bits : (bit_checked_of (plain 5 110 0 1) 2 [] 151 ≡ Ok None) × (bit_checked_of (plain 5 110 0 1) 2 [] 150 ≡ Err (15, 0))
+  pub bytes : checked_of (plain 5 110 0 1) 2 [] 151 ≡ Err (15, 0)
   -- with two ports it has one resource more, and the bits have room for it
   pub two_ports : (room_of (plain 5 110 0 2) 2 ≡ 1207) × (bit_room_of (plain 5 110 0 2) 2 ≡ 151)
 

@@ -1,10 +1,10 @@
 -- Claims of a cell with one bit for each resource: document 02, U6 and U9. The answer is that of the byte form; resource t + N1 has bit
 -- t mod 8 of byte t / 8.
 -- Assumes nothing.
-use Rattle.std.specs.Prelude.{ℕ, zero, suc, ◌+◌, ◌*◌, ◌/◌, Bool, cond, List, [], ◌∷◌, ◌++◌, length, drop}
+use Rattle.std.specs.Prelude.{ℕ, zero, suc, ◌+◌, ◌*◌, ◌/◌, Bool, cond, List, ◌++◌, map, length, drop}
+use Rattle.std.specs.List.{range_with_len}
 use Rattle.frame.specs.declared.Settings.{Settings}
-use Rattle.claims.specs.declared.Checked.{Checked}
-use Rattle.claims.specs.Claims.{room_of, first_clash, checked_with, marked, scratch_after}
+use Rattle.claims.specs.Claims.{room_of, first_clash, Checked, checked_with, marked, scratch_after}
 
 -- The scratch that is asked for, in bytes: (M × N_4 + 7) / 8, with two ports (M × N_4 + 8) / 8, rounded down.
 unfoldable pub bit_room_of : Settings → ℕ → ℕ
@@ -21,8 +21,7 @@ bits_from test (suc count) t = cond (test t) 1 0 + 2 * bits_from test count (suc
 
 -- The bytes j, j + 1, .., `count` of them: byte j has the bits from 8 × j on.
 abbrev pub bytes_from : (ℕ → Bool) → ℕ → ℕ → List ℕ
-bytes_from test zero j = []
-bytes_from test (suc count) j = bits_from test 8 (8 * j) ∷ bytes_from test count (suc j)
+bytes_from test count j = map (λ (k : ℕ). bits_from test 8 (8 * k)) (range_with_len j count)
 
 -- The scratch with the marks of the claims before index e; bytes from (M × N_4 + 7) / 8 on, with two ports from (M × N_4 + 8) / 8 on,
 -- keep their values.

@@ -1,14 +1,14 @@
 -- Claims of a cell: document 01, "Claims of a cell" and refusals 15 and 16; document 02, U9.
 -- Assumes nothing.
-use Rattle.std.specs.Prelude.{ℕ, zero, suc, ◌+◌, ◌*◌, ◌/◌, ◌%◌, Bool, false, cond, not, ◌&&◌, ◌||◌, List, [], ◌∷◌, ◌++◌, ltb, eqb, length, get_or, drop}
+use Rattle.std.specs.Prelude.{Result, Ok, Err, Option, Some, None, ℕ, zero, suc, ◌+◌, ◌*◌, ◌/◌, ◌%◌, Bool, false, cond, not, ◌&&◌, ◌||◌, List, ◌++◌, map, ltb, eqb, length, get_or, drop}
+use Rattle.std.specs.List.{range_with_len}
+use Rattle.resource.specs.declared.Resource.{Resource}
 use Rattle.frame.specs.declared.Settings.{Settings}
+use Rattle.frame.specs.Refusals.{number_of}
 use Rattle.frame.specs.Settings.{or_else, has_second_port, window_refusal}
-use Rattle.resource.specs.declared.Mapped.{Mapped}
-use Rattle.resource.specs.declared.Mapped.TheVariants as mapped
 use Rattle.resource.specs.Calls.{size_of, resource_of}
 use Rattle.resource.specs.Formula.{edge}
-use Rattle.claims.specs.declared.Checked.{Checked}
-use Rattle.claims.specs.declared.Checked.TheVariants.{Clean, Clash, Refused}
+use Rattle.claims.specs.declared.RefusedClaims.{RefusedClaims}
 
 -- A claim is m × 256 + first CCE.
 abbrev pub claim_position : ℕ → ℕ
@@ -18,7 +18,7 @@ abbrev pub claim_cce : ℕ → ℕ
 claim_cce claim = claim % 256
 
 -- The resource call's answer for a claim.
-abbrev pub claimed : Settings → ℕ → ℕ → Mapped
+abbrev pub claimed : Settings → ℕ → ℕ → Result Resource ℕ
 claimed s n claim = resource_of s n (claim_position claim) (claim_cce claim)
 
 -- M × N_4, the number of resources of the window.
@@ -48,14 +48,14 @@ unfoldable pub first_bad : Settings → ℕ → List ℕ → ℕ
 first_bad s n claims = first_index (λ (i : ℕ). is_bad s n (get_or claims i 0)) (length claims) 0
 
 -- A claim takes resource r, where the resource call gave its answer: r is that of the first port, or with two ports the one above it.
-abbrev pub takes : Settings → Mapped → ℕ → Bool
-takes s (mapped.At x) r = eqb x.0 r || (has_second_port s && eqb (x.0 + 1) r)
-takes s (mapped.Refused k) r = false
+abbrev pub takes : Settings → Result Resource ℕ → ℕ → Bool
+takes s (Ok x) r = eqb x.0 r || (has_second_port s && eqb (x.0 + 1) r)
+takes s (Err k) r = false
 
 -- Of two claims with these answers the later one takes a resource of the earlier one.
-abbrev pub meets : Settings → Mapped → Mapped → Bool
-meets s x (mapped.At y) = takes s x y.0 || (has_second_port s && takes s x (y.0 + 1))
-meets s x (mapped.Refused k) = false
+abbrev pub meets : Settings → Result Resource ℕ → Result Resource ℕ → Bool
+meets s x (Ok y) = takes s x y.0 || (has_second_port s && takes s x (y.0 + 1))
+meets s x (Err k) = false
 
 -- U9: "Two claims clash when any of their resources coincide". With one port, and where neither is bad, that is 01's "equal to an
 -- earlier one" (OnPorts.antt).
@@ -76,13 +76,26 @@ first_clash s n claims = first_index (λ (i : ℕ). earlier s n claims i (get_or
 unfoldable pub scratch_refusal : Settings → ℕ → ℕ → ℕ → ℕ
 scratch_refusal s n room lent = or_else (window_refusal s n) (cond (ltb lent room) 15 0)
 
+-- What a list of claims comes to: the index of the first claim that clashes with an earlier one, none where the list is clean; or a
+-- refusal's number with an index, that of the first bad claim for 16, else 0.
+abbrev pub Checked : Type 0
+Checked = Result (Option ℕ) (ℕ × ℕ)
+
+-- A result of the code with its refusal as a number.
+abbrev pub numbered_claims : Result (Option ℕ) RefusedClaims → Checked
+numbered_claims (Ok clash) = Ok clash
+numbered_claims (Err refused) = Err (number_of refused.refusal, refused.index)
+
+-- What a search of a list answers that ended at index i, of `count`: none where it came to the end.
+abbrev pub found : ℕ → ℕ → Option ℕ
+found i count = cond (ltb i count) (Some i) None
+
 -- 01's answer of a list that is not refused for settings, subframe or scratch, where `clash` is the index of the first clash: 16 for a
 -- bad claim anywhere, with the first one's index; else that index; else, where it is the length of the list, clean.
 abbrev pub checked_at : Settings → ℕ → List ℕ → ℕ → Checked
 checked_at s n claims clash =
-    cond (ltb (first_bad s n claims) (length claims)) (Refused 16 (first_bad s n claims))
-    (cond (ltb clash (length claims)) (Clash clash)
-    Clean)
+    cond (ltb (first_bad s n claims) (length claims)) (Err (16, first_bad s n claims))
+    (Ok (found clash (length claims)))
 
 -- The first clash is that of the first claim that clashes with an earlier one.
 unfoldable pub checked_on : Settings → ℕ → List ℕ → Checked
@@ -90,7 +103,7 @@ checked_on s n claims = checked_at s n claims (first_clash s n claims)
 
 abbrev pub refused_or : ℕ → Checked → Checked
 refused_or zero checked = checked
-refused_or (suc k) checked = Refused (suc k) 0
+refused_or (suc k) checked = Err (suc k, 0)
 
 -- The answer to a list of claims with a scratch of `lent` bytes, in a form that asks for `room`.
 unfoldable pub checked_with : Settings → ℕ → List ℕ → ℕ → ℕ → Checked
@@ -107,8 +120,7 @@ marked s n claims (suc e) t = takes s (claimed s n (get_or claims e 0)) (t + s.n
 
 -- The bytes t, t + 1, .., `count` of them: 1 where the test passes, else 0.
 abbrev pub marks_from : (ℕ → Bool) → ℕ → ℕ → List ℕ
-marks_from test zero t = []
-marks_from test (suc count) t = cond (test t) 1 0 ∷ marks_from test count (suc t)
+marks_from test count t = map (λ (k : ℕ). cond (test k) 1 0) (range_with_len t count)
 
 -- The scratch with the marks of the claims before index e; bytes from M × N_4 on, with two ports from M × N_4 + 1 on, keep their
 -- values.
@@ -117,9 +129,8 @@ marked_up_to s n claims old e = marks_from (marked s n claims e) (room_of s n) 0
 
 -- The scratch after the call, given the one with the marks: as it was on a refusal, 16 included.
 abbrev pub scratch_after : Checked → List ℕ → List ℕ → List ℕ
-scratch_after Clean new old = new
-scratch_after (Clash i) new old = new
-scratch_after (Refused k i) new old = old
+scratch_after (Ok clash) new old = new
+scratch_after (Err refused) new old = old
 
 -- The byte form's: the marks of the claims before the clash, of all where there is none.
 unfoldable pub scratch_of : Settings → ℕ → List ℕ → List ℕ → List ℕ

@@ -1,12 +1,10 @@
 -- What document 02, U6, says of the two forms of the scratch, bytes and bits.
 -- Assumes nothing.
-use Rattle.std.specs.Prelude.{ℕ, ◌+◌, ◌*◌, ◌/◌, ◌%◌, ◌^◌, ◌<◌, ◌≤◌, cond, List, ◌≡◌, length, get_or, drop}
+use Rattle.std.specs.Prelude.{Ok, Err, ℕ, ◌+◌, ◌*◌, ◌/◌, ◌%◌, ◌^◌, ◌<◌, ◌≤◌, cond, List, ◌≡◌, length, get_or, drop}
 use Rattle.frame.specs.declared.Settings.{Settings}
 use Rattle.frame.specs.Settings.{window_refusal}
-use Rattle.claims.specs.declared.Checked.{Checked}
-use Rattle.claims.specs.declared.Checked.TheVariants.{Clean, Clash, Refused}
 use Rattle.claims.specs.Bits.{bit_room_of, bit_checked_of, bit_scratch_of}
-use Rattle.claims.specs.Claims.{room_of, first_clash, checked_of, marked, scratch_of}
+use Rattle.claims.specs.Claims.{room_of, first_clash, Checked, checked_of, marked, scratch_of}
 
 -- Bit t of a scratch: bit t mod 8 of byte t / 8, rounded down.
 abbrev pub bit_at : List ℕ → ℕ → ℕ
@@ -26,13 +24,12 @@ pub record BitByBit (s : Settings) (n : ℕ) (claims old new : List ℕ) (e : �
 
 -- The answer is no refusal.
 abbrev pub Answered : Checked → Type 0
-Answered Clean = Unit
-Answered (Clash i) = Unit
-Answered (Refused k i) = ⊥
+Answered (Ok clash) = Unit
+Answered (Err refused) = ⊥
 
 -- The call of the bit form: on a refusal every byte is as it was; else each bit is what 02 says, and no other scratch is so.
 pub record BitForm : Type 0 where
-  pub refused : (s : Settings) (n : ℕ) (claims old : List ℕ) (k i : ℕ) → bit_checked_of s n claims (length old) ≡ Refused k i
+  pub refused : (s : Settings) (n : ℕ) (claims old : List ℕ) (k i : ℕ) → bit_checked_of s n claims (length old) ≡ Err (k, i)
       → bit_scratch_of s n claims old ≡ old
   pub answered : (s : Settings) (n : ℕ) (claims old : List ℕ) → Answered (bit_checked_of s n claims (length old))
       → BitByBit s n claims old (bit_scratch_of s n claims old) (first_clash s n claims)

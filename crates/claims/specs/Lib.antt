@@ -2,6 +2,8 @@ pub mod Bits
 pub mod Claims
 pub mod Clean
 pub mod First
+pub mod Form
 pub mod Forms
+pub mod Laws
 pub mod Marking
 pub mod OnPorts

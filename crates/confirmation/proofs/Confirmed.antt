@@ -1,5 +1,6 @@
 -- What is confirmed, exactly, whatever was heard: the definition's tests said in words (specs/Exactly.antt), both ways.
 -- Assumes nothing.
+use Rattle.std.proofs.Common.{Result, Ok, Err}
 use Prim.Native.Nat.{ℕ, ◌/◌, ◌%◌, ◌^◌, ◌<◌, ◌≤◌}
 use mathlib.Core.Bool.{Bool, true, false, ◌&&◌, ◌||◌, and-false, or-true, false≢true}
 use mathlib.Core.List.{List}
@@ -87,7 +88,7 @@ module _ (ks : List ℕ) (sent : ℕ → Send) where
   says_named (place.Block m) w = rw (lt-ltb m (length ks) w.0, w.1)
 
   -- A confirmed block stands at a position of the window, what was sent there carries it, and the reading acknowledges it.
-  pub carried : (read : Reading) (m block : ℕ) → confirmed ks sent read m block ≡ true
+  pub carried : (read : Result Reading ℕ) (m block : ℕ) → confirmed ks sent read m block ≡ true
       → (m < length ks) × (block < blocks_of (sent (get_or ks m 0))) × (says_ack ks sent read m block ≡ true)
   unfolding confirmed
   carried read m block e =
@@ -95,7 +96,7 @@ module _ (ks : List ℕ) (sent : ℕ → Send) where
       let b = both (ltb m (length ks)) (ltb block (blocks_of (sent (get_or ks m 0)))) a.0 in
       (ltb-true m (length ks) b.0, ltb-true block (blocks_of (sent (get_or ks m 0))) b.1, a.1)
 
-  carries_on : (read : Reading) (m block : ℕ) → m < length ks → block < blocks_of (sent (get_or ks m 0)) → says_ack ks sent read m block ≡ true
+  carries_on : (read : Result Reading ℕ) (m block : ℕ) → m < length ks → block < blocks_of (sent (get_or ks m 0)) → says_ack ks sent read m block ≡ true
       → confirmed ks sent read m block ≡ true
   unfolding confirmed
   carries_on read m block inside carries says =
@@ -109,9 +110,9 @@ module _ (ks : List ℕ) (sent : ℕ → Send) where
     pub carries : block < blocks_of (sent (get_or ks m 0))
     pub bits : Acknowledges (sent (get_or ks m 0)) block b0 b1
 
-  bundled_says : (p : Place) (b0 b1 m block : ℕ) → confirmed ks sent (reading.Bundled p b0 b1) m block ≡ true → Bundles p b0 b1 m block
+  bundled_says : (p : Place) (b0 b1 m block : ℕ) → confirmed ks sent (Ok (reading.Bundled p b0 b1)) m block ≡ true → Bundles p b0 b1 m block
   bundled_says p b0 b1 m block e =
-      let c = carried (reading.Bundled p b0 b1) m block e in
+      let c = carried (Ok (reading.Bundled p b0 b1)) m block e in
       let a = both (named_sent ks sent p && holds_for ks sent p (get_or ks m 0)) (acknowledged (sent (get_or ks m 0)) block b0 b1) c.2 in
       let n = both (named_sent ks sent p) (holds_for ks sent p (get_or ks m 0)) a.0 in
       record {
@@ -122,79 +123,79 @@ module _ (ks : List ℕ) (sent : ℕ → Send) where
         bits = acknowledged_says (sent (get_or ks m 0)) block b0 b1 a.1;
       }
 
-  says_bundled : (p : Place) (b0 b1 m block : ℕ) → Bundles p b0 b1 m block → confirmed ks sent (reading.Bundled p b0 b1) m block ≡ true
+  says_bundled : (p : Place) (b0 b1 m block : ℕ) → Bundles p b0 b1 m block → confirmed ks sent (Ok (reading.Bundled p b0 b1)) m block ≡ true
   says_bundled p b0 b1 m block b =
-      carries_on (reading.Bundled p b0 b1) m block b.inside b.carries
+      carries_on (Ok (reading.Bundled p b0 b1)) m block b.inside b.carries
       (rw (says_named p b.there, b.holds, says_acknowledged (sent (get_or ks m 0)) block b0 b1 b.bits))
 
   -- Exactly these blocks are confirmed: no other, above all none where what the reading names was not sent there with that first CCE.
   pub bundled_exactly : (named c b0 b1 m block : ℕ)
-      → (confirmed ks sent (reading.Bundled (place.Pdcch named (record { 0 = c })) b0 b1) m block ≡ true) ↔ BundledConfirmed ks sent named c b0 b1 m block
+      → (confirmed ks sent (Ok (reading.Bundled (place.Pdcch named (record { 0 = c })) b0 b1)) m block ≡ true) ↔ BundledConfirmed ks sent named c b0 b1 m block
   bundled_exactly named c b0 b1 m block = (to, from)
     where
-      to : confirmed ks sent (reading.Bundled (place.Pdcch named (record { 0 = c })) b0 b1) m block ≡ true → BundledConfirmed ks sent named c b0 b1 m block
+      to : confirmed ks sent (Ok (reading.Bundled (place.Pdcch named (record { 0 = c })) b0 b1)) m block ≡ true → BundledConfirmed ks sent named c b0 b1 m block
       to e =
           let b = bundled_says (place.Pdcch named (record { 0 = c })) b0 b1 m block e in
           let s = speaks_says (get_or ks named 0) (get_or ks m 0) b.holds in
           record { there = b.there; inside = b.inside; pdcch = s.0; carries = b.carries; up_to = s.1; bits = b.bits }
 
-      from : BundledConfirmed ks sent named c b0 b1 m block → confirmed ks sent (reading.Bundled (place.Pdcch named (record { 0 = c })) b0 b1) m block ≡ true
+      from : BundledConfirmed ks sent named c b0 b1 m block → confirmed ks sent (Ok (reading.Bundled (place.Pdcch named (record { 0 = c })) b0 b1)) m block ≡ true
       from b =
           says_bundled (place.Pdcch named (record { 0 = c })) b0 b1 m block
           (record { there = b.there; inside = b.inside; holds = says_speaks (get_or ks named 0) (get_or ks m 0) b.pdcch b.up_to; carries = b.carries; bits = b.bits })
 
   -- Read as the scheduled block: the blocks that it carries, and nothing else.
   pub block_exactly : (named b0 b1 m block : ℕ)
-      → (confirmed ks sent (reading.Bundled (place.Block named) b0 b1) m block ≡ true) ↔ BlockConfirmed ks sent named b0 b1 m block
+      → (confirmed ks sent (Ok (reading.Bundled (place.Block named) b0 b1)) m block ≡ true) ↔ BlockConfirmed ks sent named b0 b1 m block
   block_exactly named b0 b1 m block = (to, from)
     where
-      to : confirmed ks sent (reading.Bundled (place.Block named) b0 b1) m block ≡ true → BlockConfirmed ks sent named b0 b1 m block
+      to : confirmed ks sent (Ok (reading.Bundled (place.Block named) b0 b1)) m block ≡ true → BlockConfirmed ks sent named b0 b1 m block
       to e =
           let b = bundled_says (place.Block named) b0 b1 m block e in
           record { there = b.there; inside = b.inside; same = eqb-true (get_or ks m 0) (get_or ks named 0) b.holds; carries = b.carries; bits = b.bits }
 
-      from : BlockConfirmed ks sent named b0 b1 m block → confirmed ks sent (reading.Bundled (place.Block named) b0 b1) m block ≡ true
+      from : BlockConfirmed ks sent named b0 b1 m block → confirmed ks sent (Ok (reading.Bundled (place.Block named) b0 b1)) m block ≡ true
       from b =
           says_bundled (place.Block named) b0 b1 m block
           (record { there = b.there; inside = b.inside; holds = eq-eqb (get_or ks m 0) (get_or ks named 0) b.same; carries = b.carries; bits = b.bits })
 
   pub multiplexed_exactly : (named : Place) (positions m block : ℕ)
-      → (confirmed ks sent (reading.Multiplexed named positions) m block ≡ true) ↔ MultiplexedConfirmed ks sent named positions m block
+      → (confirmed ks sent (Ok (reading.Multiplexed named positions)) m block ≡ true) ↔ MultiplexedConfirmed ks sent named positions m block
   multiplexed_exactly named positions m block = (to, from)
     where
-      to : confirmed ks sent (reading.Multiplexed named positions) m block ≡ true → MultiplexedConfirmed ks sent named positions m block
+      to : confirmed ks sent (Ok (reading.Multiplexed named positions)) m block ≡ true → MultiplexedConfirmed ks sent named positions m block
       to e =
-          let c = carried (reading.Multiplexed named positions) m block e in
+          let c = carried (Ok (reading.Multiplexed named positions)) m block e in
           let n = both (named_sent ks sent named) (eqb (positions / 2 ^ m % 2) 1) c.2 in
           record { there = named_says named n.0; inside = c.0; carries = c.1; delivered = eqb-true (positions / 2 ^ m % 2) 1 n.1 }
 
-      from : MultiplexedConfirmed ks sent named positions m block → confirmed ks sent (reading.Multiplexed named positions) m block ≡ true
+      from : MultiplexedConfirmed ks sent named positions m block → confirmed ks sent (Ok (reading.Multiplexed named positions)) m block ≡ true
       from b =
-          carries_on (reading.Multiplexed named positions) m block b.inside b.carries
+          carries_on (Ok (reading.Multiplexed named positions)) m block b.inside b.carries
           (rw (says_named named b.there, eq-eqb (positions / 2 ^ m % 2) 1 b.delivered))
 
   -- A refused reading confirms nothing.
-  pub refused_none : (k m block : ℕ) → confirmed ks sent (reading.Refused k) m block ≡ false
+  pub refused_none : (k m block : ℕ) → confirmed ks sent (Err k) m block ≡ false
   unfolding confirmed
   refused_none k m block = and-false (ltb m (length ks) && ltb block (blocks_of (sent (get_or ks m 0))))
 
   -- Of a release nothing is confirmed: it carries no block.
-  pub release_none : (m : ℕ) (p : SentRelease) → sent (get_or ks m 0) ≡ send.Released p → (read : Reading) (block : ℕ)
+  pub release_none : (m : ℕ) (p : SentRelease) → sent (get_or ks m 0) ≡ send.Released p → (read : Result Reading ℕ) (block : ℕ)
       → confirmed ks sent read m block ≡ false
   release_none m p is read block =
       never_true (confirmed ks sent read m block) (λ e. let none : block < 0 = rw is at (carried read m block e).1 in omega arith)
 
   -- The ACK of a PDCCH confirms no scheduled block, and that of a scheduled block nothing that a PDCCH granted.
   pub pdcch_no_block : (named c b0 b1 m block : ℕ) → is_block (sent (get_or ks m 0)) ≡ true
-      → confirmed ks sent (reading.Bundled (place.Pdcch named (record { 0 = c })) b0 b1) m block ≡ false
+      → confirmed ks sent (Ok (reading.Bundled (place.Pdcch named (record { 0 = c })) b0 b1)) m block ≡ false
   pdcch_no_block named c b0 b1 m block is =
-      never_true (confirmed ks sent (reading.Bundled (place.Pdcch named (record { 0 = c })) b0 b1) m block)
+      never_true (confirmed ks sent (Ok (reading.Bundled (place.Pdcch named (record { 0 = c })) b0 b1)) m block)
       (λ e. apart (sent (get_or ks m 0)) ((bundled_exactly named c b0 b1 m block).0 e).pdcch is)
 
   pub block_no_pdcch : (named b0 b1 m block : ℕ) → is_pdcch (sent (get_or ks m 0)) ≡ true
-      → confirmed ks sent (reading.Bundled (place.Block named) b0 b1) m block ≡ false
+      → confirmed ks sent (Ok (reading.Bundled (place.Block named) b0 b1)) m block ≡ false
   block_no_pdcch named b0 b1 m block is =
-      never_true (confirmed ks sent (reading.Bundled (place.Block named) b0 b1) m block)
+      never_true (confirmed ks sent (Ok (reading.Bundled (place.Block named) b0 b1)) m block)
       (λ e.
       let b = (block_exactly named b0 b1 m block).0 e in
       apart (sent (get_or ks m 0)) is (rw b.same b.there.1))

@@ -1,6 +1,7 @@
 -- A station that sent the same in the subframes of a window is told the same position and confirms the same blocks there, whatever was
 -- sent at other times.
 -- Assumes nothing.
+use Rattle.std.proofs.Common.{Result, Ok, Err}
 use Prim.Native.Nat.{ℕ, zero, suc, ◌<◌}
 use mathlib.Core.Bool.{true, or-true}
 use mathlib.Core.List.{List, [], ◌∷◌}
@@ -70,12 +71,12 @@ module _ (sent other : ℕ → Send) where
     holds_same (place.Block j) m h = refl
 
     -- The blocks that a reading confirms.
-    pub confirmed_same : (read : Reading) (m block : ℕ) → confirmed K sent read m block ≡ confirmed K other read m block
+    pub confirmed_same : (read : Result Reading ℕ) (m block : ℕ) → confirmed K sent read m block ≡ confirmed K other read m block
     unfolding confirmed
     confirmed_same read m block = go (dec_lt m (length K)) read
       where
-        go : Dec (m < length K) → (read : Reading) → confirmed K sent read m block ≡ confirmed K other read m block
+        go : Dec (m < length K) → (read : Result Reading ℕ) → confirmed K sent read m block ≡ confirmed K other read m block
         go (no h) read = rw (le-ltb m (length K) (omega arith))
-        go (yes h) (reading.Bundled p b0 b1) = rw (named_same p, holds_same p m h, at m h)
-        go (yes h) (reading.Multiplexed p positions) = rw (named_same p, at m h)
-        go (yes h) (reading.Refused k) = rw (at m h)
+        go (yes h) (Ok (reading.Bundled p b0 b1)) = rw (named_same p, holds_same p m h, at m h)
+        go (yes h) (Ok (reading.Multiplexed p positions)) = rw (named_same p, at m h)
+        go (yes h) (Err k) = rw (at m h)

@@ -1,5 +1,6 @@
 -- What an ACK confirms in windows of configuration 5, worked out: which are the four, and what counts among them.
 -- Assumes nothing.
+use Rattle.std.proofs.Common.{Result, Ok, Err}
 use Prim.Native.Nat.{ℕ}
 use mathlib.Core.Bool.{Bool, true, false, cond}
 use mathlib.Core.List.{List, [], ◌∷◌, map}
@@ -33,7 +34,7 @@ pdcch m c = place.Pdcch m (record { 0 = c })
 -- What an ACK that names this confirms at positions 0 to 8, that is 13, 12, 9, 8, 7, 5, 4, 11 and 6 ago.
 abbrev confirms : (ℕ → Send) → Place → List Bool
 confirms sent named =
-    map (λ (m : ℕ). confirmed (window_of 5 2) sent (reading.Bundled named 1 0) m 0) (0 ∷ 1 ∷ 2 ∷ 3 ∷ 4 ∷ 5 ∷ 6 ∷ 7 ∷ 8 ∷ [])
+    map (λ (m : ℕ). confirmed (window_of 5 2) sent (Ok (reading.Bundled named 1 0)) m 0) (0 ∷ 1 ∷ 2 ∷ 3 ∷ 4 ∷ 5 ∷ 6 ∷ 7 ∷ 8 ∷ [])
 
 abbrev nothing : List Bool
 nothing = false ∷ false ∷ false ∷ false ∷ false ∷ false ∷ false ∷ false ∷ false ∷ []

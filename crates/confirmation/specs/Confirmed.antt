@@ -4,7 +4,7 @@
 -- `sent k` is what was sent k subframes before the reply; `ks` is K as printed; a position m stands for subframe n - k_m; block 0
 -- is a grant's or a scheduled block's first or only one, block 1 its second. Document 02, U1.
 -- Assumes nothing.
-use Rattle.std.specs.Prelude.{ℕ, ◌+◌, ◌/◌, ◌%◌, ◌^◌, Bool, false, cond, ◌&&◌, ◌||◌, List, [], ◌∷◌, eqb, leb, ltb, length, get_or}
+use Rattle.std.specs.Prelude.{Result, Ok, Err, ℕ, ◌+◌, ◌/◌, ◌%◌, ◌^◌, Bool, false, cond, ◌&&◌, ◌||◌, List, [], ◌∷◌, eqb, leb, ltb, length, get_or}
 use Rattle.frame.specs.Order.{times_of}
 use Rattle.station.specs.declared.Place.{Place}
 use Rattle.station.specs.declared.Place.TheVariants as place
@@ -41,12 +41,12 @@ acknowledged x block b0 b1 = cond (eqb (blocks_of x) 2) (cond (eqb block 0) (eqb
 
 -- The reading acknowledges the block at position m. A bundled one by its bits; a multiplexed one by its set of
 -- delivered positions, in which each carried block was decoded.
-abbrev pub says_ack : List ℕ → (ℕ → Send) → Reading → ℕ → ℕ → Bool
-says_ack ks sent (reading.Bundled named b0 b1) m block =
+abbrev pub says_ack : List ℕ → (ℕ → Send) → Result Reading ℕ → ℕ → ℕ → Bool
+says_ack ks sent (Ok (reading.Bundled named b0 b1)) m block =
     named_sent ks sent named && holds_for ks sent named (get_or ks m 0) && acknowledged (sent (get_or ks m 0)) block b0 b1
-says_ack ks sent (reading.Multiplexed named positions) m block = named_sent ks sent named && eqb (positions / 2 ^ m % 2) 1
-says_ack ks sent (reading.Refused k) m block = false
+says_ack ks sent (Ok (reading.Multiplexed named positions)) m block = named_sent ks sent named && eqb (positions / 2 ^ m % 2) 1
+says_ack ks sent (Err k) m block = false
 
 -- The reading confirms the block at position m of the window: what was sent there carries it, and it is acknowledged.
-unfoldable pub confirmed : List ℕ → (ℕ → Send) → Reading → ℕ → ℕ → Bool
+unfoldable pub confirmed : List ℕ → (ℕ → Send) → Result Reading ℕ → ℕ → ℕ → Bool
 confirmed ks sent read m block = ltb m (length ks) && ltb block (blocks_of (sent (get_or ks m 0))) && says_ack ks sent read m block

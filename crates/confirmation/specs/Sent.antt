@@ -1,12 +1,10 @@
 -- What a station sent in a subframe, by tests that every kind of it answers: document 01, "The runs of demand 3"; document 02, U1.
 -- Assumes nothing.
-use Rattle.std.specs.Prelude.{ℕ, suc, Bool, true, false, cond, ◌||◌, List, [], ◌∷◌, eqb}
+use Rattle.std.specs.Prelude.{Option, Some, None, ℕ, suc, Bool, true, false, cond, ◌||◌, List, [], ◌∷◌, eqb}
 use Rattle.confirmation.specs.declared.Send.{Send}
 use Rattle.confirmation.specs.declared.Send.TheVariants.{Nothing, Granted, Scheduled, Released}
 use Rattle.heard.specs.declared.Heard.{Heard}
 use Rattle.heard.specs.declared.Heard.TheVariants as heard
-use Rattle.station.specs.declared.Told.{Told}
-use Rattle.station.specs.declared.Told.TheVariants as told
 
 -- A PDCCH was sent: a grant or a release.
 abbrev pub is_pdcch : Send → Bool
@@ -55,10 +53,10 @@ as_heard (Scheduled b) = heard.Scheduled (record { blocks = b.blocks; first = fa
 as_heard (Released p) = heard.Released (record { cce = p.cce; dai = p.dai })
 
 -- The position of the first scheduled block sent in the subframes of `ks`, counted from m; not told where there is none.
-abbrev pub told_from : ℕ → List ℕ → (ℕ → Send) → Told
-told_from m [] sent = told.NotTold
-told_from m (k ∷ ks) sent = cond (is_block (sent k)) (told.At m) (told_from (suc m) ks sent)
+abbrev pub told_from : ℕ → List ℕ → (ℕ → Send) → Option ℕ
+told_from m [] sent = None
+told_from m (k ∷ ks) sent = cond (is_block (sent k)) (Some m) (told_from (suc m) ks sent)
 
 -- "The station's reading is told the scheduled position, if any": that of the block sent in the window with K = ks.
-abbrev pub told_of : List ℕ → (ℕ → Send) → Told
+abbrev pub told_of : List ℕ → (ℕ → Send) → Option ℕ
 told_of ks sent = told_from 0 ks sent

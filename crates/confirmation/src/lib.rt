@@ -5,7 +5,7 @@
 use resource::Cce;
 
 // A grant as the station sent it: the blocks it carries, its first CCE and its DAI.
-#[derive(Clone, Copy)]
+#[derive(Clone, Copy, Debug, PartialEq, Eq)]
 pub struct SentGrant {
     pub blocks: u16,
     pub cce: Cce,
@@ -13,20 +13,20 @@ pub struct SentGrant {
 }
 
 // A scheduled block as the station sent it, with no PDCCH: the blocks it carries.
-#[derive(Clone, Copy)]
+#[derive(Clone, Copy, Debug, PartialEq, Eq)]
 pub struct SentBlock {
     pub blocks: u16,
 }
 
 // A PDCCH that releases the schedule, as the station sent it: its first CCE and its DAI.
-#[derive(Clone, Copy)]
+#[derive(Clone, Copy, Debug, PartialEq, Eq)]
 pub struct SentRelease {
     pub cce: Cce,
     pub dai: u16,
 }
 
 // What the station sent in a subframe.
-#[derive(Clone, Copy)]
+#[derive(Clone, Copy, Debug, PartialEq, Eq)]
 pub enum Send {
     Nothing,
     Granted(SentGrant),

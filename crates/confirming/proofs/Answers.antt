@@ -1,5 +1,6 @@
 -- What the call answers: which refusals are left when it looks at the reply, which blocks its sets say, and what it does not look at.
 -- Assumes nothing.
+use Rattle.std.proofs.Common.{Result, Ok, Err, Option, Some, None}
 use Prim.Native.Nat.{ℕ, zero, suc, ◌+◌, ◌*◌, ◌<◌}
 use mathlib.Core.Bool.{Bool, true, false, cond, ◌&&◌}
 use mathlib.Core.List.{List}
@@ -11,28 +12,26 @@ use lib.Dec.{eqb, leb, ltb}
 use lib.ListN.{length, take, length-take, get_or-eq_default}
 use Rattle.frame.specs.declared.Settings.{Settings}
 use Rattle.frame.specs.Order.{position_of}
+use Rattle.frame.specs.Refusals.{unless_refused}
 use Rattle.frame.specs.Settings.{window_refusal, bundles}
 use Rattle.frame.specs.Table.{window_of}
 use Rattle.frame.proofs.Accepted.{neither}
 use Rattle.frame.proofs.Bools.{either}
-use Rattle.resource.specs.Calls.{range_refusal, size_of, inverse_in, inverted_as}
+use Rattle.resource.specs.declared.Cce.{Cce}
+use Rattle.resource.specs.Calls.{range_refusal, size_of, inverse_in}
 use Rattle.resource.specs.Formula.{edge}
 use Rattle.resource.proofs.OneToOne.{inverse_call}
-use Rattle.symbols.specs.declared.Delivery.{Delivery}
-use Rattle.symbols.specs.declared.Delivery.TheVariants as delivery
 use Rattle.symbols.specs.Delivered.{delivery_of}
 use Rattle.symbols.proofs.Reading.{set_below}
 use Rattle.station.specs.declared.Place.{Place}
 use Rattle.station.specs.declared.Place.TheVariants.{Pdcch, Block}
 use Rattle.station.specs.declared.Reading.{Reading}
-use Rattle.station.specs.declared.Reading.TheVariants.{Bundled, Multiplexed, Refused}
-use Rattle.station.specs.declared.Told.{Told}
-use Rattle.station.specs.declared.Told.TheVariants.{NotTold, At}
+use Rattle.station.specs.declared.Reading.TheVariants.{Bundled, Multiplexed}
 use Rattle.station.specs.Readings.{place_position, bad_bits, bundled_reading, multiplexed_reading, read_at, read_inverted, dynamic_reading, told_refusal, read_on, read_as, read_of}
 use Rattle.confirmation.specs.declared.Send.{Send}
 use Rattle.confirmation.specs.Confirmed.{confirmed}
 use Rattle.confirmation.specs.Sent.{told_of}
-use Rattle.confirming.specs.declared.Confirmed.{Confirmed}
+use Rattle.confirming.specs.Blocks.{Confirmed}
 use Rattle.confirming.specs.declared.SentWindow.{SentWindow}
 use Rattle.confirming.specs.Blocks.{reading_refusal, confirmed_by, read_sent, confirmed_of}
 use Rattle.confirming.specs.Exactly.{send_at, reply_read, BlocksConfirmed}
@@ -43,19 +42,19 @@ use Rattle.confirming.proofs.Exactly.{call_refused}
 use Rattle.confirming.proofs.Sets.{set_exactly}
 
 -- 13 and 14 are all that the reading of a reply refuses where settings, subframe and the told position are not refused.
-abbrev Left : Reading → Type 0
+abbrev Left : Result Reading ℕ → Type 0
 Left x = (reading_refusal x ≡ 0) ⊎ ((reading_refusal x ≡ 13) ⊎ (reading_refusal x ≡ 14))
 
-symbol_left : (p : Place) (d : Delivery) → Left (multiplexed_reading p d)
+symbol_left : (p : Place) (d : Option ℕ) → Left (multiplexed_reading p d)
 unfolding multiplexed_reading
-symbol_left p (delivery.Set positions) = inl refl
-symbol_left p delivery.NoRow = inr (inr refl)
+symbol_left p (Some positions) = inl refl
+symbol_left p None = inr (inr refl)
 
 module _ (s : Settings) where
   at_left : (size : ℕ) (p : Place) (b0 b1 : ℕ) → Left (read_at s size p b0 b1)
   unfolding read_at bundled_reading
   at_left size p b0 b1 =
-      either Left (bundles s size) _ _ (either Left (bad_bits s b0 b1) (Refused 14) (Bundled p b0 b1) (inr (inr refl)) (inl refl))
+      either Left (bundles s size) _ _ (either Left (bad_bits s b0 b1) (Err 14) (Ok (Bundled p b0 b1)) (inr (inr refl)) (inl refl))
       (symbol_left p (delivery_of size (place_position p) b0 b1))
 
   module _ (n : ℕ) (accepted : window_refusal s n ≡ 0) (r b0 b1 : ℕ) where
@@ -63,24 +62,24 @@ module _ (s : Settings) where
     unfolding dynamic_reading inverse_in range_refusal
     dynamic_left = rw (inverse_call s n accepted r) (go _ _ (leb s.n1 r && ltb r (s.n1 + size_of s n * edge s.nrb 4)))
       where
-        go : (m c : ℕ) (b : Bool) → Left (read_inverted s (size_of s n) (inverted_as (cond b 0 13) m c) b0 b1)
+        go : (m c : ℕ) (b : Bool) → Left (read_inverted s (size_of s n) (unless_refused {T = ℕ × Cce} (cond b 0 13) (m, record { 0 = c })) b0 b1)
         go m c true = at_left (size_of s n) (Pdcch m (record { 0 = c })) b0 b1
         go m c false = inr (inl refl)
 
-    on_left : (t : Told) → Left (read_on s n t r b0 b1)
+    on_left : (t : Option ℕ) → Left (read_on s n t r b0 b1)
     unfolding read_on
-    on_left NotTold = dynamic_left
-    on_left (At m) = either Left (eqb r s.scheduled) _ _ (at_left (size_of s n) (Block m) b0 b1) dynamic_left
+    on_left None = dynamic_left
+    on_left (Some m) = either Left (eqb r s.scheduled) _ _ (at_left (size_of s n) (Block m) b0 b1) dynamic_left
 
-    read_left : (t : Told) → told_refusal s n t ≡ 0 → Left (read_of s n t r b0 b1)
+    read_left : (t : Option ℕ) → told_refusal s n t ≡ 0 → Left (read_of s n t r b0 b1)
     unfolding read_of
     read_left t fine = rw (accepted, fine) (on_left t)
 
 -- A refused reading is its refusal.
-as_refused : (x : Reading) → (reading_refusal x ≡ 0 → ⊥) → x ≡ Refused (reading_refusal x)
-as_refused (Bundled p b0 b1) h = absurd (h refl)
-as_refused (Multiplexed p positions) h = absurd (h refl)
-as_refused (Refused k) h = refl
+as_refused : (x : Result Reading ℕ) → (reading_refusal x ≡ 0 → ⊥) → x ≡ Err (reading_refusal x)
+as_refused (Ok (Bundled p b0 b1)) h = absurd (h refl)
+as_refused (Ok (Multiplexed p positions)) h = absurd (h refl)
+as_refused (Err k) h = refl
 
 -- What a record says k ago, whatever k, is what the records of the window's positions say.
 pub sent_same : (ks : List ℕ) (w v : SentWindow)

@@ -1,60 +1,106 @@
--- The PDCCHs sent up to and with one of them, counted from the latest subframe of the window back.
+-- What is counted among the records of a window, whatever their order: the PDCCHs sent up to and with one of them.
 -- Assumes nothing.
-use Prim.Native.Nat.{ℕ, suc, ◌+◌, ◌-◌, ◌<◌, ◌≤◌}
-use mathlib.Core.Bool.{Bool, cond, ◌&&◌}
-use mathlib.Core.List.{List, [], ◌∷◌}
-use mathlib.Core.Path.{◌≡◌, sym, ap, ◌∙◌}
+use Prim.Native.Nat.{ℕ, zero, suc, ◌+◌, ◌<◌, ◌≤◌}
+use mathlib.Core.Bool.{Bool, true, false, cond, not, ◌&&◌, ◌||◌}
+use mathlib.Core.List.{List, [], ◌∷◌, map}
+use mathlib.Core.Path.{◌≡◌, refl, sym, ◌∙◌}
 use native.Mathlib.Omega.{arith}
-use lib.Dec.{leb}
-use lib.ListN.{length, get_or, drop, length-drop, drop_of_length-le}
-use lib.Seq.{drop-cons}
-use Rattle.frame.specs.declared.Window.{Window}
-use Rattle.frame.specs.Coded.{coded_window}
-use Rattle.frame.specs.Order.{times_of}
-use Rattle.frame.specs.Table.{window_of}
-use Rattle.frame.proofs.Bools.{bit_small}
-use Rattle.frame.proofs.Read.{size_read, k_read, position_read, position_small}
-use Rattle.frame.proofs.Times.{in_time_order, order_times}
+use lib.Dec.{T, eqb, leb, ltb}
+use lib.Ieee.Bits.{is_true}
+use lib.ListN.{length}
+use borrow.Author.Tests.{eqb-true, eqb-false, ne_eqb, ltb-true, leb-true}
+use Rattle.std.specs.List.{filter, zip}
+use Rattle.frame.specs.Order.{member, falling, times_of}
+use Rattle.frame.specs.Table.{table, window_of}
+use Rattle.frame.proofs.Bools.{both}
+use Rattle.frame.proofs.Windows.{every_row, window_passes}
 use Rattle.confirmation.specs.declared.Send.{Send}
 use Rattle.confirmation.specs.Confirmed.{sent_up_to}
 use Rattle.confirmation.specs.Sent.{is_pdcch}
 use Rattle.confirming.specs.declared.Sent.{Sent}
-use Rattle.confirming.specs.Records.{nothing_sent, send_of, sent_in}
-use Rattle.confirming.proofs.Records.{sent_at}
+use Rattle.confirming.specs.declared.SentIn.{SentIn}
+use Rattle.confirming.specs.Coded.{k_in, records_in, send_in}
+use Rattle.confirming.specs.Records.{send_of}
+use Rattle.confirming.proofs.Records.{sent_list}
 
-count_more : (sent : ℕ → Send) (k : ℕ) (l : List ℕ) (i j : ℕ) → suc j ≡ i → j < length l
-    → sent_up_to sent k (drop j l) ≡ cond (leb k (get_or l j 0) && is_pdcch (sent (get_or l j 0))) 1 0 + sent_up_to sent k (drop i l)
-count_more sent k l i j e h = rw (← e, drop-cons l j 0 h)
+-- A list with numbers from 1 to n, none of them twice.
+abbrev apart : ℕ → List ℕ → Bool
+apart n [] = true
+apart n (x ∷ xs) = (ltb 0 x && (leb x n && not (member x xs))) && apart n xs
 
-count_most : (sent : ℕ → Send) (k : ℕ) (l : List ℕ) → sent_up_to sent k l ≤ length l
-count_most sent k [] = omega arith
-count_most sent k (j ∷ l) = omega (arith, bit_small (leb k j && is_pdcch (sent j)), count_most sent k l)
+apart_tested : T (every_row (λ (c n : ℕ) (ks : List ℕ). apart 13 ks) table)
+unfolding table
+apart_tested = tt
 
-module _ (config n : ℕ) (w : Window) (read : w ≡ coded_window (window_of config n)) (at : List Sent) (k : ℕ) where
-  abbrev K : List ℕ
-  K = window_of config n
+module _ (sent : ℕ → Send) (k : ℕ) where
+  -- What one k adds to the count.
+  abbrev one : ℕ → ℕ
+  one j = cond (leb k j && is_pdcch (sent j)) 1 0
 
-  abbrev from : ℕ → ℕ
-  from i = sent_up_to (sent_in K (record { at = at })) k (drop i (times_of K))
+  -- A number over n is not listed up to n.
+  beyond : (n x : ℕ) (xs : List ℕ) → n < x → falling n (x ∷ xs) ≡ falling n xs
+  beyond zero x xs h = refl
+  beyond (suc n) x xs h = rw (ne_eqb x (suc n) (λ e. omega arith), beyond n x xs (omega arith))
 
-  times_length : length (times_of K) ≡ w.size
-  times_length = (in_time_order config n).size ∙ sym (size_read config n w read)
+  -- One more number adds what it adds, wherever it falls.
+  falling_more : (n x : ℕ) (xs : List ℕ) → 0 < x → x ≤ n → member x xs ≡ false
+      → sent_up_to sent k (falling n (x ∷ xs)) ≡ one x + sent_up_to sent k (falling n xs)
+  falling_more zero x xs low high out = absurd (omega arith)
+  falling_more (suc n) x xs low high out = go (eqb x (suc n)) refl (λ h. falling_more n x xs low h out)
+    where
+      next : (b : Bool) → sent_up_to sent k (falling n (x ∷ xs)) ≡ one x + sent_up_to sent k (falling n xs)
+          → sent_up_to sent k (cond b (suc n ∷ falling n (x ∷ xs)) (falling n (x ∷ xs))) ≡ one x + sent_up_to sent k (cond b (suc n ∷ falling n xs) (falling n xs))
+      next true rest = omega (arith, rest)
+      next false rest = rest
 
-  pub count_start : 0 ≡ from w.size
-  count_start = rw (drop_of_length-le (times_of K) {i = w.size} (omega (arith, times_length)))
+      go : (b : Bool) → eqb x (suc n) ≡ b → (x ≤ n → sent_up_to sent k (falling n (x ∷ xs)) ≡ one x + sent_up_to sent k (falling n xs))
+          → sent_up_to sent k (cond (b || member (suc n) xs) (suc n ∷ falling n (x ∷ xs)) (falling n (x ∷ xs))) ≡ one x + sent_up_to sent k (cond (member (suc n) xs) (suc n ∷ falling n xs) (falling n xs))
+      go true e rest =
+          let same : x ≡ suc n = eqb-true x (suc n) e in
+          rw (← same, out, beyond n x xs (omega arith))
+      go false e rest = next (member (suc n) xs) (rest (omega (arith, eqb-false x (suc n) e)))
 
-  pub count_next : (count i : ℕ) (pdcch : Bool) → 0 < i → i ≤ w.size → count ≡ from i
-      → pdcch ≡ is_pdcch (send_of (get_or at (get_or w.order (i - 1) 0) nothing_sent))
-      → (next : ℕ) → next ≡ cond (leb k (get_or w.k (get_or w.order (i - 1) 0) 0) && pdcch) 1 0 + count → next ≡ from (i - 1)
-  count_next count i pdcch h within is tested next counted =
-      let m : ℕ = get_or w.order (i - 1) 0 in
-      let inside : m < length K = omega (arith, position_small config n w read (i - 1) (omega arith), size_read config n w read) in
-      let there : get_or (times_of K) (i - 1) 0 ≡ get_or K m 0 =
-      sym (ap (λ (p : ℕ). get_or K p 0) (position_read config n w read (i - 1)) ∙ order_times config n (i - 1) (omega (arith, size_read config n w read))) in
-      counted
-      ∙ rw (k_read config n w read m, tested, ← sent_at config n (record { at = at }) m inside, is)
-      (sym (count_more (sent_in K (record { at = at })) k (times_of K) i (i - 1) (omega arith) (omega (arith, times_length)) ∙ rw there))
+  falling_none : (n : ℕ) → falling n [] ≡ []
+  falling_none zero = refl
+  falling_none (suc n) = falling_none n
 
-  pub count_few : (count i : ℕ) → count ≡ from i → i ≤ w.size → count + i ≤ w.size
-  count_few count i is within =
-      omega (arith, is, count_most (sent_in K (record { at = at })) k (drop i (times_of K)), length-drop i (times_of K), times_length)
+  falling_count : (n : ℕ) (xs : List ℕ) → apart n xs ≡ true → sent_up_to sent k (falling n xs) ≡ sent_up_to sent k xs
+  falling_count n [] a = rw (falling_none n)
+  falling_count n (x ∷ xs) a =
+      let p = both (ltb 0 x && (leb x n && not (member x xs))) (apart n xs) a in
+      let q = both (ltb 0 x) (leb x n && not (member x xs)) p.0 in
+      let r = both (leb x n) (not (member x xs)) q.1 in
+      falling_more n x xs (ltb-true 0 x q.0) (leb-true x n r.0) (not_true (member x xs) r.1) ∙ rw (falling_count n xs p.1)
+    where
+      not_true : (b : Bool) → not b ≡ true → b ≡ false
+      not_true true e = sym e
+      not_true false e = refl
+
+  -- The count of a window is the same in the order of the print.
+  times_count : (c n : ℕ) → sent_up_to sent k (times_of (window_of c n)) ≡ sent_up_to sent k (window_of c n)
+  unfolding times_of
+  times_count c n = falling_count 13 (window_of c n) (is_true _ (window_passes _ apart_tested c n tt))
+
+-- A PDCCH of a pair of a k and its record counts.
+abbrev pub counts : ℕ → ℕ × Sent → Bool
+counts k p = leb k p.0 && is_pdcch (send_of p.1)
+
+-- The PDCCHs among the pairs, where the records say what was sent.
+module _ (sent : ℕ → Send) (k : ℕ) where
+  pub pairs_counted : (ks : List ℕ) (xs : List Sent) → map sent ks ≡ map send_of xs → length (filter (counts k) (zip ks xs)) ≡ sent_up_to sent k ks
+  pairs_counted [] xs e = refl
+  pairs_counted (j ∷ ks) [] e = absurd (cc)
+  pairs_counted (j ∷ ks) (x ∷ xs) e =
+      let here : sent j ≡ send_of x = cc in
+      let rest : map sent ks ≡ map send_of xs = cc in
+      rw here (go (counts k (j, x)) (pairs_counted ks xs rest))
+    where
+      go : (b : Bool) → length (filter (counts k) (zip ks xs)) ≡ sent_up_to sent k ks
+          → length (cond b ((j, x) ∷ filter (counts k) (zip ks xs)) (filter (counts k) (zip ks xs))) ≡ cond b 1 0 + sent_up_to sent k ks
+      go true e = omega (arith, e)
+      go false e = omega (arith, e)
+
+pub up_to_counted : (w : SentIn) (k : ℕ) (ks : List ℕ) (xs : List Sent) → ks ≡ k_in w → xs ≡ records_in w → length xs ≡ length (k_in w)
+    → length (filter (counts k) (zip ks xs)) ≡ sent_up_to (send_in w) k (times_of (k_in w))
+up_to_counted w k ks xs window records size =
+    rw window (pairs_counted (send_in w) k (k_in w) xs (sent_list w xs records size)) ∙ sym (times_count (send_in w) k w.config w.n)

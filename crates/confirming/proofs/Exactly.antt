@@ -1,5 +1,6 @@
 -- The call refuses what was sent for the causes that the words say, and for no other.
 -- Assumes nothing.
+use Rattle.std.proofs.Common.{Option, Some, None}
 use Prim.Native.Nat.{ℕ, ◌+◌, ◌-◌, ◌<◌, ◌≤◌, ◌%◌}
 use mathlib.Core.Bool.{Bool, true, false, cond, not, ◌&&◌, ◌||◌, false≢true}
 use mathlib.Core.List.{List, map}
@@ -23,8 +24,6 @@ use Rattle.heard.specs.Heard.{heard_refusal}
 use Rattle.heard.proofs.Short.{twenty_exactly}
 use Rattle.heard.proofs.Valid.{valid}
 use Rattle.resource.specs.Calls.{size_of}
-use Rattle.station.specs.declared.Told.{Told}
-use Rattle.station.specs.declared.Told.TheVariants.{NotTold, At}
 use Rattle.station.specs.Readings.{told_refusal}
 use Rattle.station.proofs.Back.{told_fine}
 use Rattle.confirmation.specs.declared.Send.{Send}
@@ -249,9 +248,9 @@ module _ (s : Settings) (n : ℕ) (w : SentWindow) where
       accepted : window_refusal s n ≡ 0
       accepted = (neither (window_refusal s n) (sent_refusal s n K S) e).0
 
-      go : (t : Told) → told_of K S ≡ t → told_refusal s n t ≡ 0
-      go NotTold is = refl
-      go (At m) is =
+      go : (t : Option ℕ) → told_of K S ≡ t → told_refusal s n t ≡ 0
+      go None is = refl
+      go (Some m) is =
           let there = told_position_holds S K m is in
           let right = (none_to accepted (outcome accepted) e).0 m there.0 in
           let fine = block_valid s (subframe_of s.config n m) (send_at s n w m) (rw (at m there.0) at there.1) right in

@@ -1,3 +1,4 @@
+pub mod Answering
 pub mod Answers
 pub mod Checking
 pub mod Confirming
@@ -7,7 +8,6 @@ pub mod Looking
 pub mod Naming
 pub mod Ranks
 pub mod Records
-pub mod Saying
 pub mod Second
 pub mod Sets
 pub mod Worked

@@ -1,84 +1,85 @@
--- One pass over the records finds the refusal that comes first, the scheduled blocks, and the position of the first of them.
+-- The records of a window, gone through: the refusal that comes first, the scheduled blocks, and the position of the first of them.
 -- Assumes nothing.
+use Rattle.std.proofs.Common.{Option, Some, None}
 use Prim.Native.Nat.{ℕ, suc, ◌+◌, ◌-◌, ◌<◌, ◌≤◌}
-use mathlib.Core.Bool.{Bool, true, false}
+use mathlib.Core.Bool.{Bool, true, false, cond}
 use mathlib.Core.List.{List, [], ◌∷◌, map}
-use mathlib.Core.Path.{◌≡◌, refl, sym, ap, ◌∙◌}
-use native.Mathlib.Nat.{zero-add}
+use mathlib.Core.Path.{◌≡◌, refl, sym, ◌∙◌}
+use native.Mathlib.Numerals.{add-one}
 use native.Mathlib.Omega.{arith}
-use lib.ListN.{length, get_or, drop, length-drop, drop_of_length-le}
+use lib.Dec.{ltb}
+use lib.ListN.{length, get_or, drop, drop_of_length-le}
 use lib.Seq.{drop-cons}
+use Rattle.std.specs.List.{filter, position_from, position_or_len}
+use Rattle.std.proofs.lemmas.Iterator.Adapters.{position_from-zero}
 use Rattle.frame.specs.declared.Settings.{Settings}
-use Rattle.frame.specs.declared.Window.{Window}
-use Rattle.frame.specs.Coded.{coded_window}
 use Rattle.frame.specs.Distance.{before}
-use Rattle.frame.specs.Table.{window_of}
-use Rattle.frame.proofs.Bools.{bit_small}
-use Rattle.frame.proofs.Read.{size_read, k_read}
-use Rattle.heard.specs.declared.Heard.{Heard}
 use Rattle.heard.specs.Heard.{heard_refusal}
-use Rattle.station.specs.declared.Told.TheVariants.{At}
 use Rattle.confirmation.specs.declared.Send.{Send}
-use Rattle.confirmation.specs.Sent.{is_block, as_heard, told_from}
-use Rattle.confirming.specs.declared.checks.Looked.{Looked}
+use Rattle.confirmation.specs.Sent.{is_block, as_heard, told_from, told_of}
 use Rattle.confirming.specs.declared.Sent.{Sent}
-use Rattle.confirming.specs.Coded.{unlooked, look_of, looked_from}
-use Rattle.confirming.specs.Records.{nothing_sent, send_of, sent_in}
+use Rattle.confirming.specs.declared.SentIn.{SentIn}
+use Rattle.confirming.specs.Coded.{k_in, records_in, send_in}
+use Rattle.confirming.specs.Records.{nothing_sent, send_of}
 use Rattle.confirming.specs.Refusals.{earlier, lowest, refusal_ago, blocks_sent}
-use Rattle.confirming.proofs.Records.{sent_at}
+use Rattle.confirming.proofs.Records.{sent_at, sent_list}
 
-pub looked_is : (s : Settings) (n : ℕ) (sent : ℕ → Send) (m : ℕ) (ks : List ℕ)
-    → looked_from s n sent m ks
-    ≡ record { refusal = lowest (map (refusal_ago s n sent) ks); blocks = blocks_sent sent ks; told = told_from m ks sent }
-unfolding looked_from look_of lowest blocks_sent
-looked_is s n sent m [] = refl
-looked_is s n sent m (k ∷ ks) = rw (looked_is s n sent (suc m) ks)
+-- The first refusal of a list, from a place on.
+lowest_more : (f : ℕ → ℕ) (ks : List ℕ) (i m : ℕ) → suc m ≡ i → m < length ks
+    → lowest (map f (drop m ks)) ≡ earlier (f (get_or ks m 0)) (lowest (map f (drop i ks)))
+unfolding lowest
+lowest_more f ks i m e h = rw (← e, drop-cons ks m 0 h)
 
--- There are no more scheduled blocks than records.
-pub blocks_most_holds : (sent : ℕ → Send) (ks : List ℕ) → blocks_sent sent ks ≤ length ks
-unfolding blocks_sent
-blocks_most_holds sent [] = omega arith
-blocks_most_holds sent (k ∷ ks) = omega (arith, bit_small (is_block (sent k)), blocks_most_holds sent ks)
+-- The first refusal of the positions from m on.
+module _ (s : Settings) (n : ℕ) (w : SentIn) where
+  abbrev first_from : ℕ → ℕ
+  first_from m = lowest (map (refusal_ago s n (send_in w)) (drop m (k_in w)))
 
--- One record more, in front of those looked at.
-look_more : (s : Settings) (n : ℕ) (sent : ℕ → Send) (l : List ℕ) (i j : ℕ) → suc j ≡ i → j < length l
-    → looked_from s n sent j (drop j l) ≡ look_of (looked_from s n sent i (drop i l)) s n (get_or l j 0) j (sent (get_or l j 0))
-unfolding looked_from
-look_more s n sent l i j e h = rw (← e, drop-cons l j 0 h)
+  pub first_none : (m : ℕ) → length (k_in w) ≤ m → first_from m ≡ 0
+  unfolding lowest
+  first_none m h = rw (drop_of_length-le (k_in w) {i = m} h)
 
--- One record more, as the code looks at it: the subframe, what a feed would bring, its refusal and the first refusal.
-module _ (found : Looked) (s : Settings) (n k m : ℕ) (x : Sent) (d : ℕ) (heard : Heard) (refusal first : ℕ) (block : Bool)
-    (subframe : d ≡ before n k) (brought : heard ≡ as_heard (send_of x)) (judged : refusal ≡ heard_refusal s d heard)
-    (compared : first ≡ earlier refusal found.refusal) (tested : block ≡ is_block (send_of x)) where
-  pub look_block : block ≡ true → ◌≡◌ {A = Looked} (record { refusal = first; blocks = 1 + found.blocks; told = At m }) (look_of found s n k m (send_of x))
-  unfolding look_of
-  look_block e = rw (compared, judged, subframe, brought, ← tested, e)
+  first_step : (i m : ℕ) → suc m ≡ i → m < length (k_in w)
+      → first_from m ≡ earlier (heard_refusal s (before n (get_or (k_in w) m 0)) (as_heard (send_of (get_or (records_in w) m nothing_sent)))) (first_from i)
+  first_step i m e h = lowest_more (refusal_ago s n (send_in w)) (k_in w) i m e h ∙ rw (sent_at w m h)
 
-  pub look_other : block ≡ false → ◌≡◌ {A = Looked} (record { refusal = first; blocks = found.blocks; told = found.told }) (look_of found s n k m (send_of x))
-  unfolding look_of
-  look_other e = rw (compared, judged, subframe, brought, ← tested, e, zero-add found.blocks)
+  pub first_more : (m next : ℕ) → 0 < m → m ≤ length (k_in w)
+      → next ≡ earlier (heard_refusal s (before n (get_or (k_in w) (m - 1) 0)) (as_heard (send_of (get_or (records_in w) (m - 1) nothing_sent)))) (first_from m)
+      → next ≡ first_from (m - 1)
+  first_more m next some within is = is ∙ sym (first_step m (m - 1) (omega arith) (omega arith))
 
--- The pass over the window that was read, from the last position down.
-module _ (s : Settings) (n : ℕ) (w : Window) (read : w ≡ coded_window (window_of s.config n)) (at : List Sent) where
-  abbrev K : List ℕ
-  K = window_of s.config n
+-- The scheduled blocks among records that say what was sent in the subframes of a list.
+module _ (sent : ℕ → Send) where
+  pub blocks_counted : (ks : List ℕ) (xs : List Sent) → map sent ks ≡ map send_of xs
+      → length (filter (λ (x : Sent). is_block (send_of x)) xs) ≡ blocks_sent sent ks
+  unfolding blocks_sent
+  blocks_counted [] [] e = refl
+  blocks_counted [] (x ∷ xs) e = absurd (cc)
+  blocks_counted (k ∷ ks) [] e = absurd (cc)
+  blocks_counted (k ∷ ks) (x ∷ xs) e =
+      let here : sent k ≡ send_of x = cc in
+      let rest : map sent ks ≡ map send_of xs = cc in
+      rw here (go (is_block (send_of x)) (blocks_counted ks xs rest))
+    where
+      go : (b : Bool) → length (filter (λ (x : Sent). is_block (send_of x)) xs) ≡ blocks_sent sent ks
+          → length (cond b (x ∷ filter (λ (x : Sent). is_block (send_of x)) xs) (filter (λ (x : Sent). is_block (send_of x)) xs)) ≡ cond b 1 0 + blocks_sent sent ks
+      go true e = omega (arith, e)
+      go false e = omega (arith, e)
 
-  abbrev from : ℕ → Looked
-  from i = looked_from s n (sent_in K (record { at = at })) i (drop i K)
+  -- The first of them is the position that is told.
+  pub told_at : (i : ℕ) (ks : List ℕ) (xs : List Sent) → map sent ks ≡ map send_of xs
+      → position_from (λ (x : Sent). is_block (send_of x)) i xs ≡ told_from i ks sent
+  told_at i [] [] e = refl
+  told_at i [] (x ∷ xs) e = absurd (cc)
+  told_at i (k ∷ ks) [] e = absurd (cc)
+  told_at i (k ∷ ks) (x ∷ xs) e =
+      let here : sent k ≡ send_of x = cc in
+      let rest : map sent ks ≡ map send_of xs = cc in
+      rw (here, add-one, told_at (suc i) ks xs rest)
 
-  pub look_start : unlooked ≡ from w.size
-  unfolding looked_from
-  look_start = rw (drop_of_length-le K {i = w.size} (omega (arith, size_read s.config n w read)))
-
-  pub look_next : (found next : Looked) (i : ℕ) → 0 < i → i ≤ w.size → found ≡ from i
-      → next ≡ look_of found s n (get_or w.k (i - 1) 0) (i - 1) (send_of (get_or at (i - 1) nothing_sent)) → next ≡ from (i - 1)
-  look_next found next i h within is step =
-      let inside : i - 1 < length K = omega (arith, size_read s.config n w read) in
-      step
-      ∙ rw (is, k_read s.config n w read (i - 1), ← sent_at s.config n (record { at = at }) (i - 1) inside)
-      (sym (look_more s n (sent_in K (record { at = at })) K i (i - 1) (omega arith) inside))
-
-  pub looked_few : (found : Looked) (i : ℕ) → found ≡ from i → i ≤ w.size → found.blocks + i ≤ w.size
-  looked_few found i is within =
-      let counted : found.blocks ≡ blocks_sent (sent_in K (record { at = at })) (drop i K) = ap (λ (l : Looked). l.blocks) (is ∙ looked_is s n _ i (drop i K)) in
-      omega (arith, counted, blocks_most_holds (sent_in K (record { at = at })) (drop i K), length-drop i K, size_read s.config n w read)
+-- The first record that says so.
+pub told_is : (w : SentIn) (xs : List Sent) (r : Option ℕ) → xs ≡ records_in w → length xs ≡ length (k_in w)
+    → r ≡ cond (ltb (position_or_len (λ (x : Sent). is_block (send_of x)) xs) (length xs)) (Some (position_or_len (λ (x : Sent). is_block (send_of x)) xs)) None
+    → r ≡ told_of (k_in w) (send_in w)
+told_is w xs r records size first =
+    first ∙ position_from-zero (λ (x : Sent). is_block (send_of x)) xs ∙ told_at (send_in w) 0 (k_in w) xs (sent_list w xs records size)

@@ -2,19 +2,20 @@
 -- Assumes nothing.
 use Prim.Native.Nat.{ℕ, ◌<◌}
 use mathlib.Core.Bool.{Bool, true, false, cond, not, ◌&&◌}
-use mathlib.Core.Path.{◌≡◌, refl, sym}
+use mathlib.Core.List.{List, map}
+use mathlib.Core.Path.{◌≡◌, refl, sym, ◌∙◌}
 use lib.Dec.{eqb}
-use lib.ListN.{length, get_or}
-use lib.Seq.{get_or-take}
+use lib.ListN.{length, get_or, length-map}
+use Rattle.std.proofs.lemmas.List.{get_or-map, ext_get_or}
 use borrow.Author.Tests.{eqb-true}
-use Rattle.frame.specs.Table.{window_of}
 use Rattle.frame.proofs.Windows.{window_position}
 use Rattle.confirmation.specs.declared.Send.{Send}
 use Rattle.confirmation.specs.declared.Send.TheVariants.{Nothing, Granted, Scheduled, Released}
 use Rattle.confirmation.specs.Sent.{is_pdcch, is_block, blocks_of, has_cce}
 use Rattle.confirming.specs.declared.Sent.{Sent}
-use Rattle.confirming.specs.declared.SentWindow.{SentWindow}
-use Rattle.confirming.specs.Records.{nothing_sent, send_of, sent_in}
+use Rattle.confirming.specs.declared.SentIn.{SentIn}
+use Rattle.confirming.specs.Coded.{k_in, records_in, send_in}
+use Rattle.confirming.specs.Records.{nothing_sent, send_of}
 
 -- What a record says, by whether it has no PDCCH and no blocks.
 abbrev said : Sent → Bool → Bool → Send
@@ -63,12 +64,18 @@ module _ (x : Sent) where
       go false true e = sym (eqb-true x.blocks 0 e)
       go false false e = refl
 
--- A PDCCH with first CCE c, as the code tests it.
-pub cce_as : (x : Sent) (c : ℕ) (pdcch : Bool) (a b : ℕ) → pdcch ≡ is_pdcch (send_of x) → a ≡ x.cce.0 → b ≡ c
-    → (pdcch && eqb a b) ≡ has_cce (send_of x) c
-cce_as x c pdcch a b p q r = rw (p, q, r, pdcch_of x, cce_of x c)
+-- What was sent in a window, as its records say it.
+module _ (w : SentIn) where
+  -- at position m stands what was sent k_m ago
+  pub sent_at : (m : ℕ) → m < length (k_in w) → send_in w (get_or (k_in w) m 0) ≡ send_of (get_or (records_in w) m nothing_sent)
+  sent_at m h = rw (window_position w.config w.n m h)
 
--- At position m of a window stands what was sent k_m ago.
-pub sent_at : (c n : ℕ) (w : SentWindow) (m : ℕ) → m < length (window_of c n)
-    → sent_in (window_of c n) w (get_or (window_of c n) m 0) ≡ send_of (get_or w.at m nothing_sent)
-sent_at c n w m h = rw (window_position c n m h, get_or-take (length (window_of c n)) w.at m nothing_sent h)
+  -- position by position, in the records as the code has them
+  pub sent_list : (xs : List Sent) → xs ≡ records_in w → length xs ≡ length (k_in w) → map (send_in w) (k_in w) ≡ map send_of xs
+  sent_list xs is size =
+      ext_get_or (send_of nothing_sent) (map (send_in w) (k_in w)) (map send_of xs)
+      (length-map (k_in w) (send_in w) ∙ sym size ∙ sym (length-map xs send_of))
+      (λ m h. let inside : m < length (k_in w) = rw length-map at h in
+      get_or-map (send_in w) (k_in w) m 0 (send_of nothing_sent) inside
+      ∙ sent_at m inside
+      ∙ rw (← is) (sym (get_or-map send_of xs m nothing_sent (send_of nothing_sent) (rw size inside))))

@@ -48,20 +48,12 @@ pub set_whole : (n : ℕ) (f : ℕ → Bool) → set_from 0 n f ≡ set_of n f
 set_whole n f = from_is 0 n f ∙ set_same n (λ (p : ℕ). f (0 + p)) f (λ p h. ap f (omega arith))
 
 -- Of at most nine positions it is below 512.
-pub set_small : (m n set : ℕ) (f : ℕ → Bool) → set ≡ set_from m n f → n ≤ 9 → set < 512
-set_small m n set f e h =
+pub set_small : (m n : ℕ) (f : ℕ → Bool) → n ≤ 9 → set_from m n f < 512
+set_small m n f h =
     let most : 2 ^ n ≤ 2 ^ 9 = pow-le-pow_right (lit< tt) h in
-    omega (arith, e, from_is m n f, set_below n (λ (p : ℕ). f (m + p)), most)
+    omega (arith, from_is m n f, set_below n (λ (p : ℕ). f (m + p)), most)
 
-pub set_start : (size : ℕ) (f : ℕ → Bool) → 0 ≡ set_from size (size - size) f
+-- One position more, before the others.
+pub set_more : (size i m : ℕ) (f : ℕ → Bool) → suc m ≡ i → m < size → set_from m (size - m) f ≡ cond (f m) 1 0 + 2 * set_from i (size - i) f
 unfolding set_from
-set_start size f = let none : size - size ≡ 0 = omega arith in rw none
-
--- One position more, as the code adds it.
-pub set_next : (size i set : ℕ) (f : ℕ → Bool) (b : Bool) → 0 < i → i ≤ size → set ≡ set_from i (size - i) f → b ≡ f (i - 1)
-    → (next : ℕ) → next ≡ cond b 1 0 + 2 * set → next ≡ set_from (i - 1) (size - (i - 1)) f
-unfolding set_from
-set_next size i set f b h within is tested next added =
-    let more : size - (i - 1) ≡ suc (size - i) = omega arith in
-    let one : suc (i - 1) ≡ i = omega arith in
-    added ∙ rw (more, one, tested, is)
+set_more size i m f e h = let more : size - m ≡ suc (size - i) = omega arith in rw (more, ← e)

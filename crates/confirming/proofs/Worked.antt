@@ -17,7 +17,7 @@ use Rattle.symbols.specs.Delivered.{in_some_row, delivered_at, delivered_set, de
 use Rattle.symbols.specs.Selection.{table2, table_of, symbol_of}
 use Rattle.station.specs.Readings.{bad_bits, bundled_reading, multiplexed_reading, read_at, dynamic_reading, told_refusal, read_on, read_of}
 use Rattle.confirmation.specs.Confirmed.{confirmed}
-use Rattle.confirming.specs.declared.Confirmed.{Confirmed}
+use Rattle.confirming.specs.Blocks.{Confirmed}
 use Rattle.confirming.specs.declared.Sent.{Sent}
 use Rattle.confirming.specs.declared.SentWindow.{SentWindow}
 use Rattle.confirming.specs.Blocks.{confirmed_by, read_sent, confirmed_of}

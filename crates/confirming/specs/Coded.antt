@@ -1,75 +1,72 @@
--- The code's way to the definitions: one pass over the records of a window, and what is kept of the place that a reading names.
+-- The code's way to the definitions: what is kept of a reading, once what it names was found among what was sent.
 -- Assumes nothing.
-use Rattle.std.specs.Prelude.{ℕ, suc, ◌+◌, ◌*◌, ◌/◌, ◌%◌, ◌^◌, Bool, true, false, cond, ◌&&◌, ◌||◌, List, [], ◌∷◌, ◌≡◌, eqb, leb, ltb}
-use Rattle.frame.specs.declared.Settings.{Settings}
-use Rattle.frame.specs.declared.Window.{Window}
-use Rattle.frame.specs.Coded.{coded_window}
-use Rattle.frame.specs.Distance.{before}
+use Rattle.std.specs.Prelude.{Option, Some, None, ℕ, zero, suc, ◌+◌, ◌-◌, ◌*◌, ◌/◌, ◌%◌, ◌^◌, Bool, cond, ◌&&◌, ◌||◌, List, eqb, leb, ltb, length, get_or, take}
+use Rattle.std.specs.Option.{option_map}
+use Rattle.frame.specs.Order.{times_of}
 use Rattle.frame.specs.Table.{window_of}
-use Rattle.heard.specs.Heard.{heard_refusal}
+use Rattle.symbols.specs.Delivered.{set_of}
 use Rattle.station.specs.declared.Place.{Place}
+use Rattle.station.specs.declared.Place.TheVariants as place
 use Rattle.station.specs.declared.Reading.{Reading}
-use Rattle.station.specs.declared.Reading.TheVariants.{Bundled, Multiplexed, Refused}
-use Rattle.station.specs.declared.Told.TheVariants.{NotTold, At}
-use Rattle.station.specs.Readings.{Names}
+use Rattle.station.specs.declared.Reading.TheVariants as reading
 use Rattle.confirmation.specs.declared.Send.{Send}
-use Rattle.confirmation.specs.Confirmed.{named_sent, holds_for, acknowledged}
-use Rattle.confirmation.specs.Sent.{is_pdcch, is_block, blocks_of, as_heard}
+use Rattle.confirmation.specs.Confirmed.{named_sent, sent_up_to, acknowledged}
+use Rattle.confirmation.specs.Sent.{is_pdcch, blocks_of}
+use Rattle.confirming.specs.declared.blocks.Acks.{Acks}
+use Rattle.confirming.specs.declared.blocks.Acks.TheVariants as acks
 use Rattle.confirming.specs.declared.blocks.Named.{Named}
-use Rattle.confirming.specs.declared.checks.Looked.{Looked}
-use Rattle.confirming.specs.declared.SentWindow.{SentWindow}
-use Rattle.confirming.specs.Blocks.{reading_refusal}
+use Rattle.confirming.specs.declared.blocks.Named.TheVariants as named
+use Rattle.confirming.specs.declared.Sent.{Sent}
+use Rattle.confirming.specs.declared.SentIn.{SentIn}
 use Rattle.confirming.specs.Records.{sent_in}
-use Rattle.confirming.specs.Refusals.{earlier}
 
--- What is found before any record.
-abbrev pub unlooked : Looked
-unlooked = record { refusal = 0; blocks = 0; told = NotTold }
+-- K of a window.
+abbrev pub k_in : SentIn → List ℕ
+k_in w = window_of w.config w.n
 
--- One record more, at position m, sent k before the reply, in front of those looked at: the first refusal, the scheduled blocks, and
--- the position of the first of them.
-unfoldable pub look_of : Looked → Settings → ℕ → ℕ → ℕ → Send → Looked
-look_of found s n k m x =
-    record {
-      refusal = earlier (heard_refusal s (before n k) (as_heard x)) found.refusal;
-      blocks = cond (is_block x) 1 0 + found.blocks;
-      told = cond (is_block x) (At m) found.told;
-    }
+-- The records of its positions.
+abbrev pub records_in : SentIn → List Sent
+records_in w = take (length (k_in w)) w.sent.now.at
 
--- The records of the subframes `ks`, whose first stands at position m.
-unfoldable pub looked_from : Settings → ℕ → (ℕ → Send) → ℕ → List ℕ → Looked
-looked_from s n sent m [] = unlooked
-looked_from s n sent m (k ∷ ks) = look_of (looked_from s n sent (suc m) ks) s n k m (sent k)
+-- What was sent k before the reply.
+abbrev pub send_in : SentIn → ℕ → Send
+send_in w = sent_in (k_in w) w.sent.now
 
--- A bundled ACK holds for x, sent k ago, by what is kept of the place that it names: the block there, or the PDCCH there, its k, and
--- whether at most four PDCCHs were sent up to and with it.
+-- A bundled ACK holds for x, sent k ago, by what it names: the PDCCH there, with whether at most four PDCCHs were sent up to and with
+-- it, or the block there.
 unfoldable pub holds_by : Named → ℕ → Send → Bool
-holds_by named k x =
-    cond named.block (eqb k named.k) (is_pdcch x && (eqb k named.k || (named.few && leb named.k k)))
+holds_by (named.Pdcch at few) k x = is_pdcch x && (eqb k at || (few && leb at k))
+holds_by (named.Block at) k x = eqb k at
 
--- What is kept says of that place what the definitions say.
-pub record NamedBy (ks : List ℕ) (sent : ℕ → Send) (place : Place) (named : Named) : Type 0 where
-  pub there : named.there ≡ named_sent ks sent place
-  pub holds : named.there ≡ true → (k : ℕ) → holds_by named k (sent k) ≡ holds_for ks sent place k
+-- What stands at a place.
+abbrev pub named_at : List ℕ → (ℕ → Send) → Place → Named
+named_at ks sent (place.Pdcch m c) = named.Pdcch (get_or ks m 0) (leb (sent_up_to sent (get_or ks m 0) (times_of ks)) 4)
+named_at ks sent (place.Block m) = named.Block (get_or ks m 0)
 
--- What is kept when the blocks of a window are gone through: the window is that of n, and the reading, which is not refused, names
--- the place that is kept.
-pub record ReadsBy (config n : ℕ) (w : Window) (sent : SentWindow) (reading : Reading) (named : Named) : Type 0 where
-  pub window : w ≡ coded_window (window_of config n)
-  pub accepted : reading_refusal reading ≡ 0
-  pub names : (place : Place) → Names reading place → NamedBy (window_of config n) (sent_in (window_of config n) sent) place named
+-- The same, if it was sent.
+unfoldable pub named_by : List ℕ → (ℕ → Send) → Place → Option Named
+named_by ks sent place = cond (named_sent ks sent place) (Some (named_at ks sent place)) None
 
--- The reading acknowledges a block of x, sent k ago at position m.
-unfoldable pub says_by : Reading → Named → ℕ → ℕ → Send → ℕ → Bool
-says_by (Bundled place b0 b1) named k m x block = named.there && holds_by named k x && acknowledged x block b0 b1
-says_by (Multiplexed place positions) named k m x block = named.there && eqb (positions / 2 ^ m % 2) 1
-says_by (Refused r) named k m x block = false
+-- What a reading acknowledges, if what it names was sent.
+unfoldable pub acks_of : List ℕ → (ℕ → Send) → Reading → Option Acks
+acks_of ks sent (reading.Bundled place b0 b1) = option_map (λ (n : Named). acks.Bits n b0 b1) (named_by ks sent place)
+acks_of ks sent (reading.Multiplexed place positions) = option_map (λ (n : Named). acks.Positions positions) (named_by ks sent place)
 
--- The reading confirms it: x carries it, and it is acknowledged.
-unfoldable pub confirms_by : Reading → Named → ℕ → ℕ → Send → ℕ → Bool
-confirms_by reading named k m x block = ltb block (blocks_of x) && says_by reading named k m x block
+-- A block of x, sent k ago at position m, is confirmed: x carries it, and it is acknowledged.
+unfoldable pub confirms_by : Acks → ℕ → ℕ → Send → ℕ → Bool
+confirms_by (acks.Bits named b0 b1) k m x block = ltb block (blocks_of x) && (holds_by named k x && acknowledged x block b0 b1)
+confirms_by (acks.Positions positions) k m x block = ltb block (blocks_of x) && eqb (positions / 2 ^ m % 2) 1
+
+-- The positions whose block is confirmed.
+unfoldable pub confirmed_set : List ℕ → (ℕ → Send) → Acks → ℕ → ℕ
+confirmed_set ks sent acks block = set_of (length ks) (λ (m : ℕ). confirms_by acks (get_or ks m 0) m (sent (get_or ks m 0)) block)
 
 -- Sets of positions, filled from the last position down: n positions from m on.
 unfoldable pub set_from : ℕ → ℕ → (ℕ → Bool) → ℕ
-set_from m ℕ.zero f = 0
+set_from m zero f = 0
 set_from m (suc n) f = cond (f m) 1 0 + 2 * set_from (suc m) n f
+
+-- The positions from m on whose block is confirmed.
+unfoldable pub confirmed_from : List ℕ → (ℕ → Send) → Acks → ℕ → ℕ → ℕ
+confirmed_from ks sent acks block m =
+    set_from m (length ks - m) (λ (m : ℕ). confirms_by acks (get_or ks m 0) m (sent (get_or ks m 0)) block)

@@ -1,7 +1,7 @@
 -- What the call refuses, and which blocks it confirms, in words, with no word of how it is found: document 01, "Causes and their
 -- numbers"; document 02, U1, U2 and U10. proofs/Exactly.antt and proofs/Answers.antt show that the definitions are exactly this.
 -- Assumes nothing.
-use Rattle.std.specs.Prelude.{ℕ, ◌/◌, ◌%◌, ◌^◌, ◌<◌, ◌≤◌, true, ◌⊎◌, ◌↔◌, ◌≡◌}
+use Rattle.std.specs.Prelude.{Result, ℕ, ◌/◌, ◌%◌, ◌^◌, ◌<◌, ◌≤◌, true, ◌⊎◌, ◌↔◌, ◌≡◌}
 use Rattle.frame.specs.declared.Settings.{Settings}
 use Rattle.frame.specs.Distance.{subframe_of}
 use Rattle.frame.specs.Settings.{window_refusal}
@@ -14,7 +14,7 @@ use Rattle.station.specs.Readings.{told_refusal, read_of}
 use Rattle.confirmation.specs.declared.Send.{Send}
 use Rattle.confirmation.specs.Confirmed.{confirmed}
 use Rattle.confirmation.specs.Sent.{is_block, as_heard, told_of}
-use Rattle.confirming.specs.declared.Confirmed.{Confirmed}
+use Rattle.confirming.specs.Blocks.{Confirmed}
 use Rattle.confirming.specs.declared.SentWindow.{SentWindow}
 use Rattle.confirming.specs.Blocks.{reading_refusal, confirmed_of}
 use Rattle.confirming.specs.Records.{send_of, record_at, sent_in}
@@ -76,11 +76,11 @@ pub record CallRefused (s : Settings) (n : ℕ) (w : SentWindow) : Type 0 where
   pub told : call_refusal s n w ≡ 0 → told_refusal s n (told_of (window_of s.config n) (sent_in (window_of s.config n) w)) ≡ 0
 
 -- The reading of the reply on resource r with the bits b0 and b1, told the scheduled position that was sent.
-abbrev pub reply_read : Settings → ℕ → SentWindow → ℕ → ℕ → ℕ → Reading
+abbrev pub reply_read : Settings → ℕ → SentWindow → ℕ → ℕ → ℕ → Result Reading ℕ
 reply_read s n w r b0 b1 = read_of s n (told_of (window_of s.config n) (sent_in (window_of s.config n) w)) r b0 b1
 
 -- The set has bit m exactly for the positions m of the window whose block that reading confirms.
-abbrev pub HasConfirmed : ℕ → Settings → ℕ → SentWindow → Reading → ℕ → Type 0
+abbrev pub HasConfirmed : ℕ → Settings → ℕ → SentWindow → Result Reading ℕ → ℕ → Type 0
 HasConfirmed set s n w reading block =
     (m : ℕ)
     → (set / 2 ^ m % 2 ≡ 1)

@@ -1,23 +1,29 @@
 -- Windows counted by whole frames: each frame completes as many as the first. Assumes nothing.
 use Prim.Native.Nat.{ℕ, zero, suc, ◌+◌, ◌*◌, ◌/◌, ◌%◌, ◌≤◌}
-use mathlib.Core.Bool.{cond, not}
+use mathlib.Core.Bool.{cond}
 use mathlib.Core.Path.{◌≡◌, ap}
 use native.Mathlib.Nat.{suc-mul, zero-mul, zero-add, add-zero, div-add-mod', mul-le-mul_left}
 use native.Mathlib.Numerals.{add-one}
 use native.Mathlib.Omega.{arith}
-use mir.Val.{bool_byte}
-use lib.Dec.{eqb}
-use lib.ListN.{length}
-use Rattle.frame.specs.Table.{window_of}
-use Rattle.frame.proofs.Bools.{cast_bit, bit_small}
+use Rattle.std.proofs.lemmas.List.Sums.{sum_by-cons}
+use Rattle.std.specs.List.{count_by, range_with_len}
+use Rattle.frame.proofs.Bools.{bit_small}
 use Rattle.counting.specs.Windows.{has_window, windows_before}
 
 module _ (c : ℕ) where
-  -- One subframe more, from the size of its window.
-  pub one_more : (i size count : ℕ) → size ≡ length (window_of c (i % 10)) → count ≡ windows_before c i
-      → count + bool_byte (not (eqb size 0)) ≡ windows_before c (i + 1)
-  unfolding windows_before has_window
-  one_more i size count e f = rw (add-one, e, f, cast_bit (not (eqb (length (window_of c (i % 10))) 0)))
+  counted_on : (i n : ℕ) → windows_before c i + count_by (λ k. has_window c (k % 10)) (range_with_len i n) ≡ windows_before c (i + n)
+  unfolding windows_before
+  counted_on i zero = rw (add-zero, add-zero)
+  counted_on i (suc n) =
+      let bit : ℕ → ℕ = λ (k : ℕ). cond (has_window c (k % 10)) 1 0 in
+      let same : i + suc n ≡ i + 1 + n = omega arith in
+      let next : windows_before c (i + 1) ≡ windows_before c i + bit i = rw add-one in
+      rw (same, sum_by-cons bit i (range_with_len (i + 1) n)) (omega (arith, next, counted_on (i + 1) n))
+
+  -- The windows of the first subframes, counted one by one.
+  pub counted : (n : ℕ) → count_by (λ k. has_window c (k % 10)) (range_with_len 0 n) ≡ windows_before c n
+  unfolding windows_before
+  counted n = simp zero-add at (counted_on 0 n)
 
   -- A subframe completes one window at most.
   pub windows_most : (n : ℕ) → windows_before c n ≤ n

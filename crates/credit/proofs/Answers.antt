@@ -1,12 +1,13 @@
 -- What one call answers is what the words of specs/Exactly.antt say: refusals in their order, and the credit.
 -- Assumes nothing.
+use Rattle.std.proofs.Common.{Result, Ok, Err}
 use Prim.Native.Nat.{ℕ, zero, suc, ◌+◌, ◌<◌, ◌≤◌}
 use mathlib.Core.Bool.{Bool, true, false, cond}
 use mathlib.Core.Logic.{◌⊎◌, inl, inr, ◌↔◌, ⊎_elim}
 use mathlib.Core.Path.{◌≡◌, refl, sym, ap, ◌∙◌}
 use native.Mathlib.Omega.{arith}
 use lib.ListN.{length, take}
-use borrow.Author.Tests.{ne_eqb}
+use Rattle.std.proofs.Common.{Result, Ok, Err}
 use Rattle.frame.specs.declared.Settings.{Settings}
 use Rattle.frame.specs.Settings.{or_else}
 use Rattle.frame.specs.Table.{window_of}
@@ -17,21 +18,38 @@ use Rattle.confirming.specs.Exactly.{reply_read}
 use Rattle.confirming.specs.Refusals.{call_refusal}
 use Rattle.confirming.proofs.Answers.{blocks_confirmed}
 use Rattle.account.specs.declared.Account.{Account}
-use Rattle.account.specs.Account.{account_refusal, add_refusal, add_of}
+use Rattle.account.specs.Account.{account_refusal, add_of}
 use Rattle.account.specs.Laws.{InOrder, Grown}
 use Rattle.account.proofs.Equation.{one_or_none}
-use Rattle.account.proofs.Totals.{accounts, within}
-use Rattle.credit.specs.declared.Credited.{Credited}
-use Rattle.credit.specs.Credit.{bad_records, sizes_refusal, prior_refusal, credited_octets, added_of, refused_or, credit_by, credit_reading, credit_of}
+use Rattle.account.proofs.Totals.{accounts, within, given}
+use Rattle.credit.specs.Credit.{Credited}
+use Rattle.credit.specs.Credit.{bad_records, sizes_refusal, prior_refusal, credited_octets, added_as, added_of, refused_or, credit_by, credit_reading, credit_of}
 use Rattle.credit.specs.Exactly.{SizeOut, CreditAnswers}
 use Rattle.credit.proofs.OutOfRange.{size_says, says_size}
 use Rattle.credit.proofs.Same.{credit_same}
+
+-- What is answered where octets are added, or that is refused.
+module _ (a : Account) (octets : ℕ) where
+  refused_sum : (k : ℕ) → (added_of a octets).refusal ≡ suc k → add_of a octets ≡ Err (suc k)
+  refused_sum k = go (add_of a octets)
+    where
+      go : (sum : Result Account ℕ) → (added_as a octets sum).refusal ≡ suc k → sum ≡ Err (suc k)
+      go (Ok b) e = absurd (omega (arith, e))
+      go (Err j) e = ap Err e
+
+  left_sum : ((added_of a octets).refusal ≡ 0 → ⊥) → ((added_of a octets).octets ≡ 0) × ((added_of a octets).account ≡ a)
+  left_sum = go (add_of a octets)
+    where
+      go : (sum : Result Account ℕ) → ((added_as a octets sum).refusal ≡ 0 → ⊥)
+          → ((added_as a octets sum).octets ≡ 0) × ((added_as a octets sum).account ≡ a)
+      go (Ok b) not = absurd (not refl)
+      go (Err k) not = (refl, refl)
 
 module _ (s : Settings) (n : ℕ) (w : SentWindow) (r b0 b1 : ℕ) (a : Account) where
   abbrev M : ℕ
   M = length (window_of s.config n)
 
-  abbrev read : Reading
+  abbrev read : Result Reading ℕ
   read = reply_read s n w r b0 b1
 
   abbrev answer : Credited
@@ -96,7 +114,7 @@ module _ (s : Settings) (n : ℕ) (w : SentWindow) (r b0 b1 : ℕ) (a : Account)
   not_25 : call_refusal s n w ≡ 0 → prior_refusal s n w a ≡ 0 → account_refusal a ≡ 0 → answer.refusal ≡ 25 → ⊥
   not_25 none e account is =
       ⊎_elim
-      (λ zero. accounts.never25 a (credited_octets s.config n w read) account (sym (ap (λ (c : Credited). c.refusal) (added_answer e zero)) ∙ is))
+      (λ zero. accounts.never25 a (credited_octets s.config n w read) account (refused_sum a (credited_octets s.config n w read) 24 (sym (ap (λ (c : Credited). c.refusal) (added_answer e zero)) ∙ is)))
       (⊎_elim (λ p. omega (arith, refused_reading e 12 p)) (λ p. omega (arith, refused_reading e 13 p)))
       (left none)
 
@@ -122,28 +140,24 @@ module _ (s : Settings) (n : ℕ) (w : SentWindow) (r b0 b1 : ℕ) (a : Account)
       → let octets : ℕ = credited_octets s.config n w read in
       ((answer.refusal ≡ 26) ↔ (1000000000000 < a.octets + octets))
       × (a.octets + octets ≤ 1000000000000 → (answer.refusal ≡ 0) × (answer.octets ≡ octets) × Grown a octets answer.account)
-  unfolding add_of
   total none sizes account is =
       let octets : ℕ = credited_octets s.config n w read in
-      let order : account_refusal a ≡ 0 = (accounts.accepted a).1 account in
+      let over = accounts.over a octets ((accounts.accepted a).1 account) in
       let added : answer ≡ added_of a octets = added_answer (accepted none sizes account) is in (
-        rw added (accounts.over a octets order),
+        rw added (λ e. over.0 (refused_sum a octets 25 e), λ lt. rw (over.1 lt)),
         λ few.
-            let free : add_refusal a octets ≡ 0 = within a octets order few in
-            rw added (free, rw free, accounts.grown a octets free),
+            let sum = given a octets (within a octets ((accounts.accepted a).1 account) few) in
+            rw (added, sum) (refl, refl, accounts.grown a octets _ sum),
       )
 
   leaves : (answer.refusal ≡ 0 → ⊥) → (answer.octets ≡ 0) × (answer.account ≡ a)
   unfolding credit_of credit_by
   leaves not = go (reading_refusal (credit_reading s n w r b0 b1 a)) not
     where
-      added : (octets : ℕ) → ((add_of a octets).refusal ≡ 0 → ⊥) → ((added_of a octets).octets ≡ 0) × ((added_of a octets).account ≡ a)
-      added octets not = (rw (ne_eqb (add_of a octets).refusal 0 not), accounts.nothing a octets not)
-
       go : (k : ℕ) → ((refused_or k a (added_of a (credited_octets s.config n w (credit_reading s n w r b0 b1 a)))).refusal ≡ 0 → ⊥)
           → ((refused_or k a (added_of a (credited_octets s.config n w (credit_reading s n w r b0 b1 a)))).octets ≡ 0)
           × ((refused_or k a (added_of a (credited_octets s.config n w (credit_reading s n w r b0 b1 a)))).account ≡ a)
-      go zero not = added (credited_octets s.config n w (credit_reading s n w r b0 b1 a)) not
+      go zero not = left_sum a (credited_octets s.config n w (credit_reading s n w r b0 b1 a)) not
       go (suc k) not = (refl, refl)
 
   pub credit_answers : CreditAnswers s n w r b0 b1 a

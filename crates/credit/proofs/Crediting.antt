@@ -1,97 +1,105 @@
--- The credit of a reading, and what is refused before it.
+-- The credit of a call: what is refused before the reply is read, the reading, and the octets added to the account.
 -- Assumes nothing.
+use Rattle.std.proofs.Common.{Result, Ok, Err, Option, IsErrAnd}
 use Prim.Native.Nat.{ℕ, zero, suc}
 use mathlib.Core.List.{List}
-use mathlib.Core.Path.{◌≡◌, sym, ap, ◌∙◌}
+use mathlib.Core.Path.{◌≡◌, refl, sym, ◌∙◌}
 use lib.ListN.{length}
-use borrow.Author.Tests.{ne_eqb}
-use Rattle.account.specs.declared.Account.{Account}
-use Rattle.account.specs.declared.Added.{Added}
-use Rattle.account.specs.Account.{add_of}
-use Rattle.credit.specs.declared.Credited.{Credited}
+use Rattle.std.proofs.lemmas.Result.{err_from_is_err_and}
 use Rattle.frame.specs.declared.Settings.{Settings}
+use Rattle.frame.specs.declared.refusal.Refusal.{Refusal}
+use Rattle.frame.specs.Refusals.{number_of, refusal_in, numbered, unless_refused}
 use Rattle.frame.specs.Settings.{or_else}
 use Rattle.frame.specs.Table.{window_of}
-use Rattle.frame.proofs.Causes.{refused_first, refused_next}
-use Rattle.account.specs.Account.{account_refusal}
+use Rattle.frame.proofs.Refused.{from_one}
 use Rattle.station.specs.declared.Reading.{Reading}
-use Rattle.station.specs.Readings.{read_as, read_of}
+use Rattle.station.specs.declared.Reading.TheVariants.{Bundled, Multiplexed}
+use Rattle.station.specs.Readings.{read_of}
 use Rattle.confirmation.specs.Sent.{told_of}
-use Rattle.confirming.specs.declared.Checked.{Checked}
-use Rattle.confirming.specs.declared.Confirmed.{Confirmed}
 use Rattle.confirming.specs.declared.SentWindow.{SentWindow}
-use Rattle.confirming.specs.Blocks.{reading_refusal, confirmed_by, checked_of}
+use Rattle.confirming.specs.Blocks.{reading_refusal, checked_of}
 use Rattle.confirming.specs.Records.{sent_in}
 use Rattle.confirming.specs.Refusals.{call_refusal}
-use Rattle.credit.specs.declared.octets.Blocks.{Blocks}
-use Rattle.credit.specs.Coded.{own_blocks, block_in}
-use Rattle.credit.specs.Credit.{sizes_refusal, prior_refusal, octets_where, credited_octets, added_of, refused_or, credit_by, credit_reading, credit_of}
-use Rattle.credit.proofs.Sums.{credited_is}
+use Rattle.account.specs.declared.Account.{Account}
+use Rattle.account.specs.Account.{account_refusal, add_of}
+use Rattle.credit.specs.Credit.{Credited, credited_as, sizes_refusal, prior_refusal, credited_octets, added_as, credit_by, credit_reading, credit_of}
 
-module _ (a : Account) (octets : ℕ) (sum : Added) (is : sum ≡ add_of a octets) where
-  pub refused_sum : (r : Credited) → (sum.refusal ≡ 0 → ⊥) → r ≡ record { refusal = sum.refusal; octets = 0; account = sum.account } → r ≡ added_of a octets
-  refused_sum r not e = e ∙ rw (← is, ne_eqb sum.refusal 0 not)
+-- What is answered beside a refusal.
+abbrev refused : Refusal → Account → Credited
+refused e a = credited_as (Err e) a
 
-  pub added_sum : sum.refusal ≡ 0 → ◌≡◌ {A = Credited} (record { refusal = 0; octets = octets; account = sum.account }) (added_of a octets)
-  added_sum e = rw (← is, e)
+-- The exit of a `?` answers its refusal.
+pub refused_as : (x : Result ℕ Refusal) (e : Refusal) (a : Account) (c : Credited) → IsErrAnd x (λ y. y ≡ e) → c ≡ refused e a → credited_as x a ≡ c
+refused_as x e a c is same = let p = err_from_is_err_and x is in rw (p.1, p.2) (sym same)
 
--- A refusal, whatever else would be answered.
-refused_or_holds : (k j : ℕ) (a : Account) (r : Credited) → k ≡ j → (k ≡ 0 → ⊥) → record { refusal = k; octets = 0; account = a } ≡ refused_or j a r
-refused_or_holds k zero a r e not = absurd (not e)
-refused_or_holds k (suc j) a r e not = rw e
+first_met : (e : Refusal) (next : ℕ) → or_else (number_of e) next ≡ number_of e
+first_met e next = let p = from_one e in rw p.1
 
--- The credit of a reading.
-module _ (config n : ℕ) (w : SentWindow) (read : Reading) (a : Account) (c : Confirmed)
-    (is : c ≡ confirmed_by (window_of config n) (sent_in (window_of config n) w) read) where
-  refusal_is : c.refusal ≡ reading_refusal read
-  unfolding confirmed_by
-  refusal_is = ap (λ (c : Confirmed). c.refusal) is
+met : {T : Type 0} (k j : ℕ) (x : T) → unless_refused k x ≡ Err j → k ≡ j
+met zero j x e = absurd (cc)
+met (suc k) j x e = cc
 
-  pub reading_refused : (c.refusal ≡ 0 → ⊥) → (r : Credited) → r ≡ record { refusal = c.refusal; octets = 0; account = a } → r ≡ credit_by config n w read a
-  unfolding credit_by
-  reading_refused not r e = e ∙ refused_or_holds c.refusal (reading_refusal read) a _ refusal_is not
+unmet : {T : Type 0} (k : ℕ) (x y : T) → unless_refused k x ≡ Ok y → (k ≡ 0) × (x ≡ y)
+unmet zero x y e = (refl, cc)
+unmet (suc k) x y e = absurd (cc)
 
-  pub reading_credited : c.refusal ≡ 0 → (blocks : Blocks) (octets : ℕ) (r : Credited) → blocks ≡ own_blocks read c → octets ≡ octets_where config n w (block_in blocks)
-      → r ≡ added_of a octets → r ≡ credit_by config n w read a
-  unfolding credit_by
-  reading_credited e blocks octets r own summed added =
-      let accepted : reading_refusal read ≡ 0 = sym refusal_is ∙ e in
-      let all : octets ≡ credited_octets config n w read = summed ∙ rw (own, is) (credited_is config n w read) in
-      added ∙ rw (accepted, all)
+accepted : (read : Reading) → reading_refusal (Ok read) ≡ 0
+accepted (Bundled place b0 b1) = refl
+accepted (Multiplexed place positions) = refl
 
--- What comes before the reading.
-module _ (s : Settings) (n : ℕ) (w : SentWindow) (r b0 b1 : ℕ) (a : Account) (c : Checked) (is : c ≡ checked_of s n w) where
+module _ (s : Settings) (n : ℕ) (w : SentWindow) (r b0 b1 : ℕ) (a : Account) where
   abbrev K : List ℕ
   K = window_of s.config n
 
-  call_is : c.refusal ≡ call_refusal s n w
-  unfolding checked_of
-  call_is = ap (λ (c : Checked). c.refusal) is
+  abbrev answer : Credited
+  answer = credit_of s n w r b0 b1 a
 
-  -- A refusal before the reading is that of the credit.
-  refused_prior : (k : ℕ) (x : Credited) → k ≡ prior_refusal s n w a → (k ≡ 0 → ⊥) → x ≡ record { refusal = k; octets = 0; account = a } → x ≡ credit_of s n w r b0 b1 a
+  prior_refused : (e : Refusal) → prior_refusal s n w a ≡ number_of e → answer ≡ refused e a
   unfolding credit_of credit_reading credit_by
-  refused_prior k x e not is = is ∙ go (prior_refusal s n w a) e
-    where
-      go : (j : ℕ) → k ≡ j
-          → record { refusal = k; octets = 0; account = a }
-          ≡ refused_or (reading_refusal (read_as j (read_of s n (told_of K (sent_in K w)) r b0 b1))) a (added_of a (credited_octets s.config n w (read_as j (read_of s n (told_of K (sent_in K w)) r b0 b1))))
-      go zero e = absurd (not e)
-      go (suc j) e = rw e
+  prior_refused e is = let p = from_one e in rw (is, p.1)
 
-  pub sent_refused : (c.refusal ≡ 0 → ⊥) → (x : Credited) → x ≡ record { refusal = c.refusal; octets = 0; account = a } → x ≡ credit_of s n w r b0 b1 a
-  unfolding prior_refusal
-  sent_refused not x e = refused_prior c.refusal x (refused_first c.refusal (call_refusal s n w) _ call_is not) not e
+  prior_free : prior_refusal s n w a ≡ 0 → answer ≡ credit_by s.config n w (read_of s n (told_of K (sent_in K w)) r b0 b1) a
+  unfolding credit_of credit_reading
+  prior_free is = rw is
 
-  module _ (none : c.refusal ≡ 0) (charge : ℕ) (asked : charge ≡ or_else (sizes_refusal (length K) w) (account_refusal a)) where
-    pub charge_refused : (charge ≡ 0 → ⊥) → (x : Credited) → x ≡ record { refusal = charge; octets = 0; account = a } → x ≡ credit_of s n w r b0 b1 a
-    unfolding prior_refusal
-    charge_refused not x e = refused_prior charge x (refused_next c.refusal (call_refusal s n w) charge _ call_is none asked) not e
+  -- What was sent, as the code checks it.
+  module _ (asked : Result (Option ℕ) Refusal) (checked : numbered asked ≡ checked_of s n w) where
+    pub sent_refused : (e : Refusal) → asked ≡ Err e → answer ≡ refused e a
+    unfolding prior_refusal checked_of
+    sent_refused e is =
+        let first : call_refusal s n w ≡ number_of e = met _ _ (told_of K (sent_in K w)) (sym checked ∙ rw is) in
+        prior_refused e (rw first (first_met e _))
 
-    pub reading_told : charge ≡ 0 → (read : Reading) → read ≡ read_of s n c.told r b0 b1 → (x : Credited) → x ≡ credit_by s.config n w read a → x ≡ credit_of s n w r b0 b1 a
-    unfolding credit_of credit_reading prior_refusal checked_of
-    reading_told free read reads x e =
-        let called : call_refusal s n w ≡ 0 = sym call_is ∙ none in
-        let charged : or_else (sizes_refusal (length K) w) (account_refusal a) ≡ 0 = sym asked ∙ free in
-        let told : c.told ≡ told_of K (sent_in K w) = ap (λ (c : Checked). c.told) is ∙ rw called in
-        e ∙ rw (reads, told, called, charged)
+    -- The sizes, the price and the account.
+    module _ (told : Option ℕ) (sent : asked ≡ Ok told) {T : Type 0} (charge : Result T Refusal)
+        (charged : refusal_in charge ≡ or_else (sizes_refusal (length K) w) (account_refusal a)) where
+      none : (call_refusal s n w ≡ 0) × (told_of K (sent_in K w) ≡ told)
+      unfolding checked_of
+      none = unmet _ (told_of K (sent_in K w)) told (sym checked ∙ rw sent)
+
+      pub charge_refused : (e : Refusal) → charge ≡ Err e → answer ≡ refused e a
+      unfolding prior_refusal
+      charge_refused e is = prior_refused e (rw (none.0, ← charged, is))
+
+      -- The reading.
+      module _ (x : T) (free : charge ≡ Ok x) (reading : Result Reading Refusal) (reads : numbered reading ≡ read_of s n told r b0 b1) where
+        read_answer : answer ≡ credit_by s.config n w (numbered reading) a
+        unfolding prior_refusal
+        read_answer = prior_free (rw (none.0, ← charged, free)) ∙ rw (none.1, reads)
+
+        pub reading_refused : (e : Refusal) → reading ≡ Err e → answer ≡ refused e a
+        unfolding credit_by
+        reading_refused e is = let p = from_one e in read_answer ∙ rw (is, p.1)
+
+        -- The octets, added to the account.
+        module _ (read : Reading) (is : reading ≡ Ok read) (octets : ℕ) (summed : octets ≡ credited_octets s.config n w (Ok read))
+            (sum : Result Account Refusal) (added : numbered sum ≡ add_of a octets) where
+          added_answer : answer ≡ added_as a octets (numbered sum)
+          unfolding credit_by
+          added_answer = read_answer ∙ rw (is, accepted read, ← summed, added)
+
+          pub sum_refused : (e : Refusal) → sum ≡ Err e → answer ≡ refused e a
+          sum_refused e over = added_answer ∙ rw over
+
+          pub sum_credited : (b : Account) → sum ≡ Ok b → credited_as (Ok octets) b ≡ answer
+          sum_credited b given = sym (added_answer ∙ rw given)

@@ -1,5 +1,6 @@
 -- What is credited and what is refused is what the words of specs/Exactly.antt say, both ways.
 -- Assumes nothing.
+use Rattle.std.proofs.Common.{Result, Ok}
 use Prim.Native.Nat.{ℕ, ◌<◌, ◌≤◌}
 use mathlib.Core.Bool.{true}
 use mathlib.Core.List.{List}
@@ -23,16 +24,16 @@ use Rattle.credit.specs.Credit.{own_bit, credited}
 use Rattle.credit.specs.Exactly.{OwnBit, BundledCredited, BlockCredited, CreditedExactly}
 
 -- A block's own bit.
-own_says : (named : Place) (b0 b1 block : ℕ) → own_bit (reading.Bundled named b0 b1) block ≡ true → OwnBit block b0 b1
+own_says : (named : Place) (b0 b1 block : ℕ) → own_bit (Ok (reading.Bundled named b0 b1)) block ≡ true → OwnBit block b0 b1
 own_says named b0 b1 block e = (
   λ first. eqb-true b0 1 (rw (eq-eqb block 0 first) at e),
   λ other. eqb-true b1 1 (rw (ne_eqb block 0 other) at e),
 )
 
-says_own : (named : Place) (b0 b1 block : ℕ) → OwnBit block b0 b1 → own_bit (reading.Bundled named b0 b1) block ≡ true
+says_own : (named : Place) (b0 b1 block : ℕ) → OwnBit block b0 b1 → own_bit (Ok (reading.Bundled named b0 b1)) block ≡ true
 says_own named b0 b1 block bit = go (ℕ_discrete block 0)
   where
-    go : Dec (block ≡ 0) → own_bit (reading.Bundled named b0 b1) block ≡ true
+    go : Dec (block ≡ 0) → own_bit (Ok (reading.Bundled named b0 b1)) block ≡ true
     go (yes first) = rw (eq-eqb block 0 first, eq-eqb b0 1 (bit.0 first))
     go (no other) = rw (ne_eqb block 0 other, eq-eqb b1 1 (bit.1 other))
 
@@ -45,21 +46,21 @@ own_acknowledges x block b0 b1 carries most bit = (
 )
 
 module _ (ks : List ℕ) (sent : ℕ → Send) where
-  pub split : (read : Reading) (m block : ℕ) → credited ks sent read m block ≡ true → (confirmed ks sent read m block ≡ true) × (own_bit read block ≡ true)
+  pub split : (read : Result Reading ℕ) (m block : ℕ) → credited ks sent read m block ≡ true → (confirmed ks sent read m block ≡ true) × (own_bit read block ≡ true)
   unfolding credited
   split read m block e = both (confirmed ks sent read m block) (own_bit read block) e
 
-  join : (read : Reading) (m block : ℕ) → confirmed ks sent read m block ≡ true → own_bit read block ≡ true → credited ks sent read m block ≡ true
+  join : (read : Result Reading ℕ) (m block : ℕ) → confirmed ks sent read m block ≡ true → own_bit read block ≡ true → credited ks sent read m block ≡ true
   unfolding credited
   join read m block e own = rw (e, own)
 
   bundled : (named c b0 b1 m block : ℕ) → blocks_of (sent (get_or ks m 0)) ≤ 2
-      → (credited ks sent (reading.Bundled (place.Pdcch named (record { 0 = c })) b0 b1) m block ≡ true) ↔ BundledCredited ks sent named c b0 b1 m block
+      → (credited ks sent (Ok (reading.Bundled (place.Pdcch named (record { 0 = c })) b0 b1)) m block ≡ true) ↔ BundledCredited ks sent named c b0 b1 m block
   bundled named c b0 b1 m block most = (to, from)
     where
-      to : credited ks sent (reading.Bundled (place.Pdcch named (record { 0 = c })) b0 b1) m block ≡ true → BundledCredited ks sent named c b0 b1 m block
+      to : credited ks sent (Ok (reading.Bundled (place.Pdcch named (record { 0 = c })) b0 b1)) m block ≡ true → BundledCredited ks sent named c b0 b1 m block
       to e =
-          let p = split (reading.Bundled (place.Pdcch named (record { 0 = c })) b0 b1) m block e in
+          let p = split (Ok (reading.Bundled (place.Pdcch named (record { 0 = c })) b0 b1)) m block e in
           let b = (bundled_exactly ks sent named c b0 b1 m block).0 p.0 in
           record {
             there = b.there;
@@ -70,9 +71,9 @@ module _ (ks : List ℕ) (sent : ℕ → Send) where
             bit = own_says (place.Pdcch named (record { 0 = c })) b0 b1 block p.1;
           }
 
-      from : BundledCredited ks sent named c b0 b1 m block → credited ks sent (reading.Bundled (place.Pdcch named (record { 0 = c })) b0 b1) m block ≡ true
+      from : BundledCredited ks sent named c b0 b1 m block → credited ks sent (Ok (reading.Bundled (place.Pdcch named (record { 0 = c })) b0 b1)) m block ≡ true
       from b =
-          join (reading.Bundled (place.Pdcch named (record { 0 = c })) b0 b1) m block
+          join (Ok (reading.Bundled (place.Pdcch named (record { 0 = c })) b0 b1)) m block
           ((bundled_exactly ks sent named c b0 b1 m block).1
           (record {
             there = b.there;
@@ -85,18 +86,18 @@ module _ (ks : List ℕ) (sent : ℕ → Send) where
           (says_own (place.Pdcch named (record { 0 = c })) b0 b1 block b.bit)
 
   block_alone_holds : (named b0 b1 m block : ℕ) → blocks_of (sent (get_or ks m 0)) ≤ 2
-      → (credited ks sent (reading.Bundled (place.Block named) b0 b1) m block ≡ true) ↔ BlockCredited ks sent named b0 b1 m block
+      → (credited ks sent (Ok (reading.Bundled (place.Block named) b0 b1)) m block ≡ true) ↔ BlockCredited ks sent named b0 b1 m block
   block_alone_holds named b0 b1 m block most = (to, from)
     where
-      to : credited ks sent (reading.Bundled (place.Block named) b0 b1) m block ≡ true → BlockCredited ks sent named b0 b1 m block
+      to : credited ks sent (Ok (reading.Bundled (place.Block named) b0 b1)) m block ≡ true → BlockCredited ks sent named b0 b1 m block
       to e =
-          let p = split (reading.Bundled (place.Block named) b0 b1) m block e in
+          let p = split (Ok (reading.Bundled (place.Block named) b0 b1)) m block e in
           let b = (block_exactly ks sent named b0 b1 m block).0 p.0 in
           record { there = b.there; inside = b.inside; same = b.same; carries = b.carries; bit = own_says (place.Block named) b0 b1 block p.1 }
 
-      from : BlockCredited ks sent named b0 b1 m block → credited ks sent (reading.Bundled (place.Block named) b0 b1) m block ≡ true
+      from : BlockCredited ks sent named b0 b1 m block → credited ks sent (Ok (reading.Bundled (place.Block named) b0 b1)) m block ≡ true
       from b =
-          join (reading.Bundled (place.Block named) b0 b1) m block
+          join (Ok (reading.Bundled (place.Block named) b0 b1)) m block
           ((block_exactly ks sent named b0 b1 m block).1
           (record {
             there = b.there;
@@ -108,10 +109,10 @@ module _ (ks : List ℕ) (sent : ℕ → Send) where
           (says_own (place.Block named) b0 b1 block b.bit)
 
   multiplexed : (named : Place) (positions m block : ℕ)
-      → (credited ks sent (reading.Multiplexed named positions) m block ≡ true) ↔ MultiplexedConfirmed ks sent named positions m block
+      → (credited ks sent (Ok (reading.Multiplexed named positions)) m block ≡ true) ↔ MultiplexedConfirmed ks sent named positions m block
   multiplexed named positions m block = (
-    λ e. (multiplexed_exactly ks sent named positions m block).0 (split (reading.Multiplexed named positions) m block e).0,
-    λ b. join (reading.Multiplexed named positions) m block ((multiplexed_exactly ks sent named positions m block).1 b) refl,
+    λ e. (multiplexed_exactly ks sent named positions m block).0 (split (Ok (reading.Multiplexed named positions)) m block e).0,
+    λ b. join (Ok (reading.Multiplexed named positions)) m block ((multiplexed_exactly ks sent named positions m block).1 b) refl,
   )
 
   pub credited_exactly : CreditedExactly ks sent

@@ -1,38 +1,16 @@
--- 25 for the sizes of a window, record by record, and refusals one after the other.
+-- 25 for the sizes of a window, record by record.
 -- Assumes nothing.
-use Prim.Native.Nat.{ℕ, ◌+◌, ◌<◌, ◌≤◌}
-use mathlib.Core.Bool.{Bool, true, false, ◌||◌}
-use mathlib.Core.List.{List}
-use mathlib.Core.Path.{◌≡◌, ◌∙◌}
-use native.Mathlib.Numerals.{add-one}
-use native.Mathlib.Omega.{arith}
-use lib.ListN.{length, get_or, drop, take, drop_of_length-le}
-use lib.Seq.{drop-cons, get_or-take, length-take-le}
+use mathlib.Core.List.{List, [], ◌∷◌}
+use mathlib.Core.Path.{◌≡◌, refl, ap, ◌∙◌}
+use Rattle.std.specs.List.{list_any}
 use Rattle.confirming.specs.declared.Sent.{Sent}
-use Rattle.confirming.specs.Records.{nothing_sent}
-use Rattle.credit.specs.Credit.{bad_record, bad_records, sizes_refusal}
+use Rattle.credit.specs.Credit.{bad_record, bad_records}
 
-module _ (size : ℕ) (at : List Sent) (fits : size ≤ length at) where
-  abbrev L : List Sent
-  L = take size at
+any_is : (l : List Sent) → list_any bad_record l ≡ bad_records l
+unfolding bad_records
+any_is [] = refl
+any_is (x ∷ l) = rw (any_is l)
 
-  long : length L ≡ size
-  long = length-take-le size at fits
-
-  -- One record, as the code reads it.
-  more : (i : ℕ) → i < size → bad_records (drop i L) ≡ (bad_record (get_or at i nothing_sent) || bad_records (drop (i + 1) L))
-  unfolding bad_records
-  more i h = rw (add-one, drop-cons L i nothing_sent (omega (arith, long)), get_or-take size at i nothing_sent h)
-
-  pub sizes_bad : (i : ℕ) (bad : Bool) → i < size → bad_records L ≡ bad_records (drop i L) → bad ≡ bad_record (get_or at i nothing_sent) → bad ≡ true
-      → 25 ≡ sizes_refusal size (record { at = at })
-  unfolding sizes_refusal
-  sizes_bad i bad h is tested e = rw (is, more i h, ← tested, e)
-
-  pub sizes_next : (i : ℕ) (bad : Bool) → i < size → bad_records L ≡ bad_records (drop i L) → bad ≡ bad_record (get_or at i nothing_sent) → bad ≡ false
-      → bad_records L ≡ bad_records (drop (i + 1) L)
-  sizes_next i bad h is tested e = is ∙ more i h ∙ rw (← tested, e)
-
-  pub sizes_good : (i : ℕ) → size ≤ i → bad_records L ≡ bad_records (drop i L) → 0 ≡ sizes_refusal size (record { at = at })
-  unfolding sizes_refusal bad_records
-  sizes_good i h is = rw (is, drop_of_length-le L {i = i} (omega (arith, long)))
+-- A bad record of a list that is the window's records.
+pub any_bad : (l records : List Sent) → l ≡ records → list_any bad_record l ≡ bad_records records
+any_bad l records e = any_is l ∙ ap bad_records e

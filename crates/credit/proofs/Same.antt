@@ -1,5 +1,6 @@
 -- What a credit does not look at: records from M on, fields that a record's kind has not, and sizes of blocks that it does not carry.
 -- Assumes nothing.
+use Rattle.std.proofs.Common.{Result}
 use Prim.Native.Nat.{ℕ, ◌<◌}
 use mathlib.Core.Bool.{Bool, true, false, cond}
 use mathlib.Core.List.{List}
@@ -72,7 +73,7 @@ module _ (s : Settings) (n : ℕ) where
         (λ e. says_size M w (out_too v w (turned w v says) (size_says M v e))))
 
     -- A credited block is carried, so that its sizes are the same.
-    block_same : (read : Reading) (m block d : ℕ) → m < M
+    block_same : (read : Result Reading ℕ) (m block d : ℕ) → m < M
         → cond (credited K (sent_in K w) read m block) (octets_of s.config d (record_at M w m) block) 0
         ≡ cond (credited K (sent_in K w) read m block) (octets_of s.config d (record_at M v m) block) 0
     unfolding octets_of
@@ -87,7 +88,7 @@ module _ (s : Settings) (n : ℕ) where
             let sizes = (says m h).1 block carries in
             rw (sizes.0, sizes.1)
 
-    octets_same : (read : Reading) → credited_octets s.config n w read ≡ credited_octets s.config n v read
+    octets_same : (read : Result Reading ℕ) → credited_octets s.config n w read ≡ credited_octets s.config n v read
     unfolding credited_octets octets_where octets_at
     octets_same read =
         sum_same M _ _

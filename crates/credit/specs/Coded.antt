@@ -1,14 +1,13 @@
 -- The code's form of the credited blocks: two sets of positions.
 -- Assumes nothing.
-use Rattle.std.specs.Prelude.{ℕ, ◌/◌, ◌%◌, ◌^◌, Bool, cond, eqb}
+use Rattle.std.specs.Prelude.{Ok, ℕ, ◌/◌, ◌%◌, ◌^◌, Bool, cond, eqb}
 use Rattle.station.specs.declared.Reading.{Reading}
-use Rattle.confirming.specs.declared.Confirmed.{Confirmed}
-use Rattle.credit.specs.declared.octets.Blocks.{Blocks}
+use Rattle.confirming.specs.declared.blocks.Blocks.{Blocks}
 use Rattle.credit.specs.Credit.{own_bit}
 
 -- Of the confirmed blocks those whose own bit is ACK.
-unfoldable pub own_blocks : Reading → Confirmed → Blocks
-own_blocks read c = record { first = cond (own_bit read 0) c.first 0; second = cond (own_bit read 1) c.second 0 }
+unfoldable pub own_blocks : Reading → Blocks → Blocks
+own_blocks read b = record { first = cond (own_bit (Ok read) 0) b.first 0; second = cond (own_bit (Ok read) 1) b.second 0 }
 
 -- Position m is in the set.
 abbrev pub in_set : ℕ → ℕ → Bool

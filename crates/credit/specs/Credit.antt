@@ -1,14 +1,16 @@
 -- Crediting delivered octets: document 02, U10. `ks` is K of the window as printed, `sent k` what was sent k subframes before the
 -- reply, position m stands for subframe n - k_m; block 0 is the first block or the only one, block 1 the second.
 -- Assumes nothing.
-use Rattle.std.specs.Prelude.{ℕ, zero, suc, ◌+◌, ◌/◌, Bool, true, false, cond, ◌&&◌, ◌||◌, List, [], ◌∷◌, eqb, ltb, length, get_or, take}
+use Rattle.std.specs.Prelude.{ℕ, zero, suc, ◌+◌, ◌/◌, Bool, true, false, cond, ◌&&◌, ◌||◌, List, [], ◌∷◌, eqb, ltb, length, get_or, take, Result, Ok, Err}
 use Rattle.frame.specs.declared.Settings.{Settings}
+use Rattle.frame.specs.declared.refusal.Refusal.{Refusal}
 use Rattle.frame.specs.Distance.{before}
 use Rattle.frame.specs.Layout.{is_special}
+use Rattle.frame.specs.Refusals.{number_of}
 use Rattle.frame.specs.Settings.{or_else, outside}
 use Rattle.frame.specs.Table.{window_of}
 use Rattle.station.specs.declared.Reading.{Reading}
-use Rattle.station.specs.declared.Reading.TheVariants.{Bundled, Multiplexed, Refused}
+use Rattle.station.specs.declared.Reading.TheVariants.{Bundled, Multiplexed}
 use Rattle.station.specs.Readings.{read_as, read_of}
 use Rattle.confirmation.specs.declared.Send.{Send}
 use Rattle.confirmation.specs.Confirmed.{confirmed}
@@ -21,18 +23,28 @@ use Rattle.confirming.specs.Refusals.{call_refusal}
 use Rattle.sizes.specs.Table.{block_size, table_column}
 use Rattle.account.specs.declared.Account.{Account}
 use Rattle.account.specs.Account.{account_refusal, add_of}
-use Rattle.credit.specs.declared.Credited.{Credited}
+
+-- What a call answers: the refusal, 0 for none, the octets credited, and the account afterwards; beside a refusal it is as it was.
+pub record Credited : Type 0 where
+  pub refusal : ℕ
+  pub octets : ℕ
+  pub account : Account
+
+-- What a result of the code, which leaves the account `a`, is in these terms.
+abbrev pub credited_as : Result ℕ Refusal → Account → Credited
+credited_as (Ok octets) a = record { refusal = 0; octets = octets; account = a }
+credited_as (Err r) a = record { refusal = number_of r; octets = 0; account = a }
 
 -- A block's own bit is ACK: in a bundled reading bit 0 for the first block, "a sole block being the first", and bit 1 for the second. A
 -- multiplexed reading has no bits for blocks: it "credits its positions".
-abbrev pub own_bit : Reading → ℕ → Bool
-own_bit (Bundled named b0 b1) block = cond (eqb block 0) (eqb b0 1) (eqb b1 1)
-own_bit (Multiplexed named positions) block = true
-own_bit (Refused k) block = false
+abbrev pub own_bit : Result Reading ℕ → ℕ → Bool
+own_bit (Ok (Bundled named b0 b1)) block = cond (eqb block 0) (eqb b0 1) (eqb b1 1)
+own_bit (Ok (Multiplexed named positions)) block = true
+own_bit (Err k) block = false
 
 -- What a reading credits: of the blocks that it confirms those whose own bit is ACK. Either bit confirms a sole block, whose result
 -- stands for both; bit 0 alone credits it. In words: specs/Exactly.antt.
-unfoldable pub credited : List ℕ → (ℕ → Send) → Reading → ℕ → ℕ → Bool
+unfoldable pub credited : List ℕ → (ℕ → Send) → Result Reading ℕ → ℕ → ℕ → Bool
 credited ks sent read m block = confirmed ks sent read m block && own_bit read block
 
 -- I_TBS and N_PRB of a block of a record.
@@ -84,13 +96,17 @@ unfoldable pub octets_where : ℕ → ℕ → SentWindow → (ℕ → ℕ → Bo
 octets_where config n w test = sum_below (length (window_of config n)) (octets_at config n w test)
 
 -- The octets that a reading credits.
-unfoldable pub credited_octets : ℕ → ℕ → SentWindow → Reading → ℕ
+unfoldable pub credited_octets : ℕ → ℕ → SentWindow → Result Reading ℕ → ℕ
 credited_octets config n w read = octets_where config n w (credited (window_of config n) (sent_in (window_of config n) w) read)
+
+-- The answer of a call that adds octets to the account `a`, from what the account's call gives: a refusal comes "with nothing credited".
+abbrev pub added_as : Account → ℕ → Result Account ℕ → Credited
+added_as a octets (Ok b) = record { refusal = 0; octets = octets; account = b }
+added_as a octets (Err k) = record { refusal = k; octets = 0; account = a }
 
 -- Octets added to the account; 26, "with nothing credited", where the total would pass the most.
 abbrev pub added_of : Account → ℕ → Credited
-added_of a octets =
-    record { refusal = (add_of a octets).refusal; octets = cond (eqb (add_of a octets).refusal 0) octets 0; account = (add_of a octets).account }
+added_of a octets = added_as a octets (add_of a octets)
 
 -- A refusal leaves the account.
 abbrev pub refused_or : ℕ → Account → Credited → Credited
@@ -98,11 +114,11 @@ refused_or zero a r = r
 refused_or (suc k) a r = record { refusal = suc k; octets = 0; account = a }
 
 -- The credit of a reading: refused where the reading is, else its octets are added to the account.
-unfoldable pub credit_by : ℕ → ℕ → SentWindow → Reading → Account → Credited
+unfoldable pub credit_by : ℕ → ℕ → SentWindow → Result Reading ℕ → Account → Credited
 credit_by config n w read a = refused_or (reading_refusal read) a (added_of a (credited_octets config n w read))
 
 -- The reading of the reply: what is refused before it, then 13 and 14.
-unfoldable pub credit_reading : Settings → ℕ → SentWindow → ℕ → ℕ → ℕ → Account → Reading
+unfoldable pub credit_reading : Settings → ℕ → SentWindow → ℕ → ℕ → ℕ → Account → Result Reading ℕ
 credit_reading s n w r b0 b1 a =
     let ks : List ℕ = window_of s.config n in
     read_as (prior_refusal s n w a) (read_of s n (told_of ks (sent_in ks w)) r b0 b1)

@@ -1,7 +1,7 @@
 -- What is credited and what is refused, in 02's words: proofs/Exactly.antt and proofs/Answers.antt show that the definitions are exactly
 -- this. And the law over any list of credits: proofs/Lists.antt.
 -- Assumes nothing.
-use Rattle.std.specs.Prelude.{ℕ, ◌+◌, ◌<◌, ◌≤◌, true, List, ◌⊎◌, ◌↔◌, ◌≡◌, length, get_or}
+use Rattle.std.specs.Prelude.{Result, Ok, ℕ, ◌+◌, ◌<◌, ◌≤◌, true, List, ◌⊎◌, ◌↔◌, ◌≡◌, length, get_or}
 use Rattle.frame.specs.declared.Settings.{Settings}
 use Rattle.frame.specs.Order.{times_of}
 use Rattle.frame.specs.Table.{window_of}
@@ -22,7 +22,7 @@ use Rattle.confirming.specs.Refusals.{call_refusal}
 use Rattle.account.specs.declared.Account.{Account}
 use Rattle.account.specs.Credits.{Answer, Charged}
 use Rattle.account.specs.Laws.{InOrder, Grown}
-use Rattle.credit.specs.declared.Credited.{Credited}
+use Rattle.credit.specs.Credit.{Credited}
 use Rattle.credit.specs.Credit.{credited, itbs_of, nprb_of, credited_octets, credit_of}
 
 -- The block's own bit: bit 0 for "that block" where it is the first, "a sole block being the first", bit 1 for the second.
@@ -51,13 +51,13 @@ pub record BlockCredited (ks : List ℕ) (sent : ℕ → Send) (named b0 b1 m bl
 -- What a reading of a window of at most two blocks to a grant credits, both ways; what is credited is confirmed.
 pub record CreditedExactly (ks : List ℕ) (sent : ℕ → Send) : Type 0 where
   pub bundled : (named c b0 b1 m block : ℕ) → blocks_of (sent (get_or ks m 0)) ≤ 2
-      → (credited ks sent (reading.Bundled (place.Pdcch named (record { 0 = c })) b0 b1) m block ≡ true) ↔ BundledCredited ks sent named c b0 b1 m block
+      → (credited ks sent (Ok (reading.Bundled (place.Pdcch named (record { 0 = c })) b0 b1)) m block ≡ true) ↔ BundledCredited ks sent named c b0 b1 m block
   pub block : (named b0 b1 m block : ℕ) → blocks_of (sent (get_or ks m 0)) ≤ 2
-      → (credited ks sent (reading.Bundled (place.Block named) b0 b1) m block ≡ true) ↔ BlockCredited ks sent named b0 b1 m block
+      → (credited ks sent (Ok (reading.Bundled (place.Block named) b0 b1)) m block ≡ true) ↔ BlockCredited ks sent named b0 b1 m block
   -- "a multiplexed reading credits its positions": what it confirms
   pub multiplexed : (named : Place) (positions m block : ℕ)
-      → (credited ks sent (reading.Multiplexed named positions) m block ≡ true) ↔ MultiplexedConfirmed ks sent named positions m block
-  pub is_confirmed : (read : Reading) (m block : ℕ) → credited ks sent read m block ≡ true → confirmed ks sent read m block ≡ true
+      → (credited ks sent (Ok (reading.Multiplexed named positions)) m block ≡ true) ↔ MultiplexedConfirmed ks sent named positions m block
+  pub is_confirmed : (read : Result Reading ℕ) (m block : ℕ) → credited ks sent read m block ≡ true → confirmed ks sent read m block ≡ true
 
 -- "a size index or width of any block sent in the window .. out of range": a block that the record at a position of the window carries.
 abbrev pub SizeOut : ℕ → SentWindow → Type 0

@@ -3,135 +3,93 @@
 
 mod octets;
 
-ghost use Rattle.std.specs.Prelude.{◌≡◌, ◌≤◌, length};
-ghost use Rattle.credit.specs.Credit.{added_of, bad_size, bad_record, sizes_refusal, credit_by, credit_of};
-ghost use Rattle.frame.specs.Table.{window_of};
+ghost use Rattle.std.specs.Prelude.{◌≡◌, length};
+ghost use Rattle.frame.specs.Refusals.{refusal_in};
 ghost use Rattle.frame.specs.Settings.{or_else};
+ghost use Rattle.confirming.specs.Coded.{k_in, records_in};
 ghost use Rattle.account.specs.Account.{account_refusal};
+ghost use Rattle.credit.specs.Credit.{bad_size, bad_record, bad_records, sizes_refusal, credited_octets, credited_as, credit_of};
 
 use account::Account;
-use confirming::{Sent, SentWindow};
-use frame::Settings;
+use confirming::{Sent, SentIn, SentWindow};
+use frame::{Refusal, Settings};
 use octets::{octets_of, own_blocks};
 use resource::Resource;
 use station::Reading;
 
-// The refusal, 0 for none, the octets credited, and the account afterwards; beside a refusal it is as it was.
-#[repr(C)]
-#[derive(Clone, Copy)]
-pub struct Credited {
-    pub refusal: u16,
-    pub octets: u32,
-    pub account: Account,
-}
-
-fn refused(refusal: u16, account: Account) -> Credited
-    ensures { result ≡ record { refusal = refusal; octets = 0; account = account } }
-{
-    Credited {
-        refusal,
-        octets: 0,
-        account,
-    }
-}
-
-// The octets added to the account.
-#[tactic(auto, using(crate::proofs::Crediting::refused_sum, crate::proofs::Crediting::added_sum))]
-fn added(a: Account, octets: u32) -> Credited
-    ensures { result ≡ added_of a octets }
-{
-    let sum = account::add(a, octets);
-    let after = sum.account;
-    if sum.refusal != 0 {
-        return refused(sum.refusal, after);
-    }
-    Credited {
-        refusal: 0,
-        octets,
-        account: after,
-    }
-}
-
 // A block's size index or width is out of range.
+#[tactic(auto, using(frame::proofs::Causes::decided), unfolding(crate::specs::Credit::bad_size))]
 fn is_bad_size(itbs: u16, nprb: u16) -> bool
     ensures { result ≡ bad_size itbs nprb }
 {
-    (26 < itbs) | ((nprb < 1) | (110 < nprb))
+    26 < itbs || !(1..=110).contains(&nprb)
 }
 
 // So is that of one of the blocks that a record carries.
-fn has_bad_size(x: Sent) -> bool
-    ensures { result ≡ bad_record x }
+#[tactic(auto, using(frame::proofs::Causes::decided), unfolding(crate::specs::Credit::bad_record))]
+fn has_bad_size(x: &Sent) -> bool
+    ensures { result ≡ bad_record x.now }
 {
-    let first = (0 < x.blocks) & is_bad_size(x.itbs0, x.nprb0);
-    let second = (1 < x.blocks) & is_bad_size(x.itbs1, x.nprb1);
-    first | second
+    (0 < x.blocks && is_bad_size(x.itbs0, x.nprb0))
+        || (1 < x.blocks && is_bad_size(x.itbs1, x.nprb1))
 }
 
-// The sizes of the first `size` records: 25.
-fn sizes_refusal(size: u16, at: [Sent; 9]) -> u16
-    requires { size ≤ 9 }
-    ensures { result ≡ sizes_refusal size (record { at = at }) }
+// So is that of one of the window's records.
+fn has_bad_sizes(window: SentIn) -> bool
+    ensures { result ≡ bad_records (records_in window.entry) }
 {
-    let mut i: u16 = 0;
-    while i < size {
-        let x = at[i as usize];
-        if has_bad_size(x) {
-            return 25;
-        }
-        i += 1;
+    window.records().iter().any(has_bad_size)
+}
+
+// The sizes of the blocks that were sent: 25.
+#[tactic(auto, using(frame::proofs::Causes::decided), unfolding(crate::specs::Credit::sizes_refusal))]
+fn check_sizes(window: SentIn) -> Result<(), Refusal>
+    ensures { refusal_in result ≡ sizes_refusal (length (k_in window.entry)) window.entry.sent.now }
+{
+    if has_bad_sizes(window) {
+        return Err(Refusal::SizeOrAccount);
     }
-    0
+    Ok(())
 }
 
 // 25 for the sizes, then for the price and the account.
-#[tactic(auto, using(frame::proofs::Causes::refused_first, frame::proofs::Causes::refused_next))]
-fn charge_refusal(config: u16, n: u16, sent: SentWindow, a: Account) -> u16
-    ensures { result ≡ or_else (sizes_refusal (length (window_of config n)) sent) (account_refusal a) }
+#[tactic(auto, using(frame::proofs::Refused::first_refused, frame::proofs::Refused::first_accepted))]
+fn check_charge(window: SentIn, a: Account) -> Result<(), Refusal>
+    ensures { refusal_in result ≡ or_else (sizes_refusal (length (k_in window.entry)) window.entry.sent.now) (account_refusal a) }
 {
-    let at = sent.at;
-    let sizes = sizes_refusal(frame::size_of(config, n), at);
-    if sizes != 0 {
-        return sizes;
-    }
-    account::account_refusal(a)
+    check_sizes(window)?;
+    account::check_account(a)
 }
 
-// The octets that a reading credits, added to the account; a refused one adds nothing.
-#[tactic(auto, using(crate::proofs::Crediting::reading_refused, crate::proofs::Crediting::reading_credited))]
-fn credit_reading(config: u16, n: u16, sent: SentWindow, reading: Reading, a: Account) -> Credited
-    ensures { result ≡ credit_by config n sent reading a }
+// The octets that a reading credits.
+fn credited_octets(window: SentIn, reading: Reading) -> u32
+    ensures { result ≡ credited_octets window.entry.config window.entry.n window.entry.sent.now (Ok reading) }
 {
-    let confirmed = confirming::confirmed_in(config, n, sent, reading);
-    if confirmed.refusal != 0 {
-        return refused(confirmed.refusal, a);
-    }
-    let blocks = own_blocks(reading, confirmed);
-    added(a, octets_of(config, n, sent, blocks))
+    octets_of(window, own_blocks(reading, window.confirmed(reading)))
 }
 
-// The credit for the reply that came on resource r with the bits b0 and b1 to what was sent in the window of n.
-#[tactic(auto, using(crate::proofs::Crediting::sent_refused, crate::proofs::Crediting::charge_refused, crate::proofs::Crediting::reading_told))]
+// The octets credited for the reply that came on resource r with the bits b0 and b1 to what was sent in the window of n; they are added
+// to the account, which a refusal leaves as it was.
 pub fn credit(
     s: Settings,
     n: u16,
-    sent: SentWindow,
+    sent: &SentWindow,
     r: Resource,
     b0: u16,
     b1: u16,
-    a: Account,
-) -> Credited
-    ensures { result ≡ credit_of s n sent r.0 b0 b1 a }
+    account: &mut Account,
+) -> Result<u32, Refusal>
+    ensures { credited_as result account.new ≡ credit_of s n sent.now r.0 b0 b1 account.old }
 {
-    let checked = confirming::check_sent(s, n, sent);
-    if checked.refusal != 0 {
-        return refused(checked.refusal, a);
-    }
-    let charge = charge_refusal(s.config, n, sent, a);
-    if charge != 0 {
-        return refused(charge, a);
-    }
-    let told = checked.told;
-    let reading = station::read(s, n, told, r, b0, b1);
-    credit_reading(s.config, n, sent, reading, a)
+    let told = confirming::check_sent(s, n, sent)?;
+    let window = SentIn {
+        config: s.config,
+        n,
+        sent,
+    };
+    check_charge(window, *account)?;
+    let reading = station::read(s, n, told, r, b0, b1)?;
+    let octets = credited_octets(window, reading);
+    *account = account::add(*account, octets)?;
+    Ok(octets)
 }

@@ -1,6 +1,7 @@
 -- The causes that explain_of tells in a run are true: specs/Diagnosis.antt, proved. A handset of a run remembers what the run heard, so U,
 -- V and the scheduled block of its window are the run's (agreement/proofs/Counted.antt), and the DAI rule says how many were lost.
 -- Assumes nothing.
+use Rattle.std.proofs.Common.{Option, Some, None, Result, Ok, Err}
 use Prim.Native.Nat.{ℕ, ◌+◌, ◌-◌, ◌%◌, ◌≤◌}
 use mathlib.Core.Bool.{Bool, true, false, cond, ◌||◌, false≢true}
 use mathlib.Core.List.{List, [], ◌∷◌}
@@ -107,7 +108,7 @@ module _ (set : Settings) (good : settings_refusal set ≡ 0) (sent : ℕ → Se
       go true e = e
       go false e = absurd (omega (arith, some, u_there, none_counted es e))
 
-  nothing_heard_holds : (feed_of h x).answer ≡ Silent → ((explain_of h x).cause ≡ NothingHeard) ↔ (any_of is_heard es ≡ false)
+  nothing_heard_holds : (feed_of h x).answer ≡ (Ok Silent) → ((explain_of h x).cause ≡ (Some NothingHeard)) ↔ (any_of is_heard es ≡ false)
   nothing_heard_holds silent =
       let exactly = explains.nothing_heard h x silent in (
         λ e.
@@ -129,7 +130,7 @@ module _ (set : Settings) (good : settings_refusal set ≡ 0) (sent : ℕ → Se
       let least : 1 ≤ heard_count es = rw u_there at some in
       rw (v_there (some_there some), u_there) (fits (heard_count es) (lost_before es) least)
 
-  miss_shown_holds : (feed_of h x).answer ≡ Silent → ((v w : ℕ) × ((explain_of h x).cause ≡ MissShown v w)) ↔ (lost_before es % 4 ≡ 0 → ⊥)
+  miss_shown_holds : (feed_of h x).answer ≡ (Ok Silent) → ((v w : ℕ) × ((explain_of h x).cause ≡ Some (MissShown v w))) ↔ (lost_before es % 4 ≡ 0 → ⊥)
   miss_shown_holds silent =
       let exactly = explains.miss_shown h x silent in (
         λ p e. let q = exactly.0 p in q.1 ((same_there q.0).1 e),
@@ -143,7 +144,7 @@ module _ (set : Settings) (good : settings_refusal set ≡ 0) (sent : ℕ → Se
       heard false e lost = absurd (lost (omega (arith, none_lost es e)))
 
   -- The values that are told, and by what they differ.
-  module _ (v w : ℕ) (shown : (explain_of h x).cause ≡ MissShown v w) where
+  module _ (v w : ℕ) (shown : (explain_of h x).cause ≡ Some (MissShown v w)) where
     some : 1 ≤ (window_seen h).u
     some = ((explains.miss_shown h x (was_silent h x v w shown)).0 (v, w, shown)).0
 

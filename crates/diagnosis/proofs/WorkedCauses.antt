@@ -2,6 +2,7 @@
 -- something, and of lent states that no run comes to. The runs that are not here are those of engines/proofs, whose cells these are:
 -- N_RB 50, N1 10, the scheduled resource 7 where one is set.
 -- Assumes nothing.
+use Rattle.std.proofs.Common.{Option, Some, None, Result, Ok, Err}
 use Prim.Native.Nat.{ℕ, ◌≤◌}
 use mathlib.Core.Bool.{true, false}
 use mathlib.Core.List.{List, [], ◌∷◌}
@@ -17,7 +18,7 @@ use Rattle.handset.specs.Change.{change_of}
 use Rattle.handset.specs.Feed.{feed_of}
 use Rattle.handset.specs.Make.{make_of}
 use Rattle.silence.specs.declared.Cause.{Cause}
-use Rattle.silence.specs.declared.Cause.TheVariants.{NotSilent, NothingHeard, MissShown}
+use Rattle.silence.specs.declared.Cause.TheVariants.{NothingHeard, MissShown}
 use Rattle.silence.specs.Cause.{window_seen, silence_cause, cause_beside, explain_of}
 use Rattle.silence.specs.Exactly.{Differ}
 use Rattle.agreement.specs.Run.{Item, feed, change}
@@ -33,17 +34,17 @@ unfolding handsets silence_cause cause_beside explain_of
 explaining = tt
 
 -- the causes told beside the answers to the feeds of a list
-abbrev pub causes_of : Handset → List Item → List Cause
+abbrev pub causes_of : Handset → List Item → List (Option Cause)
 causes_of h [] = []
 causes_of h (feed x ∷ items) = (explain_of h x).cause ∷ causes_of (feed_of h x).handset items
 causes_of h (change m ∷ items) = causes_of (change_of h m).handset items
 
-abbrev pub Tells : Run → List Cause → Type 0
+abbrev pub Tells : Run → List (Option Cause) → Type 0
 Tells r causes = causes_of (make_of r.set).handset r.items ≡ causes
 
 -- Configuration 1, mode 0, the first of two grants lost: the windows of subframes 2 and 3 reach before the start and heard nothing; that
 -- of 7, which is 0 and 1, heard DAI 2 alone.
-pub missed_tells : Tells missed (times 2 NotSilent (times 2 NothingHeard (times 3 NotSilent (MissShown 2 1 ∷ []))))
+pub missed_tells : Tells missed (times 2 None (times 2 (Some NothingHeard) (times 3 None (Some (MissShown 2 1) ∷ []))))
 unfolding explaining
 missed_tells = refl
 
@@ -56,8 +57,8 @@ second_missed =
       sends = times 9 nothing (grant 1 0 1 ∷ grant 1 0 2 ∷ times 2 nothing (grant 1 0 3 ∷ []));
       items = times 9 hears_nothing (hears 0 1 true ∷ times 3 hears_nothing (hears 0 3 true ∷ times 4 hears_nothing []));
       answers =
-          times 2 answer.Taken (answer.Silent ∷ times 4 answer.Taken (answer.Silent ∷ times 4 answer.Taken (answer.Silent
-          ∷ times 4 answer.Taken (answer.Silent ∷ []))));
+          times 2 (Ok answer.Taken) ((Ok answer.Silent) ∷ times 4 (Ok answer.Taken) ((Ok answer.Silent) ∷ times 4 (Ok answer.Taken) ((Ok answer.Silent)
+          ∷ times 4 (Ok answer.Taken) ((Ok answer.Silent) ∷ []))));
       readings = [];
     }
 
@@ -66,7 +67,7 @@ unfolding handsets stations
 second_missed_holds = worked second_missed refl tt tt refl tt refl
 
 pub second_tells : Tells second_missed
-    (times 2 NotSilent (NothingHeard ∷ times 4 NotSilent (NothingHeard ∷ times 4 NotSilent (NothingHeard ∷ times 4 NotSilent (MissShown 3 2 ∷ [])))))
+    (times 2 None ((Some NothingHeard) ∷ times 4 None ((Some NothingHeard) ∷ times 4 None ((Some NothingHeard) ∷ times 4 None (Some (MissShown 3 2) ∷ [])))))
 unfolding explaining
 second_tells = refl
 
@@ -78,7 +79,7 @@ latest_heard =
       set = cell 2 0;
       sends = times 4 nothing (grant 1 0 1 ∷ nothing ∷ grant 1 0 2 ∷ nothing ∷ grant 1 0 3 ∷ []);
       items = times 6 hears_nothing (hears 0 2 true ∷ hears_nothing ∷ hears 0 3 true ∷ times 4 hears_nothing []);
-      answers = times 2 answer.Taken (answer.Silent ∷ times 4 answer.Taken (answer.Silent ∷ times 4 answer.Taken (answer.Silent ∷ [])));
+      answers = times 2 (Ok answer.Taken) ((Ok answer.Silent) ∷ times 4 (Ok answer.Taken) ((Ok answer.Silent) ∷ times 4 (Ok answer.Taken) ((Ok answer.Silent) ∷ [])));
       readings = [];
     }
 
@@ -86,7 +87,7 @@ pub latest_heard_holds : Worked latest_heard
 unfolding handsets stations
 latest_heard_holds = worked latest_heard refl tt tt refl tt refl
 
-pub latest_tells : Tells latest_heard (times 2 NotSilent (NothingHeard ∷ times 4 NotSilent (NothingHeard ∷ times 4 NotSilent (MissShown 3 2 ∷ []))))
+pub latest_tells : Tells latest_heard (times 2 None ((Some NothingHeard) ∷ times 4 None ((Some NothingHeard) ∷ times 4 None (Some (MissShown 3 2) ∷ []))))
 unfolding explaining
 latest_tells = refl
 
@@ -100,7 +101,7 @@ five_heard =
       items =
           hears_nothing ∷ hears 0 2 true ∷ hears_nothing ∷ hears 0 3 true ∷ hears 0 4 true ∷ hears 0 1 true ∷ hears 0 2 true
           ∷ times 6 hears_nothing [];
-      answers = times 2 answer.Taken (answer.Silent ∷ times 9 answer.Taken (answer.Silent ∷ []));
+      answers = times 2 (Ok answer.Taken) ((Ok answer.Silent) ∷ times 9 (Ok answer.Taken) ((Ok answer.Silent) ∷ []));
       readings = [];
     }
 
@@ -108,7 +109,7 @@ pub five_heard_holds : Worked five_heard
 unfolding handsets stations
 five_heard_holds = worked five_heard refl tt tt refl tt refl
 
-pub five_tells : Tells five_heard (times 2 NotSilent (NothingHeard ∷ times 9 NotSilent (MissShown 2 1 ∷ [])))
+pub five_tells : Tells five_heard (times 2 None ((Some NothingHeard) ∷ times 9 None (Some (MissShown 2 1) ∷ [])))
 unfolding explaining
 five_tells = refl
 
@@ -119,7 +120,7 @@ five_lost =
       set = cell 5 0;
       sends = grant 1 0 1 ∷ grant 1 0 2 ∷ nothing ∷ grant 1 0 3 ∷ grant 1 0 4 ∷ grant 1 0 1 ∷ grant 1 0 2 ∷ [];
       items = times 6 hears_nothing (hears 0 2 true ∷ times 6 hears_nothing []);
-      answers = times 2 answer.Taken (answer.Silent ∷ times 9 answer.Taken (answer.Silent ∷ []));
+      answers = times 2 (Ok answer.Taken) ((Ok answer.Silent) ∷ times 9 (Ok answer.Taken) ((Ok answer.Silent) ∷ []));
       readings = [];
     }
 
@@ -127,7 +128,7 @@ pub five_lost_holds : Worked five_lost
 unfolding handsets stations
 five_lost_holds = worked five_lost refl tt tt refl tt refl
 
-pub lost_tells : Tells five_lost (times 2 NotSilent (NothingHeard ∷ times 9 NotSilent (MissShown 2 1 ∷ [])))
+pub lost_tells : Tells five_lost (times 2 None ((Some NothingHeard) ∷ times 9 None (Some (MissShown 2 1) ∷ [])))
 unfolding explaining
 lost_tells = refl
 
@@ -138,11 +139,11 @@ five_lost_before = refl
 
 -- Scheduled blocks: a lone one is answered; where a miss is shown one that was heard counts neither in U nor in V, before the last PDCCH or
 -- after it.
-pub lone_tells : Tells lone_block (times 2 NotSilent (NothingHeard ∷ times 4 NotSilent (NothingHeard ∷ times 5 NotSilent [])))
+pub lone_tells : Tells lone_block (times 2 None ((Some NothingHeard) ∷ times 4 None ((Some NothingHeard) ∷ times 5 None [])))
 unfolding explaining
 lone_tells = refl
 
-pub block_tells : Tells missed_with_block (times 2 NotSilent (NothingHeard ∷ times 4 NotSilent (NothingHeard ∷ times 4 NotSilent (MissShown 2 1 ∷ []))))
+pub block_tells : Tells missed_with_block (times 2 None ((Some NothingHeard) ∷ times 4 None ((Some NothingHeard) ∷ times 4 None (Some (MissShown 2 1) ∷ []))))
 unfolding explaining
 block_tells = refl
 
@@ -153,7 +154,7 @@ missed_block_last =
       set = scheduled_cell 2 0;
       sends = times 4 nothing (grant 1 0 1 ∷ grant 1 0 2 ∷ times 2 nothing (block 1 ∷ []));
       items = times 5 hears_nothing (hears 0 2 true ∷ times 2 hears_nothing (hears_block true ∷ times 4 hears_nothing []));
-      answers = times 2 answer.Taken (answer.Silent ∷ times 4 answer.Taken (answer.Silent ∷ times 4 answer.Taken (answer.Silent ∷ [])));
+      answers = times 2 (Ok answer.Taken) ((Ok answer.Silent) ∷ times 4 (Ok answer.Taken) ((Ok answer.Silent) ∷ times 4 (Ok answer.Taken) ((Ok answer.Silent) ∷ [])));
       readings = [];
     }
 
@@ -161,17 +162,17 @@ pub missed_block_last_holds : Worked missed_block_last
 unfolding handsets stations
 missed_block_last_holds = worked missed_block_last refl tt tt refl tt refl
 
-pub block_last_tells : Tells missed_block_last (times 2 NotSilent (NothingHeard ∷ times 4 NotSilent (NothingHeard ∷ times 4 NotSilent (MissShown 2 1 ∷ []))))
+pub block_last_tells : Tells missed_block_last (times 2 None ((Some NothingHeard) ∷ times 4 None ((Some NothingHeard) ∷ times 4 None (Some (MissShown 2 1) ∷ []))))
 unfolding explaining
 block_last_tells = refl
 
 -- Multiplexed, the state D,A: V is 2 and the value expected 1, and a reply is sent all the same.
-pub later_tells : Tells later_only (times 2 NotSilent (times 2 NothingHeard (times 4 NotSilent [])))
+pub later_tells : Tells later_only (times 2 None (times 2 (Some NothingHeard) (times 4 None [])))
 unfolding explaining
 later_tells = refl
 
 -- Refused feeds have no cause.
-pub refused_tells : Tells refused_feeds (times 6 NotSilent (times 2 NothingHeard (times 4 NotSilent [])))
+pub refused_tells : Tells refused_feeds (times 6 None (times 2 (Some NothingHeard) (times 4 None [])))
 unfolding explaining
 refused_tells = refl
 
@@ -185,7 +186,7 @@ missed_in_mode =
       sends = grant 1 3 1 ∷ grant 1 10 2 ∷ times 3 nothing (grant 1 3 1 ∷ grant 1 10 2 ∷ []);
       items = hears_nothing ∷ hears 10 2 true ∷ change 1 ∷ times 4 hears_nothing (hears 10 2 true ∷ hears_nothing ∷ change 0 ∷ times 5 hears_nothing []);
       answers =
-          times 2 answer.Taken (times 2 answer.Silent (times 3 answer.Taken (times 2 answer.Silent (times 3 answer.Taken (reply 2 31 0 0 ∷ [])))));
+          times 2 (Ok answer.Taken) (times 2 (Ok answer.Silent) (times 3 (Ok answer.Taken) (times 2 (Ok answer.Silent) (times 3 (Ok answer.Taken) (reply 2 31 0 0 ∷ [])))));
       readings = multiplexed_read 1 10 2 ∷ [];
     }
 
@@ -193,16 +194,16 @@ pub missed_in_mode_holds : Worked missed_in_mode
 unfolding handsets stations
 missed_in_mode_holds = worked_changed missed_in_mode refl tt tt refl refl
 
-pub mode_tells : Tells missed_in_mode (times 2 NotSilent (times 2 NothingHeard (times 3 NotSilent (MissShown 2 1 ∷ NothingHeard ∷ times 4 NotSilent []))))
+pub mode_tells : Tells missed_in_mode (times 2 None (times 2 (Some NothingHeard) (times 3 None (Some (MissShown 2 1) ∷ (Some NothingHeard) ∷ times 4 None []))))
 unfolding explaining
 mode_tells = refl
 
 -- Lent states, and why the two sentences of U11 speak of silent answers alone: of each, what it saw and what it answers.
-pub record Replies (h : Handset) (u v : ℕ) (a : Answer) : Type 0 where
+pub record Replies (h : Handset) (u v : ℕ) (a : Result Answer ℕ) : Type 0 where
   pub counted : (window_seen h).u ≡ u
   pub last : (window_seen h).v ≡ v
   pub answered : (explain_of h Nothing).fed.answer ≡ a
-  pub no_cause : (explain_of h Nothing).cause ≡ NotSilent
+  pub no_cause : (explain_of h Nothing).cause ≡ None
 
 -- Configuration 0, expecting subframe 4: a grant of DAI 3 was heard in 0, which by the rule has DAI 1. Configuration 0 does not read it: V
 -- is 3 and the value expected 1, and a reply is sent.
@@ -226,17 +227,17 @@ multiplexed_later = record { counted = refl; last = refl; answered = refl; no_ca
 
 -- So the second sentence without "silent" is false.
 abbrev pub Unconditioned : Type 0
-Unconditioned = (h : Handset) → ((v e : ℕ) × ((explain_of h Nothing).cause ≡ MissShown v e)) ↔ ((1 ≤ (window_seen h).u) × Differ h)
+Unconditioned = (h : Handset) → ((v e : ℕ) × ((explain_of h Nothing).cause ≡ Some (MissShown v e))) ↔ ((1 ≤ (window_seen h).u) × Differ h)
 
 pub not_unconditioned : Unconditioned → ⊥
 unfolding explaining
 not_unconditioned all =
     let p = (all (three_at_zero 4)).1 (omega arith, λ e. omega (arith, e)) in
-    let e : NotSilent ≡ MissShown p.0 p.1 = p.2 in
+    let e : None ≡ Some (MissShown p.0 p.1) = p.2 in
     let z : ◌≡◌ {A = ℕ} 0 1 = cc in
     omega arith
 
 -- The bytes of the first expecting subframe 10 are refused 8, and have no cause.
-pub refused_state : ((explain_of (three_at_zero 10) Nothing).cause ≡ NotSilent) × ((explain_of (three_at_zero 10) Nothing).fed.answer ≡ answer.Refused 8)
+pub refused_state : ((explain_of (three_at_zero 10) Nothing).cause ≡ None) × ((explain_of (three_at_zero 10) Nothing).fed.answer ≡ Err 8)
 unfolding explaining
 refused_state = (refl, refl)

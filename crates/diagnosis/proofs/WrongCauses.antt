@@ -12,6 +12,7 @@
 --   how_many        V and the value expected exchanged                                    not_exchanged
 --   exactly        the value expected always 1                                           not_always_one
 -- Assumes nothing.
+use Rattle.std.proofs.Common.{Option, Some, None, Result, Ok, Err}
 use Prim.Native.Nat.{ℕ, suc, ◌+◌}
 use mathlib.Core.Bool.{cond}
 use mathlib.Core.List.{List, [], ◌∷◌}
@@ -27,11 +28,11 @@ use Rattle.fold.specs.Fold.{unseen, seen_from}
 use Rattle.reply.specs.declared.Answer.{Answer}
 use Rattle.reply.specs.declared.Answer.TheVariants as answer
 use Rattle.reply.specs.Replies.{expected}
-use Rattle.handset.specs.declared.Fed.{Fed}
+use Rattle.handset.specs.Feed.{Fed}
 use Rattle.handset.specs.declared.Handset.{Handset}
 use Rattle.handset.specs.Feed.{answer_of, feed_of}
 use Rattle.silence.specs.declared.Cause.{Cause}
-use Rattle.silence.specs.declared.Cause.TheVariants.{NotSilent, NothingHeard, MissShown}
+use Rattle.silence.specs.declared.Cause.TheVariants.{NothingHeard, MissShown}
 use Rattle.silence.specs.Cause.{window_seen, silence_cause, explain_of}
 use Rattle.silence.specs.Exactly.{Explaining}
 use Rattle.agreement.specs.Demand3.{feedback_engine}
@@ -41,23 +42,23 @@ use Rattle.diagnosis.specs.Diagnosis.{CausesTold, Diagnosed}
 use Rattle.diagnosis.proofs.WorkedCauses.{explaining, second_missed, second_missed_holds, latest_heard, latest_heard_holds, five_heard, five_heard_holds, missed_in_mode, missed_in_mode_holds}
 
 -- The right feed with another cause.
-abbrev telling : (Handset → Heard → Cause) → Explaining
+abbrev telling : (Handset → Heard → Option Cause) → Explaining
 telling cause h x = record { fed = feed_of h x; cause = cause h x }
 
 -- Another cause beside a silence alone.
-abbrev beside_silence : Answer → Cause → Cause
-beside_silence answer.Taken c = NotSilent
-beside_silence answer.NoWindow c = NotSilent
-beside_silence answer.Silent c = c
-beside_silence (answer.Sent r) c = NotSilent
-beside_silence (answer.Refused k) c = NotSilent
+abbrev beside_silence : Result Answer ℕ → Option Cause → Option Cause
+beside_silence (Ok answer.Taken) c = None
+beside_silence (Ok answer.NoWindow) c = None
+beside_silence (Ok answer.Silent) c = c
+beside_silence (Ok (answer.Sent r)) c = None
+beside_silence (Err k) c = None
 
-abbrev telling_of : (Handset → Cause) → Explaining
+abbrev telling_of : (Handset → Option Cause) → Explaining
 telling_of cause = telling (λ h x. beside_silence (feed_of h x).answer (cause h))
 
 -- Two causes, by U, as the right call has them; the second is another.
-abbrev missing : (Seen → Cause) → Explaining
-missing miss = telling_of (λ h. cond (eqb (window_seen h).u 0) NothingHeard (miss (window_seen h)))
+abbrev missing : (Seen → Option Cause) → Explaining
+missing miss = telling_of (λ h. cond (eqb (window_seen h).u 0) (Some NothingHeard) (miss (window_seen h)))
 
 -- What the statement says of a worked run.
 told_in : (explain : Explaining) → Diagnosed feedback_engine explain → (r : Run) → Worked r → CausesTold feedback_engine explain r.set (sending r.sends) r.items
@@ -69,52 +70,52 @@ not_unfed d =
     let e = (told_in _ d missed first_missed).fed 0 Nothing (record { inside = omega arith; brings = refl }) in
     omega (arith, ap (λ (f : Fed). f.handset.next) e)
 
-pub not_everywhere : Diagnosed feedback_engine (telling (λ h x. silence_cause (window_seen h))) → ⊥
+pub not_everywhere : Diagnosed feedback_engine (telling (λ h x. Some (silence_cause (window_seen h)))) → ⊥
 unfolding explaining
 not_everywhere d =
-    let e : NothingHeard ≡ NotSilent =
+    let e : (Some NothingHeard) ≡ None =
     ((told_in _ d lone_block lone_block_holds).not_silent 12 Nothing (record { inside = omega arith; brings = refl })).1
     (λ s. let z : ◌≡◌ {A = ℕ} 0 1 = cc in omega arith) in
     let z : ◌≡◌ {A = ℕ} 0 1 = cc in
     omega arith
 
-pub not_never : Diagnosed feedback_engine (telling (λ h x. NotSilent)) → ⊥
+pub not_never : Diagnosed feedback_engine (telling (λ h x. None)) → ⊥
 unfolding explaining
 not_never d = ((told_in _ d missed first_missed).not_silent 2 Nothing (record { inside = omega arith; brings = refl })).0 refl refl
 
 -- The right causes, beside what the mode that stands would answer: at subframe 12, item 14, a reply in multiplexing would have one.
 pub not_standing_mode : Diagnosed feedback_engine
-    (telling (λ h x. beside_silence (answer_of h.settings h.next (view_ago h.past)) (silence_cause (window_seen h)))) → ⊥
+    (telling (λ h x. beside_silence (Ok (answer_of h.settings h.next (view_ago h.past))) (Some (silence_cause (window_seen h))))) → ⊥
 unfolding explaining
 not_standing_mode d =
-    let e : MissShown 2 1 ≡ NotSilent =
+    let e : Some (MissShown 2 1) ≡ None =
     ((told_in _ d missed_in_mode missed_in_mode_holds).not_silent 14 Nothing (record { inside = omega arith; brings = refl })).1
     (λ s. let z : ◌≡◌ {A = ℕ} 0 1 = cc in omega arith) in
     let z : ◌≡◌ {A = ℕ} 0 1 = cc in
     omega arith
 
-pub not_always_missed : Diagnosed feedback_engine (telling_of (λ h. MissShown (window_seen h).v (expected (window_seen h).u))) → ⊥
+pub not_always_missed : Diagnosed feedback_engine (telling_of (λ h. Some (MissShown (window_seen h).v (expected (window_seen h).u)))) → ⊥
 unfolding explaining
 not_always_missed d =
-    let e : MissShown 0 1 ≡ NothingHeard =
+    let e : Some (MissShown 0 1) ≡ Some NothingHeard =
     ((told_in _ d missed first_missed).nothing_heard 2 2 Nothing (fed_nothing missed 2 (omega arith) refl refl) refl).1 refl in
     let z : ◌≡◌ {A = ℕ} 0 1 = cc in
     omega arith
 
-pub not_always_nothing : Diagnosed feedback_engine (telling_of (λ h. NothingHeard)) → ⊥
+pub not_always_nothing : Diagnosed feedback_engine (telling_of (λ h. Some NothingHeard)) → ⊥
 unfolding explaining
 not_always_nothing d =
     let p = ((told_in _ d missed first_missed).miss_shown 7 7 Nothing (fed_nothing missed 7 (omega arith) refl refl) refl).1 (λ e. omega (arith, e)) in
-    let e : NothingHeard ≡ MissShown p.0 p.1 = p.2 in
+    let e : (Some NothingHeard) ≡ Some (MissShown p.0 p.1) = p.2 in
     let z : ◌≡◌ {A = ℕ} 0 1 = cc in
     omega arith
 
-pub not_block_counted : Diagnosed feedback_engine (missing (λ seen. MissShown seen.v (expected (cond seen.scheduled 1 0 + seen.u)))) → ⊥
+pub not_block_counted : Diagnosed feedback_engine (missing (λ seen. Some (MissShown seen.v (expected (cond seen.scheduled 1 0 + seen.u))))) → ⊥
 unfolding explaining
 not_block_counted d =
     omega (arith, ((told_in _ d missed_with_block missed_with_block_holds).values 12 12 Nothing (fed_nothing missed_with_block 12 (omega arith) refl refl) 2 2 refl).1)
 
-pub not_unwrapped : Diagnosed feedback_engine (missing (λ seen. MissShown seen.v seen.u)) → ⊥
+pub not_unwrapped : Diagnosed feedback_engine (missing (λ seen. Some (MissShown seen.v seen.u))) → ⊥
 unfolding explaining
 not_unwrapped d = omega (arith, ((told_in _ d five_heard five_heard_holds).values 12 12 Nothing (fed_nothing five_heard 12 (omega arith) refl refl) 2 5 refl).1)
 
@@ -128,15 +129,15 @@ seen_by_position h =
     let ks : List ℕ = window_of h.settings.config h.next in
     seen_from (view_ago h.past) ks (positions_from 0 ks) unseen
 
-pub not_by_position : Diagnosed feedback_engine (telling_of (λ h. silence_cause (seen_by_position h))) → ⊥
+pub not_by_position : Diagnosed feedback_engine (telling_of (λ h. Some (silence_cause (seen_by_position h)))) → ⊥
 unfolding explaining
 not_by_position d = omega (arith, ((told_in _ d latest_heard latest_heard_holds).values 12 12 Nothing (fed_nothing latest_heard 12 (omega arith) refl refl) 2 2 refl).0)
 
-pub not_exchanged : Diagnosed feedback_engine (missing (λ seen. MissShown (expected seen.u) seen.v)) → ⊥
+pub not_exchanged : Diagnosed feedback_engine (missing (λ seen. Some (MissShown (expected seen.u) seen.v))) → ⊥
 unfolding explaining
 not_exchanged d = omega (arith, (told_in _ d second_missed second_missed_holds).how_many 17 17 Nothing (fed_nothing second_missed 17 (omega arith) refl refl) 2 3 refl)
 
-pub not_always_one : Diagnosed feedback_engine (missing (λ seen. MissShown seen.v 1)) → ⊥
+pub not_always_one : Diagnosed feedback_engine (missing (λ seen. Some (MissShown seen.v 1))) → ⊥
 unfolding explaining
 not_always_one d =
     omega (arith, (told_in _ d second_missed second_missed_holds).exactly 17 17 Nothing (fed_nothing second_missed 17 (omega arith) refl refl) (omega arith) 3 1 refl)

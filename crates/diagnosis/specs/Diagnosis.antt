@@ -3,15 +3,15 @@
 -- The statement is about an engine and an explaining call, so that wrong ones can be refuted (proofs/WrongCauses.antt); proofs/True.antt
 -- proves it of the engine of this repository and of explain_of, the definition that the promise of silence::explain is an equation with.
 -- Assumes nothing.
-use Rattle.std.specs.Prelude.{ℕ, ◌+◌, ◌-◌, ◌%◌, ◌≤◌, false, cond, List, [], ◌∷◌, ◌↔◌, ◌≡◌, length}
+use Rattle.std.specs.Prelude.{Option, Some, None, Result, Ok, Err, ℕ, ◌+◌, ◌-◌, ◌%◌, ◌≤◌, false, cond, List, [], ◌∷◌, ◌↔◌, ◌≡◌, length}
 use Rattle.frame.specs.declared.Settings.{Settings}
 use Rattle.frame.specs.Settings.{settings_refusal}
 use Rattle.confirmation.specs.declared.Send.{Send}
 use Rattle.heard.specs.declared.Heard.{Heard}
 use Rattle.heard.specs.declared.Heard.TheVariants.{Nothing, Granted, Scheduled, Released}
 use Rattle.reply.specs.declared.Answer.TheVariants.{Silent}
-use Rattle.silence.specs.declared.Cause.TheVariants.{NotSilent, NothingHeard, MissShown}
-use Rattle.silence.specs.declared.Explained.{Explained}
+use Rattle.silence.specs.declared.Cause.TheVariants.{NothingHeard, MissShown}
+use Rattle.silence.specs.Cause.{Explained}
 use Rattle.silence.specs.Exactly.{Explaining}
 use Rattle.agreement.specs.Demand3.{Engine, handset_at, fed_at, IsFeed, IsSubframe}
 use Rattle.agreement.specs.Run.{Item, heard_in_run, sent_ago, heard_ago, window_at, Schedule, BringsSent}
@@ -48,22 +48,22 @@ pub record CausesTold (e : Engine) (explain : Explaining) (set : Settings) (sent
   pub fed : (i : ℕ) (x : Heard) → IsFeed items i x → (explained_at e explain set items i x).fed ≡ fed_at e set items i x
   -- and beside no other
   pub not_silent : (i : ℕ) (x : Heard) → IsFeed items i x
-      → ((explained_at e explain set items i x).cause ≡ NotSilent) ↔ ((fed_at e set items i x).answer ≡ Silent → ⊥)
+      → ((explained_at e explain set items i x).cause ≡ None) ↔ ((fed_at e set items i x).answer ≡ (Ok Silent) → ⊥)
   -- "nothing heard in the window" is told of a silence exactly where nothing was heard in the window
-  pub nothing_heard : (i s : ℕ) (x : Heard) → IsSubframe set items i s x → (fed_at e set items i x).answer ≡ Silent
-      → ((explained_at e explain set items i x).cause ≡ NothingHeard) ↔ (any_of is_heard (entries_at set sent items s) ≡ false)
+  pub nothing_heard : (i s : ℕ) (x : Heard) → IsSubframe set items i s x → (fed_at e set items i x).answer ≡ Ok Silent
+      → ((explained_at e explain set items i x).cause ≡ (Some NothingHeard)) ↔ (any_of is_heard (entries_at set sent items s) ≡ false)
   -- "a miss shown" exactly where PDCCHs before the last heard one were lost, and not a multiple of four of them, which V would not show
-  pub miss_shown : (i s : ℕ) (x : Heard) → IsSubframe set items i s x → (fed_at e set items i x).answer ≡ Silent
-      → ((v w : ℕ) × ((explained_at e explain set items i x).cause ≡ MissShown v w)) ↔ (lost_before (entries_at set sent items s) % 4 ≡ 0 → ⊥)
+  pub miss_shown : (i s : ℕ) (x : Heard) → IsSubframe set items i s x → (fed_at e set items i x).answer ≡ Ok Silent
+      → ((v w : ℕ) × ((explained_at e explain set items i x).cause ≡ Some (MissShown v w))) ↔ (lost_before (entries_at set sent items s) % 4 ≡ 0 → ⊥)
   -- "with V and the value expected", ((U − 1) mod 4) + 1
-  pub values : (i s : ℕ) (x : Heard) → IsSubframe set items i s x → (v w : ℕ) → (explained_at e explain set items i x).cause ≡ MissShown v w
+  pub values : (i s : ℕ) (x : Heard) → IsSubframe set items i s x → (v w : ℕ) → (explained_at e explain set items i x).cause ≡ Some (MissShown v w)
       → (v ≡ last_dai (entries_at set sent items s)) × (w ≡ (heard_pdcchs (entries_at set sent items s) - 1) % 4 + 1)
   -- by which they differ is how many were lost before the last heard one, up to a multiple of four
-  pub how_many : (i s : ℕ) (x : Heard) → IsSubframe set items i s x → (v w : ℕ) → (explained_at e explain set items i x).cause ≡ MissShown v w
+  pub how_many : (i s : ℕ) (x : Heard) → IsSubframe set items i s x → (v w : ℕ) → (explained_at e explain set items i x).cause ≡ Some (MissShown v w)
       → lost_before (entries_at set sent items s) % 4 ≡ (v + 4 - w) % 4
   -- and in a window of at most four subframes exactly how many
   pub exactly : (i s : ℕ) (x : Heard) → IsSubframe set items i s x → length (window_at set s) ≤ 4 → (v w : ℕ)
-      → (explained_at e explain set items i x).cause ≡ MissShown v w → lost_before (entries_at set sent items s) ≡ (v + 4 - w) % 4
+      → (explained_at e explain set items i x).cause ≡ Some (MissShown v w) → lost_before (entries_at set sent items s) ≡ (v + 4 - w) % 4
 
 -- Of every run: whichever valid grants, scheduled blocks and releases were sent by the DAI rule, whichever of them were lost, refused
 -- feeds and changes of mode included.

@@ -1,6 +1,7 @@
 -- Runs with changes of mode (document 02, U8) that meet the hypotheses of demand 3, with every answer, the refusal of every change and
 -- the station's reading of every reply, each in its window's own mode. The cells are those of Worked.antt.
 -- Assumes nothing.
+use Rattle.std.proofs.Common.{Result, Ok, Err}
 use Prim.Native.Nat.{ℕ}
 use mathlib.Core.Bool.{true, false}
 use mathlib.Core.List.{List, [], ◌∷◌}
@@ -30,7 +31,7 @@ between_windows =
           hears_nothing ∷ hears 4 1 true ∷ change 1 ∷ times 3 hears_nothing
           (hears 12 2 true ∷ hears 30 3 true ∷ hears 3 1 true ∷ hears 5 2 false ∷ change 0 ∷ hears 3 1 true ∷ hears 10 2 true ∷ times 4 hears_nothing []);
       answers =
-          times 2 answer.Taken (times 3 answer.Silent (times 7 answer.Taken (reply 1 111 1 0 ∷ reply 2 13 0 1 ∷ reply 1 31 1 0 ∷ [])));
+          times 2 (Ok answer.Taken) (times 3 (Ok answer.Silent) (times 7 (Ok answer.Taken) (reply 1 111 1 0 ∷ reply 2 13 0 1 ∷ reply 1 31 1 0 ∷ [])));
       readings = bundled_read 1 30 1 0 ∷ multiplexed_read 0 3 1 ∷ bundled_read 1 10 1 0 ∷ [];
     }
 
@@ -52,7 +53,7 @@ changed_first =
       sends = grant 1 0 1 ∷ times 3 nothing (grant 1 3 1 ∷ []);
       items = change 0 ∷ hears 0 1 true ∷ times 3 hears_nothing (hears 3 1 true ∷ times 8 hears_nothing []);
       answers =
-          times 2 answer.Taken (answer.Silent ∷ times 4 answer.Taken (reply 2 21 0 1 ∷ times 4 answer.Taken (reply 1 13 1 0 ∷ [])));
+          times 2 (Ok answer.Taken) ((Ok answer.Silent) ∷ times 4 (Ok answer.Taken) (reply 2 21 0 1 ∷ times 4 (Ok answer.Taken) (reply 1 13 1 0 ∷ [])));
       readings = multiplexed_read 1 0 2 ∷ bundled_read 0 3 1 0 ∷ [];
     }
 
@@ -72,7 +73,7 @@ refused_changes =
       set = cell 5 0;
       sends = grant 1 0 1 ∷ grant 1 4 2 ∷ [];
       items = change 1 ∷ hears 0 1 true ∷ change 2 ∷ hears 4 2 true ∷ times 10 hears_nothing (change 1 ∷ hears_nothing ∷ []);
-      answers = times 2 answer.Taken (answer.Silent ∷ times 9 answer.Taken (reply 1 91 1 0 ∷ []));
+      answers = times 2 (Ok answer.Taken) ((Ok answer.Silent) ∷ times 9 (Ok answer.Taken) (reply 1 91 1 0 ∷ []));
       readings = bundled_read 7 4 1 0 ∷ [];
     }
 
@@ -96,7 +97,7 @@ after_refused =
       set = cell 1 0;
       sends = grant 1 3 1 ∷ grant 1 10 2 ∷ [];
       items = hears 3 5 true ∷ change 1 ∷ hears 3 1 true ∷ hears 10 2 true ∷ times 6 hears_nothing [];
-      answers = answer.Refused 12 ∷ times 2 answer.Taken (times 2 answer.Silent (times 3 answer.Taken (reply 2 31 1 1 ∷ [])));
+      answers = Err 12 ∷ times 2 (Ok answer.Taken) (times 2 (Ok answer.Silent) (times 3 (Ok answer.Taken) (reply 2 31 1 1 ∷ [])));
       readings = multiplexed_read 1 10 3 ∷ [];
     }
 

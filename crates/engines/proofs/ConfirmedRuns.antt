@@ -1,6 +1,8 @@
 -- Runs in which blocks are confirmed: what a station confirms is something. Which blocks, in the worked runs of Worked.antt. And one
 -- in which a decoded block is not, and no reader could know better (02, U7).
 -- Assumes nothing.
+use Rattle.reply.specs.Kinds.{kind_multiplexed}
+use Rattle.std.proofs.Common.{Result, Ok, Err}
 use Prim.Native.Nat.{ℕ, zero, suc}
 use mathlib.Core.Bool.{Bool, false, cond}
 use mathlib.Core.List.{List, [], ◌∷◌}
@@ -29,7 +31,7 @@ passing f (suc count) i = cond (f i) (i ∷ passing f count (suc i)) (passing f 
 -- The positions of the window of subframe s whose block the reading of the run's first reply confirms.
 abbrev positions : Run → ℕ → ℕ → List ℕ
 positions r s block =
-    passing (λ (m : ℕ). confirmed (window_at r.set s) (sent_ago (sending r.sends) s) (get_or r.readings 0 (reading.Refused 0)) m block)
+    passing (λ (m : ℕ). confirmed (window_at r.set s) (sent_ago (sending r.sends) s) (get_or r.readings 0 (Err 0)) m block)
     (length (window_at r.set s)) 0
 
 -- Those of a first or only block, and those of a second one.
@@ -97,7 +99,7 @@ abbrev sent_by_three : Positions
 sent_by_three = sent_there shared_by_three.set (sending shared_by_three.sends) 12
 
 three_replied : Replied feedback_engine shared_by_three.set (sending shared_by_three.sends) shared_by_three.items 12
-    (record { kind = 2; resource = record { 0 = 26 }; b0 = 1; b1 = 0; second = record { 0 = 0 } })
+    (record { kind = kind_multiplexed; resource = record { 0 = 26 }; b0 = 1; b1 = 0; second = record { 0 = 0 } })
 unfolding handsets
 three_replied =
     record {

@@ -2,6 +2,7 @@
 -- every change and the station's reading of every reply: the reading is of the first port's resource. The cells are those of
 -- Worked.antt.
 -- Assumes nothing.
+use Rattle.std.proofs.Common.{Result, Ok, Err}
 use mathlib.Core.Bool.{true, false}
 use mathlib.Core.List.{[], ◌∷◌}
 use mathlib.Core.Path.{refl}
@@ -19,7 +20,7 @@ on_two_ports =
       set = two_port_cell 1 1;
       sends = grant 1 3 1 ∷ grant 1 10 2 ∷ [];
       items = change 1 ∷ hears 3 1 true ∷ change 2 ∷ hears 10 2 true ∷ change 0 ∷ times 6 hears_nothing [];
-      answers = times 2 answer.Taken (times 2 answer.Silent (times 3 answer.Taken (reply_on_both 31 32 1 0 ∷ [])));
+      answers = times 2 (Ok answer.Taken) (times 2 (Ok answer.Silent) (times 3 (Ok answer.Taken) (reply_on_both 31 32 1 0 ∷ [])));
       readings = bundled_read 1 10 1 0 ∷ [];
     }
 
@@ -43,7 +44,7 @@ four_lost_on_two =
       set = two_port_cell 1 5;
       sends = grant 1 0 1 ∷ grant 1 1 2 ∷ nothing ∷ grant 1 2 3 ∷ grant 1 3 4 ∷ grant 1 4 1 ∷ [];
       items = times 5 hears_nothing (change 1 ∷ hears 4 1 true ∷ times 7 hears_nothing []);
-      answers = times 2 answer.Taken (answer.Silent ∷ times 9 answer.Taken (reply_on_both 58 59 1 0 ∷ []));
+      answers = times 2 (Ok answer.Taken) ((Ok answer.Silent) ∷ times 9 (Ok answer.Taken) (reply_on_both 58 59 1 0 ∷ []));
       readings = bundled_read 4 4 1 0 ∷ [];
     }
 

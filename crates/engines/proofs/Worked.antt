@@ -3,6 +3,7 @@
 -- scheduled resource, where one is set, is 7.
 -- The prefix is normal and the special configuration 7, which allows data, but in the cells that are named short.
 -- Assumes nothing.
+use Rattle.std.proofs.Common.{Result, Ok, Err}
 use Prim.Native.Nat.{ℕ, suc, zero, ◌+◌, ◌<◌}
 use mathlib.Core.Bool.{Bool, true, false}
 use mathlib.Core.List.{List, [], ◌∷◌}
@@ -18,6 +19,9 @@ use Rattle.heard.specs.declared.Heard.{Heard}
 use Rattle.heard.specs.declared.Heard.TheVariants.{Nothing, Granted, Scheduled, Released}
 use Rattle.heard.specs.Heard.{heard_refusal, second_refusal, cause_of}
 use Rattle.reply.specs.declared.Answer.{Answer}
+use Rattle.reply.specs.declared.ReplyKind.{ReplyKind}
+use Rattle.reply.specs.Kinds.{kind_bundled, kind_multiplexed}
+use Rattle.std.proofs.Common.{cond, eqb}
 use Rattle.reply.specs.declared.Answer.TheVariants as answer
 use Rattle.handset.specs.declared.Handset.{Handset}
 use Rattle.handset.specs.Change.{change_of}
@@ -106,40 +110,44 @@ hears_block decoded = feed (heard_block decoded)
 abbrev pub hears_release : ℕ → ℕ → Item
 hears_release c d = feed (Released (record { cce = record { 0 = c }; dai = d }))
 
+-- a kind by its number
+abbrev pub kind_of : ℕ → ReplyKind
+kind_of kind = cond (eqb kind 1) kind_bundled kind_multiplexed
+
 -- a reply, and its reading: kind, resource and bits; as a PDCCH its position and first CCE, as a scheduled block its position, with
 -- the bits or the set of delivered positions
-abbrev reply_with : ℕ → ℕ → ℕ → ℕ → ℕ → Answer
-reply_with kind r b0 b1 second = answer.Sent (record { kind = kind; resource = record { 0 = r }; b0 = b0; b1 = b1; second = record { 0 = second } })
+abbrev reply_with : ℕ → ℕ → ℕ → ℕ → ℕ → Result Answer ℕ
+reply_with kind r b0 b1 second = Ok (answer.Sent (record { kind = kind_of kind; resource = record { 0 = r }; b0 = b0; b1 = b1; second = record { 0 = second } }))
 
-abbrev pub reply : ℕ → ℕ → ℕ → ℕ → Answer
+abbrev pub reply : ℕ → ℕ → ℕ → ℕ → Result Answer ℕ
 reply kind r b0 b1 = reply_with kind r b0 b1 0
 
 -- a bundled reply on two antenna ports: both resources
-abbrev pub reply_on_both : ℕ → ℕ → ℕ → ℕ → Answer
+abbrev pub reply_on_both : ℕ → ℕ → ℕ → ℕ → Result Answer ℕ
 reply_on_both r second b0 b1 = reply_with 1 r b0 b1 second
 
-abbrev pub bundled_read : ℕ → ℕ → ℕ → ℕ → Reading
-bundled_read m c b0 b1 = reading.Bundled (place.Pdcch m (record { 0 = c })) b0 b1
+abbrev pub bundled_read : ℕ → ℕ → ℕ → ℕ → Result Reading ℕ
+bundled_read m c b0 b1 = Ok (reading.Bundled (place.Pdcch m (record { 0 = c })) b0 b1)
 
-abbrev pub multiplexed_read : ℕ → ℕ → ℕ → Reading
-multiplexed_read m c delivered = reading.Multiplexed (place.Pdcch m (record { 0 = c })) delivered
+abbrev pub multiplexed_read : ℕ → ℕ → ℕ → Result Reading ℕ
+multiplexed_read m c delivered = Ok (reading.Multiplexed (place.Pdcch m (record { 0 = c })) delivered)
 
-abbrev pub block_read : ℕ → ℕ → ℕ → Reading
-block_read m b0 b1 = reading.Bundled (place.Block m) b0 b1
+abbrev pub block_read : ℕ → ℕ → ℕ → Result Reading ℕ
+block_read m b0 b1 = Ok (reading.Bundled (place.Block m) b0 b1)
 
-abbrev pub multiplexed_block_read : ℕ → ℕ → Reading
-multiplexed_block_read m delivered = reading.Multiplexed (place.Block m) delivered
+abbrev pub multiplexed_block_read : ℕ → ℕ → Result Reading ℕ
+multiplexed_block_read m delivered = Ok (reading.Multiplexed (place.Block m) delivered)
 
 -- settings, what the station sends, the feeds, their answers, and the readings of the replies among them
 pub record Run : Type 0 where
   pub set : Settings
   pub sends : List Send
   pub items : List Item
-  pub answers : List Answer
-  pub readings : List Reading
+  pub answers : List (Result Answer ℕ)
+  pub readings : List (Result Reading ℕ)
 
 -- the answers to the feeds of a list, and to its changes of mode
-abbrev pub answers_of : Handset → List Item → List Answer
+abbrev pub answers_of : Handset → List Item → List (Result Answer ℕ)
 answers_of h [] = []
 answers_of h (feed x ∷ items) = (feed_of h x).answer ∷ answers_of (feed_of h x).handset items
 answers_of h (change m ∷ items) = answers_of (change_of h m).handset items
@@ -151,19 +159,19 @@ changes_of h (change m ∷ items) = (change_of h m).refusal ∷ changes_of (chan
 
 -- the readings of the replies, each in its window's mode, with n = s mod 10, its own resource and bits, and told the position of the
 -- scheduled block that was sent in its window; a refused feed is no subframe
-abbrev pub readings_from : (ℕ → Settings) → (ℕ → Send) → ℕ → List Answer → List Reading
+abbrev pub readings_from : (ℕ → Settings) → (ℕ → Send) → ℕ → List (Result Answer ℕ) → List (Result Reading ℕ)
 readings_from set sent s [] = []
-readings_from set sent s (answer.Taken ∷ l) = readings_from set sent (s + 1) l
-readings_from set sent s (answer.NoWindow ∷ l) = readings_from set sent (s + 1) l
-readings_from set sent s (answer.Silent ∷ l) = readings_from set sent (s + 1) l
-readings_from set sent s (answer.Sent r ∷ l) = reading_in feedback_engine (set s) sent s r.resource.0 r.b0 r.b1 ∷ readings_from set sent (s + 1) l
-readings_from set sent s (answer.Refused k ∷ l) = readings_from set sent s l
+readings_from set sent s ((Ok answer.Taken) ∷ l) = readings_from set sent (s + 1) l
+readings_from set sent s ((Ok answer.NoWindow) ∷ l) = readings_from set sent (s + 1) l
+readings_from set sent s ((Ok answer.Silent) ∷ l) = readings_from set sent (s + 1) l
+readings_from set sent s (Ok (answer.Sent r) ∷ l) = reading_in feedback_engine (set s) sent s r.resource.0 r.b0 r.b1 ∷ readings_from set sent (s + 1) l
+readings_from set sent s (Err k ∷ l) = readings_from set sent s l
 
 -- the answers of our handset in a run, and the readings of our station
-abbrev pub our_answers : Run → List Answer
+abbrev pub our_answers : Run → List (Result Answer ℕ)
 our_answers r = answers_of (make_of r.set).handset r.items
 
-abbrev pub our_readings : Run → List Reading
+abbrev pub our_readings : Run → List (Result Reading ℕ)
 our_readings r = readings_from (settings_in r.set r.items) (sending r.sends) 0 r.answers
 
 pub record Worked (r : Run) : Type 0 where
@@ -192,11 +200,11 @@ worked r good s b e feeds f =
     (ap (λ (set : ℕ → Settings). readings_from set (sending r.sends) 0 r.answers) (fun_ext (made_settings r.set r.items feeds)) ∙ f)
 
 -- In a worked run: what our handset answers to item i, and what our station reads from the j-th reply.
-pub answer_at : (r : Run) → Worked r → (i : ℕ) → get_or (our_answers r) i answer.Silent ≡ get_or r.answers i answer.Silent
-answer_at r w i = ap (λ (l : List Answer). get_or l i answer.Silent) w.answered
+pub answer_at : (r : Run) → Worked r → (i : ℕ) → get_or (our_answers r) i (Ok answer.Silent) ≡ get_or r.answers i (Ok answer.Silent)
+answer_at r w i = ap (λ (l : List (Result Answer ℕ)). get_or l i (Ok answer.Silent)) w.answered
 
-pub reading_at_holds : (r : Run) → Worked r → (j : ℕ) → get_or (our_readings r) j (reading.Refused 0) ≡ get_or r.readings j (reading.Refused 0)
-reading_at_holds r w j = ap (λ (l : List Reading). get_or l j (reading.Refused 0)) w.read
+pub reading_at_holds : (r : Run) → Worked r → (j : ℕ) → get_or (our_readings r) j (Err 0) ≡ get_or r.readings j (Err 0)
+reading_at_holds r w j = ap (λ (l : List (Result Reading ℕ)). get_or l j (Err 0)) w.read
 
 -- Item i is the run's subframe s, fed with nothing; without changes of mode and refusals before it, item s is.
 pub fed_nothing_at : (r : Run) (i s : ℕ) → i < length r.items → item_at r.items i ≡ feed Nothing → subframe_at r.set r.items i ≡ s
@@ -217,7 +225,7 @@ all_heard =
       set = cell 1 0;
       sends = grant 1 3 1 ∷ grant 1 10 2 ∷ [];
       items = hears 3 1 true ∷ hears 10 2 true ∷ times 6 hears_nothing [];
-      answers = times 2 answer.Taken (times 2 answer.Silent (times 3 answer.Taken (reply 1 31 1 0 ∷ [])));
+      answers = times 2 (Ok answer.Taken) (times 2 (Ok answer.Silent) (times 3 (Ok answer.Taken) (reply 1 31 1 0 ∷ [])));
       readings = bundled_read 1 10 1 0 ∷ [];
     }
 
@@ -232,7 +240,7 @@ missed =
       set = cell 1 0;
       sends = grant 1 3 1 ∷ grant 1 10 2 ∷ [];
       items = hears_nothing ∷ hears 10 2 true ∷ times 6 hears_nothing [];
-      answers = times 2 answer.Taken (times 2 answer.Silent (times 3 answer.Taken (answer.Silent ∷ [])));
+      answers = times 2 (Ok answer.Taken) (times 2 (Ok answer.Silent) (times 3 (Ok answer.Taken) ((Ok answer.Silent) ∷ [])));
       readings = [];
     }
 
@@ -249,8 +257,8 @@ refused_feeds =
       sends = grant 1 3 1 ∷ grant 1 10 2 ∷ [];
       items = hears 3 1 true ∷ hears_two 10 2 true true ∷ hears 61 2 true ∷ hears 10 5 true ∷ hears 10 2 false ∷ hears 10 3 true ∷ times 6 hears_nothing [];
       answers =
-          answer.Taken ∷ answer.Refused 10 ∷ answer.Refused 11 ∷ answer.Refused 12 ∷ answer.Taken ∷ answer.Refused 9
-          ∷ times 2 answer.Silent (times 3 answer.Taken (reply 1 31 0 0 ∷ []));
+          (Ok answer.Taken) ∷ Err 10 ∷ Err 11 ∷ Err 12 ∷ (Ok answer.Taken) ∷ Err 9
+          ∷ times 2 (Ok answer.Silent) (times 3 (Ok answer.Taken) (reply 1 31 0 0 ∷ []));
       readings = bundled_read 1 10 0 0 ∷ [];
     }
 
@@ -274,7 +282,7 @@ four_lost =
       set = cell 5 0;
       sends = grant 1 0 1 ∷ grant 1 0 2 ∷ nothing ∷ grant 1 0 3 ∷ grant 1 0 4 ∷ grant 1 0 1 ∷ [];
       items = times 5 hears_nothing (hears 0 1 true ∷ times 7 hears_nothing []);
-      answers = times 2 answer.Taken (answer.Silent ∷ times 9 answer.Taken (reply 1 54 1 0 ∷ []));
+      answers = times 2 (Ok answer.Taken) ((Ok answer.Silent) ∷ times 9 (Ok answer.Taken) (reply 1 54 1 0 ∷ []));
       readings = bundled_read 4 0 1 0 ∷ [];
     }
 
@@ -292,7 +300,7 @@ eight_lost =
           (grant 1 0 1 ∷ grant 1 0 2 ∷ grant 1 0 3 ∷ nothing ∷ grant 1 0 4 ∷ grant 1 0 1 ∷ grant 1 0 2 ∷ grant 1 0 3 ∷ grant 1 0 4 ∷ grant 1 20 1 ∷ []);
       items = times 18 hears_nothing (hears 20 1 true ∷ times 4 hears_nothing []);
       answers =
-          times 2 answer.Taken (answer.Silent ∷ times 9 answer.Taken (answer.Silent ∷ times 9 answer.Taken (reply 1 214 1 0 ∷ [])));
+          times 2 (Ok answer.Taken) ((Ok answer.Silent) ∷ times 9 (Ok answer.Taken) ((Ok answer.Silent) ∷ times 9 (Ok answer.Taken) (reply 1 214 1 0 ∷ [])));
       readings = bundled_read 6 20 1 0 ∷ [];
     }
 
@@ -307,7 +315,7 @@ four_heard =
       set = cell 5 0;
       sends = grant 1 0 1 ∷ grant 1 4 2 ∷ nothing ∷ grant 1 8 3 ∷ grant 1 40 4 ∷ [];
       items = hears 0 1 true ∷ hears 4 2 true ∷ hears_nothing ∷ hears 8 3 true ∷ hears 40 4 true ∷ times 8 hears_nothing [];
-      answers = times 2 answer.Taken (answer.Silent ∷ times 9 answer.Taken (reply 1 317 1 0 ∷ []));
+      answers = times 2 (Ok answer.Taken) ((Ok answer.Silent) ∷ times 9 (Ok answer.Taken) (reply 1 317 1 0 ∷ []));
       readings = bundled_read 3 40 1 0 ∷ [];
     }
 
@@ -322,7 +330,7 @@ last_two_lost =
       set = cell 5 0;
       sends = grant 1 0 1 ∷ grant 1 4 2 ∷ nothing ∷ grant 1 8 3 ∷ grant 1 40 4 ∷ grant 1 0 1 ∷ grant 1 0 2 ∷ [];
       items = hears 0 1 true ∷ hears 4 2 true ∷ hears_nothing ∷ hears 8 3 true ∷ hears 40 4 true ∷ times 8 hears_nothing [];
-      answers = times 2 answer.Taken (answer.Silent ∷ times 9 answer.Taken (reply 1 317 1 0 ∷ []));
+      answers = times 2 (Ok answer.Taken) ((Ok answer.Silent) ∷ times 9 (Ok answer.Taken) (reply 1 317 1 0 ∷ []));
       readings = bundled_read 3 40 1 0 ∷ [];
     }
 
@@ -337,7 +345,7 @@ before_start =
       set = cell 2 0;
       sends = grant 1 0 1 ∷ [];
       items = hears 0 1 true ∷ times 7 hears_nothing [];
-      answers = times 2 answer.Taken (answer.Silent ∷ times 4 answer.Taken (reply 1 21 1 0 ∷ []));
+      answers = times 2 (Ok answer.Taken) ((Ok answer.Silent) ∷ times 4 (Ok answer.Taken) (reply 1 21 1 0 ∷ []));
       readings = bundled_read 1 0 1 0 ∷ [];
     }
 
@@ -353,7 +361,7 @@ two_blocks =
       set = two_block_cell 0 0;
       sends = grant 2 3 1 ∷ grant 1 5 1 ∷ [];
       items = hears_two 3 1 false true ∷ hears 5 1 true ∷ times 6 hears_nothing [];
-      answers = times 2 answer.Taken (answer.Silent ∷ answer.NoWindow ∷ reply 1 13 0 1 ∷ times 2 answer.Taken (reply 1 15 1 1 ∷ []));
+      answers = times 2 (Ok answer.Taken) ((Ok answer.Silent) ∷ (Ok answer.NoWindow) ∷ reply 1 13 0 1 ∷ times 2 (Ok answer.Taken) (reply 1 15 1 1 ∷ []));
       readings = bundled_read 0 3 0 1 ∷ bundled_read 0 5 1 1 ∷ [];
     }
 
@@ -368,7 +376,7 @@ two_windows =
       set = cell 0 0;
       sends = grant 1 0 1 ∷ grant 1 0 1 ∷ [];
       items = hears 0 1 true ∷ hears 0 1 true ∷ times 6 hears_nothing [];
-      answers = times 2 answer.Taken (answer.Silent ∷ answer.NoWindow ∷ reply 1 10 1 0 ∷ times 2 answer.Taken (reply 1 10 1 0 ∷ []));
+      answers = times 2 (Ok answer.Taken) ((Ok answer.Silent) ∷ (Ok answer.NoWindow) ∷ reply 1 10 1 0 ∷ times 2 (Ok answer.Taken) (reply 1 10 1 0 ∷ []));
       readings = times 2 (bundled_read 0 0 1 0) [];
     }
 
@@ -383,7 +391,7 @@ one_undecoded =
       set = two_block_cell 1 0;
       sends = grant 2 3 1 ∷ grant 2 10 2 ∷ [];
       items = hears_two 3 1 false true ∷ hears_two 10 2 true true ∷ times 6 hears_nothing [];
-      answers = times 2 answer.Taken (times 2 answer.Silent (times 3 answer.Taken (reply 1 31 0 1 ∷ [])));
+      answers = times 2 (Ok answer.Taken) (times 2 (Ok answer.Silent) (times 3 (Ok answer.Taken) (reply 1 31 0 1 ∷ [])));
       readings = bundled_read 1 10 0 1 ∷ [];
     }
 
@@ -398,7 +406,7 @@ sole_block =
       set = two_block_cell 1 0;
       sends = grant 2 3 1 ∷ grant 1 10 2 ∷ [];
       items = hears_two 3 1 false true ∷ hears 10 2 true ∷ times 6 hears_nothing [];
-      answers = times 2 answer.Taken (times 2 answer.Silent (times 3 answer.Taken (reply 1 31 0 1 ∷ [])));
+      answers = times 2 (Ok answer.Taken) (times 2 (Ok answer.Silent) (times 3 (Ok answer.Taken) (reply 1 31 0 1 ∷ [])));
       readings = bundled_read 1 10 0 1 ∷ [];
     }
 
@@ -415,7 +423,7 @@ later_only =
       set = cell 1 1;
       sends = grant 1 3 1 ∷ grant 1 10 2 ∷ [];
       items = hears_nothing ∷ hears 10 2 true ∷ times 6 hears_nothing [];
-      answers = times 2 answer.Taken (times 2 answer.Silent (times 3 answer.Taken (reply 2 31 0 0 ∷ [])));
+      answers = times 2 (Ok answer.Taken) (times 2 (Ok answer.Silent) (times 3 (Ok answer.Taken) (reply 2 31 0 0 ∷ [])));
       readings = multiplexed_read 1 10 2 ∷ [];
     }
 
@@ -430,7 +438,7 @@ second_undecoded =
       set = two_block_cell 1 1;
       sends = grant 2 3 1 ∷ grant 2 10 2 ∷ [];
       items = hears_two 3 1 true true ∷ hears_two 10 2 true false ∷ times 6 hears_nothing [];
-      answers = times 2 answer.Taken (times 2 answer.Silent (times 3 answer.Taken (reply 2 13 0 1 ∷ [])));
+      answers = times 2 (Ok answer.Taken) (times 2 (Ok answer.Silent) (times 3 (Ok answer.Taken) (reply 2 13 0 1 ∷ [])));
       readings = multiplexed_read 0 3 1 ∷ [];
     }
 
@@ -445,7 +453,7 @@ middle_undecoded =
       set = cell 3 1;
       sends = nothing ∷ grant 1 4 1 ∷ nothing ∷ nothing ∷ nothing ∷ grant 1 12 2 ∷ grant 1 30 3 ∷ [];
       items = hears_nothing ∷ hears 4 1 true ∷ times 3 hears_nothing (hears 12 2 true ∷ hears 30 3 false ∷ times 6 hears_nothing []);
-      answers = times 2 answer.Taken (times 3 answer.Silent (times 7 answer.Taken (reply 2 44 1 1 ∷ [])));
+      answers = times 2 (Ok answer.Taken) (times 3 (Ok answer.Silent) (times 7 (Ok answer.Taken) (reply 2 44 1 1 ∷ [])));
       readings = multiplexed_read 0 12 5 ∷ [];
     }
 
@@ -460,7 +468,7 @@ shared =
       set = cell 2 1;
       sends = times 4 nothing (grant 1 0 1 ∷ grant 1 5 2 ∷ []);
       items = times 4 hears_nothing (hears 0 1 true ∷ hears 5 2 true ∷ times 7 hears_nothing []);
-      answers = times 2 answer.Taken (answer.Silent ∷ times 4 answer.Taken (answer.Silent ∷ times 4 answer.Taken (reply 2 26 1 0 ∷ [])));
+      answers = times 2 (Ok answer.Taken) ((Ok answer.Silent) ∷ times 4 (Ok answer.Taken) ((Ok answer.Silent) ∷ times 4 (Ok answer.Taken) (reply 2 26 1 0 ∷ [])));
       readings = multiplexed_read 1 5 3 ∷ [];
     }
 
@@ -475,7 +483,7 @@ shared_by_three =
       set = cell 2 1;
       sends = times 4 nothing (grant 1 0 1 ∷ grant 1 5 2 ∷ nothing ∷ nothing ∷ grant 1 30 3 ∷ []);
       items = times 4 hears_nothing (hears 0 1 true ∷ hears 5 2 true ∷ times 2 hears_nothing (hears 30 3 true ∷ times 4 hears_nothing []));
-      answers = times 2 answer.Taken (answer.Silent ∷ times 4 answer.Taken (answer.Silent ∷ times 4 answer.Taken (reply 2 26 1 0 ∷ [])));
+      answers = times 2 (Ok answer.Taken) ((Ok answer.Silent) ∷ times 4 (Ok answer.Taken) ((Ok answer.Silent) ∷ times 4 (Ok answer.Taken) (reply 2 26 1 0 ∷ [])));
       readings = multiplexed_read 1 5 3 ∷ [];
     }
 
@@ -485,8 +493,8 @@ symbol_shared_by_three = worked shared_by_three refl tt tt refl tt refl
 
 -- Scheduled blocks and releases (document 02, U1). Most of these runs are in configuration 2, where the window of subframe 12 is 4,
 -- 5, 8 and 6; nothing is sent before it, so that it alone is answered.
-abbrev pub answers_in_two : Answer → List Answer
-answers_in_two last = times 2 answer.Taken (answer.Silent ∷ times 4 answer.Taken (answer.Silent ∷ times 4 answer.Taken (last ∷ [])))
+abbrev pub answers_in_two : Result Answer ℕ → List (Result Answer ℕ)
+answers_in_two last = times 2 (Ok answer.Taken) ((Ok answer.Silent) ∷ times 4 (Ok answer.Taken) ((Ok answer.Silent) ∷ times 4 (Ok answer.Taken) (last ∷ [])))
 
 -- Bundled.
 
@@ -545,7 +553,7 @@ missed_with_block =
       set = scheduled_cell 2 0;
       sends = times 4 nothing (grant 1 3 1 ∷ block 1 ∷ nothing ∷ nothing ∷ grant 1 0 2 ∷ []);
       items = times 5 hears_nothing (hears_block true ∷ times 2 hears_nothing (hears 0 2 true ∷ times 4 hears_nothing []));
-      answers = answers_in_two answer.Silent;
+      answers = answers_in_two (Ok answer.Silent);
       readings = [];
     }
 
@@ -576,7 +584,7 @@ four_lost_release =
       set = cell 5 0;
       sends = grant 1 0 1 ∷ grant 1 0 2 ∷ nothing ∷ grant 1 0 3 ∷ grant 1 0 4 ∷ release 0 1 ∷ [];
       items = times 5 hears_nothing (hears_release 0 1 ∷ times 7 hears_nothing []);
-      answers = times 2 answer.Taken (answer.Silent ∷ times 9 answer.Taken (reply 1 54 1 0 ∷ []));
+      answers = times 2 (Ok answer.Taken) ((Ok answer.Silent) ∷ times 9 (Ok answer.Taken) (reply 1 54 1 0 ∷ []));
       readings = bundled_read 4 0 1 0 ∷ [];
     }
 
@@ -593,8 +601,8 @@ second_block =
       sends = times 4 nothing (block 1 ∷ grant 1 5 1 ∷ []);
       items = times 4 hears_nothing (hears_block true ∷ hears_block true ∷ hears 5 1 true ∷ times 7 hears_nothing []);
       answers =
-          times 2 answer.Taken (answer.Silent ∷ times 2 answer.Taken (answer.Refused 18
-          ∷ times 2 answer.Taken (answer.Silent ∷ times 4 answer.Taken (reply 1 26 1 0 ∷ []))));
+          times 2 (Ok answer.Taken) ((Ok answer.Silent) ∷ times 2 (Ok answer.Taken) (Err 18
+          ∷ times 2 (Ok answer.Taken) ((Ok answer.Silent) ∷ times 4 (Ok answer.Taken) (reply 1 26 1 0 ∷ []))));
       readings = bundled_read 1 5 1 0 ∷ [];
     }
 
@@ -609,7 +617,7 @@ no_resource_set =
       set = cell 1 0;
       sends = grant 1 3 1 ∷ grant 1 10 2 ∷ [];
       items = hears_block true ∷ hears 3 1 true ∷ hears 10 2 true ∷ times 6 hears_nothing [];
-      answers = answer.Refused 18 ∷ times 2 answer.Taken (times 2 answer.Silent (times 3 answer.Taken (reply 1 31 1 0 ∷ [])));
+      answers = Err 18 ∷ times 2 (Ok answer.Taken) (times 2 (Ok answer.Silent) (times 3 (Ok answer.Taken) (reply 1 31 1 0 ∷ [])));
       readings = bundled_read 1 10 1 0 ∷ [];
     }
 
@@ -631,8 +639,8 @@ short_special =
       sends = nothing ∷ release 10 1 ∷ [];
       items = hears_nothing ∷ hears 10 1 true ∷ hears_two 10 1 true true ∷ hears_block true ∷ hears_release 10 1 ∷ times 6 hears_nothing [];
       answers =
-          answer.Taken ∷ answer.Refused 20 ∷ answer.Refused 20 ∷ answer.Refused 20 ∷ answer.Taken
-          ∷ times 2 answer.Silent (times 3 answer.Taken (reply 1 31 1 0 ∷ []));
+          (Ok answer.Taken) ∷ Err 20 ∷ Err 20 ∷ Err 20 ∷ (Ok answer.Taken)
+          ∷ times 2 (Ok answer.Silent) (times 3 (Ok answer.Taken) (reply 1 31 1 0 ∷ []));
       readings = bundled_read 1 10 1 0 ∷ [];
     }
 
@@ -658,8 +666,8 @@ block_in_each =
       sends = block 1 ∷ times 4 nothing (block 1 ∷ []);
       items = hears_block true ∷ times 4 hears_nothing (hears_block false ∷ times 7 hears_nothing []);
       answers =
-          times 2 answer.Taken (times 2 answer.Silent (times 3 answer.Taken (reply 1 7 1 0
-          ∷ answer.Silent ∷ times 3 answer.Taken (reply 1 7 0 0 ∷ []))));
+          times 2 (Ok answer.Taken) (times 2 (Ok answer.Silent) (times 3 (Ok answer.Taken) (reply 1 7 1 0
+          ∷ (Ok answer.Silent) ∷ times 3 (Ok answer.Taken) (reply 1 7 0 0 ∷ []))));
       readings = block_read 0 1 0 ∷ block_read 0 0 0 ∷ [];
     }
 

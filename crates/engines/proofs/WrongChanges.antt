@@ -1,6 +1,7 @@
 -- Handsets that go wrong where the mode changes (document 02, U8), with one fault each, and the field of the statement that shuts each of
 -- them out; WrongEngines.antt lists them.
 -- Assumes nothing.
+use Rattle.std.proofs.Common.{Result, Ok, Err}
 use Prim.Native.Nat.{ℕ, ◌+◌, ◌%◌}
 use mathlib.Core.Bool.{Bool, true, cond, ◌&&◌}
 use mathlib.Core.List.{List, [], ◌∷◌}
@@ -17,8 +18,9 @@ use Rattle.heard.specs.Memory.{view_ago}
 use Rattle.reply.specs.declared.Answer.{Answer}
 use Rattle.reply.specs.declared.Answer.TheVariants as answer
 use Rattle.reply.specs.declared.Reply.{Reply}
+use Rattle.reply.specs.Kinds.{kind_number}
 use Rattle.reply.specs.Replies.{window_answer}
-use Rattle.handset.specs.declared.Changed.{Changed}
+use Rattle.handset.specs.Change.{Changed}
 use Rattle.handset.specs.declared.Handset.{Handset}
 use Rattle.handset.specs.Change.{in_new_mode, change_of}
 use Rattle.handset.specs.Make.{fresh}
@@ -59,26 +61,26 @@ module _ (e : Engine) (d : Demand3 e) where
       (λ one. omega arith)
 
 -- Our handset, answering in a mode of its own choice.
-abbrev answers_in : (Handset → ℕ) → Handset → Answer → Answer
+abbrev answers_in : (Handset → ℕ) → Handset → Result Answer ℕ → Result Answer ℕ
 answers_in mode h =
-    let other : Answer = window_answer (in_mode h.settings (mode h)) h.next (view_ago h.past) in
-    answering answer.Taken answer.NoWindow other (λ (r : Reply). other) answer.Refused
+    let other : Result Answer ℕ = Ok (window_answer (in_mode h.settings (mode h)) h.next (view_ago h.past)) in
+    answering (Ok answer.Taken) (Ok answer.NoWindow) other (λ (r : Reply). other) Err
 
 -- Every window is answered in the mode that stands.
-abbrev pub in_standing : Handset → Answer → Answer
+abbrev pub in_standing : Handset → Result Answer ℕ → Result Answer ℕ
 in_standing = answers_in (λ (h : Handset). h.settings.mode)
 
 pub not_in_standing : Demand3 (knows_by in_standing) → ⊥
 unfolding handsets
-not_in_standing d = omega (arith, ((in_between_second (knows_by in_standing) d).1 _ refl).kind)
+not_in_standing d = omega (arith, ap kind_number ((in_between_second (knows_by in_standing) d).1 _ refl).kind)
 
 -- A window is answered in the mode of k_0, which K as printed begins with.
-abbrev pub in_first_printed : Handset → Answer → Answer
+abbrev pub in_first_printed : Handset → Result Answer ℕ → Result Answer ℕ
 in_first_printed = answers_in (λ (h : Handset). mode_ago h.modes (get_or (window_of h.settings.config h.next) 0 0))
 
 pub not_in_first_printed : Demand3 (knows_by in_first_printed) → ⊥
 unfolding handsets
-not_in_first_printed d = omega (arith, ((in_between_first (knows_by in_first_printed) d).1 _ refl).kind)
+not_in_first_printed d = omega (arith, ap kind_number ((in_between_first (knows_by in_first_printed) d).1 _ refl).kind)
 
 -- Our handset with another change of mode: the refusals are ours, and an accepted one makes another handset.
 abbrev changes_to : (Handset → ℕ → Handset) → Handset → ℕ → Changed
@@ -94,7 +96,7 @@ makes_anew = changes_to (λ h m. cond (eqb h.next 0 && none_heard h.past) (fresh
 
 pub not_makes_anew : Demand3 (changed_by makes_anew) → ⊥
 unfolding handsets
-not_makes_anew d = omega (arith, ((in_changed_first (changed_by makes_anew) d).1 _ refl).kind)
+not_makes_anew d = omega (arith, ap kind_number ((in_changed_first (changed_by makes_anew) d).1 _ refl).kind)
 
 -- A change rewrites what is remembered: all that was fed counts in the new mode.
 abbrev pub rewrites : Handset → ℕ → Changed
@@ -102,7 +104,7 @@ rewrites = changes_to (λ h m. record { settings = in_mode h.settings m; next = 
 
 pub not_rewrites : Demand3 (changed_by rewrites) → ⊥
 unfolding handsets
-not_rewrites d = omega (arith, ((in_between_second (changed_by rewrites) d).1 _ refl).kind)
+not_rewrites d = omega (arith, ap kind_number ((in_between_second (changed_by rewrites) d).1 _ refl).kind)
 
 -- A change is answered, and the old mode stands on.
 abbrev pub ignores : Handset → ℕ → Changed
@@ -110,7 +112,7 @@ ignores = changes_to (λ h m. h)
 
 pub not_ignores : Demand3 (changed_by ignores) → ⊥
 unfolding handsets
-not_ignores d = omega (arith, ((in_between_second (changed_by ignores) d).1 _ refl).kind)
+not_ignores d = omega (arith, ap kind_number ((in_between_second (changed_by ignores) d).1 _ refl).kind)
 
 -- A change counts as a subframe: the handset expects one more.
 abbrev pub counts_change : Handset → ℕ → Changed
@@ -121,7 +123,7 @@ pub not_counts_change : Demand3 (changed_by counts_change) → ⊥
 unfolding handsets
 not_counts_change d =
     let t = (holds_in (changed_by counts_change) d changed_first changed_first_holds).taken 2 1 Nothing (fed_nothing_at changed_first 2 1 (omega arith) refl refl) refl in
-    omega (arith, same_answer {b = answer.Silent} refl t)
+    omega (arith, same_answer {b = (Ok answer.Silent)} refl t)
 
 -- A refused change is kept: the new mode stands, though its number is answered.
 abbrev pub keeps_refused : Handset → ℕ → Changed

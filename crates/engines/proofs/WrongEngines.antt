@@ -110,6 +110,8 @@
 -- feed whose cause is met is refused by `leaves`, and any other is answered by `taken`, `no_window`, `bundled` or `multiplexed`. It
 -- stays, since it is 01's sentence.
 -- Assumes nothing.
+use Rattle.std.proofs.Common.{Option, Some, None, Result, Ok, Err}
+use Rattle.resource.specs.declared.Cce.{Cce}
 use Prim.Native.Nat.{ℕ, ◌+◌, ◌%◌, ◌<◌}
 use mathlib.Core.Bool.{Bool, true, false, cond, false≢true}
 use mathlib.Core.List.{List}
@@ -118,29 +120,27 @@ use mathlib.Core.Path.{◌≡◌, refl, ap, sym, ◌∙◌}
 use native.Mathlib.Omega.{arith}
 use lib.Dec.{eqb}
 use lib.ListN.{length, get_or}
+use Rattle.std.proofs.lemmas.Option.{same_Some}
+use Rattle.symbols.specs.Selection.{symbol}
 use Rattle.frame.specs.declared.Settings.{Settings}
-use Rattle.resource.specs.declared.Inverted.{Inverted}
-use Rattle.resource.specs.declared.Mapped.{Mapped}
-use Rattle.resource.specs.declared.Mapped.TheVariants as mapped
 use Rattle.resource.specs.declared.Resource.{Resource}
 use Rattle.resource.specs.Calls.{resource_of, inverse_of}
 use Rattle.symbols.specs.declared.State.{State}
 use Rattle.symbols.specs.declared.Symbol.{Symbol}
-use Rattle.symbols.specs.declared.Symbol.TheVariants as symbol
 use Rattle.heard.specs.declared.Heard.{Heard}
 use Rattle.heard.specs.declared.Heard.TheVariants.{Nothing}
 use Rattle.reply.specs.declared.Answer.{Answer}
 use Rattle.reply.specs.declared.Answer.TheVariants as answer
 use Rattle.reply.specs.declared.Reply.{Reply}
-use Rattle.handset.specs.declared.Changed.{Changed}
-use Rattle.handset.specs.declared.Fed.{Fed}
+use Rattle.reply.specs.Kinds.{kind_number}
+use Rattle.handset.specs.Change.{Changed}
+use Rattle.handset.specs.Feed.{Fed}
 use Rattle.handset.specs.declared.Handset.{Handset}
-use Rattle.handset.specs.declared.Made.{Made}
+use Rattle.handset.specs.Make.{Made}
 use Rattle.handset.specs.Change.{change_of}
 use Rattle.handset.specs.Feed.{feed_of}
 use Rattle.handset.specs.Make.{make_of}
 use Rattle.station.specs.declared.Reading.{Reading}
-use Rattle.station.specs.declared.Told.{Told}
 use Rattle.station.specs.Readings.{read_of}
 use Rattle.agreement.specs.Demand3.{Engine, fed_at, reading_in, HoldsAfter, Demand3}
 use Rattle.agreement.specs.Run.{feed, item_at, heard_in_run, subframe_at, sent_ago, heard_ago, window_at}
@@ -151,8 +151,8 @@ use Rattle.agreement.proofs.SameModes.{AllFeeds, made_mode, made_settings}
 use Rattle.engines.proofs.Worked.{Run, Worked, fed_nothing, all_heard, all_heard_holds, missed, first_missed, one_undecoded, one_undecoded_holds, two_windows, two_windows_holds, shared, symbol_shared, lone_block, lone_block_holds, block_last, block_last_holds, missed_with_block, missed_with_block_holds, release_last, release_last_holds, block_at_index, block_at_index_holds, release_at_index, release_at_index_holds, short_multiplexed, short_multiplexed_holds}
 
 -- The engine of this repository, with another making, feeding, resource call, inverse or reading; with another change of mode.
-abbrev pub engine : (Settings → Made) → (Handset → Heard → Fed) → (Settings → ℕ → ℕ → ℕ → Mapped) → (Settings → ℕ → ℕ → Inverted)
-    → (Settings → ℕ → Told → ℕ → ℕ → ℕ → Reading) → Engine
+abbrev pub engine : (Settings → Made) → (Handset → Heard → Fed) → (Settings → ℕ → ℕ → ℕ → Result Resource ℕ) → (Settings → ℕ → ℕ → Result (ℕ × Cce) ℕ)
+    → (Settings → ℕ → Option ℕ → ℕ → ℕ → ℕ → Result Reading ℕ) → Engine
 engine make step onto back read = record { make = make; feed = step; change = change_of; resource = onto; inverse = back; read = read }
 
 abbrev pub made_by : (Settings → Made) → Engine
@@ -164,63 +164,69 @@ fed_by step = engine make_of step resource_of inverse_of read_of
 abbrev pub changed_by : (Handset → ℕ → Changed) → Engine
 changed_by switch = record { make = make_of; feed = feed_of; change = switch; resource = resource_of; inverse = inverse_of; read = read_of }
 
-abbrev pub mapped_by : (Settings → ℕ → ℕ → ℕ → Mapped) → Engine
+abbrev pub mapped_by : (Settings → ℕ → ℕ → ℕ → Result Resource ℕ) → Engine
 mapped_by onto = engine make_of feed_of onto inverse_of read_of
 
-abbrev pub inverted_by : (Settings → ℕ → ℕ → Inverted) → Engine
+abbrev pub inverted_by : (Settings → ℕ → ℕ → Result (ℕ × Cce) ℕ) → Engine
 inverted_by back = engine make_of feed_of resource_of back read_of
 
-abbrev pub read_by : (Settings → ℕ → Told → ℕ → ℕ → ℕ → Reading) → Engine
+abbrev pub read_by : (Settings → ℕ → Option ℕ → ℕ → ℕ → ℕ → Result Reading ℕ) → Engine
 read_by read = engine make_of feed_of resource_of inverse_of read
 
 -- Our handset with its answers changed, by what it knows before the feed and by what it would answer; it remembers as ours does.
-abbrev pub changed : (Handset → Answer → Answer) → Handset → Heard → Fed
+abbrev pub changed : (Handset → Result Answer ℕ → Result Answer ℕ) → Handset → Heard → Fed
 changed change h x = record { answer = change h (feed_of h x).answer; handset = (feed_of h x).handset }
 
-abbrev pub knows_by : (Handset → Answer → Answer) → Engine
+abbrev pub knows_by : (Handset → Result Answer ℕ → Result Answer ℕ) → Engine
 knows_by change = fed_by (changed change)
 
-abbrev pub answers_by : (Answer → Answer) → Engine
+abbrev pub answers_by : (Result Answer ℕ → Result Answer ℕ) → Engine
 answers_by change = knows_by (λ (h : Handset). change)
 
 -- By cases of an answer: "taken", "no window", "silent", a reply, a refusal.
-abbrev pub answering : {A : Type 0} → A → A → A → (Reply → A) → (ℕ → A) → Answer → A
-answering taken no_window silent sent refused answer.Taken = taken
-answering taken no_window silent sent refused answer.NoWindow = no_window
-answering taken no_window silent sent refused answer.Silent = silent
-answering taken no_window silent sent refused (answer.Sent r) = sent r
-answering taken no_window silent sent refused (answer.Refused k) = refused k
+abbrev pub answering : {A : Type 0} → A → A → A → (Reply → A) → (ℕ → A) → Result Answer ℕ → A
+answering taken no_window silent sent refused (Ok answer.Taken) = taken
+answering taken no_window silent sent refused (Ok answer.NoWindow) = no_window
+answering taken no_window silent sent refused (Ok answer.Silent) = silent
+answering taken no_window silent sent refused (Ok (answer.Sent r)) = sent r
+answering taken no_window silent sent refused (Err k) = refused k
+
+-- a reply as it is
+abbrev pub as_sent : Reply → Result Answer ℕ
+as_sent r = Ok (answer.Sent r)
 
 -- Replies alone are changed; those of one kind alone are.
-abbrev pub replying : (Reply → Answer) → Answer → Answer
-replying sent = answering answer.Taken answer.NoWindow answer.Silent sent answer.Refused
+abbrev pub replying : (Reply → Result Answer ℕ) → Result Answer ℕ → Result Answer ℕ
+replying sent = answering (Ok answer.Taken) (Ok answer.NoWindow) (Ok answer.Silent) sent Err
 
-abbrev pub replying_in : ℕ → (Reply → Answer) → Answer → Answer
-replying_in kind sent = replying (λ (r : Reply). cond (eqb r.kind kind) (sent r) (answer.Sent r))
+abbrev pub replying_in : ℕ → (Reply → Result Answer ℕ) → Result Answer ℕ → Result Answer ℕ
+replying_in kind sent = replying (λ (r : Reply). cond (eqb (kind_number r.kind) kind) (sent r) (as_sent r))
 
 -- a reply on another resource, and one with other bits
-abbrev pub sent_on : Reply → ℕ → Answer
-sent_on r number = answer.Sent (record { kind = r.kind; resource = record { 0 = number }; b0 = r.b0; b1 = r.b1; second = r.second })
+abbrev pub sent_on : Reply → ℕ → Result Answer ℕ
+sent_on r number = Ok (answer.Sent (record { kind = r.kind; resource = record { 0 = number }; b0 = r.b0; b1 = r.b1; second = r.second }))
 
-abbrev pub with_bits : Reply → ℕ → ℕ → Answer
-with_bits r b0 b1 = answer.Sent (record { kind = r.kind; resource = r.resource; b0 = b0; b1 = b1; second = r.second })
+abbrev pub with_bits : Reply → ℕ → ℕ → Result Answer ℕ
+with_bits r b0 b1 = Ok (answer.Sent (record { kind = r.kind; resource = r.resource; b0 = b0; b1 = b1; second = r.second }))
 
 -- An answer by a number: two answers with different numbers are not the same.
-abbrev answer_number : Answer → ℕ
+abbrev answer_number : Result Answer ℕ → ℕ
 answer_number = answering 0 1 2 (λ (r : Reply). 3) (λ (k : ℕ). 4 + k)
 
-pub same_answer : {a b c : Answer} → a ≡ b → a ≡ c → answer_number b ≡ answer_number c
+pub same_answer : {a b c : Result Answer ℕ} → a ≡ b → a ≡ c → answer_number b ≡ answer_number c
 same_answer e f = ap answer_number (sym e ∙ f)
 
 -- One resource, and a symbol's parts.
-pub same_resource : (a b : Resource) → mapped.At a ≡ mapped.At b → a.0 ≡ b.0
+pub same_resource : (a b : Resource) → ◌≡◌ {A = Result Resource ℕ} (Ok a) (Ok b) → a.0 ≡ b.0
 same_resource a b e = ap (λ (r : Resource). r.0) (let f : a ≡ b = cc in f)
 
-pub symbol_parts : (i b0 b1 i' b0' b1' : ℕ) → ◌≡◌ {A = Symbol} (symbol.Sent i b0 b1) (symbol.Sent i' b0' b1') → (i ≡ i') × (b0 ≡ b0') × (b1 ≡ b1')
-symbol_parts i b0 b1 i' b0' b1' e = (cc, cc, cc)
+pub symbol_parts : (i b0 b1 i' b0' b1' : ℕ) → ◌≡◌ {A = Option Symbol} (symbol i b0 b1) (symbol i' b0' b1') → (i ≡ i') × (b0 ≡ b0') × (b1 ≡ b1')
+symbol_parts i b0 b1 i' b0' b1' e =
+    let same = same_Some _ _ e in
+    (ap (λ y. y.index) same, ap (λ y. y.b0) same, ap (λ y. y.b1) same)
 
 -- What a multiplexed reply is read as, where its index is known.
-pub named_at : {set : Settings} {resource : ℕ → ℕ → Mapped} {read : ℕ → ℕ → ℕ → Reading} {ks : List ℕ} {heard : ℕ → Heard} {states : List State} {r : Reply}
+pub named_at : {set : Settings} {resource : ℕ → ℕ → Result Resource ℕ} {read : ℕ → ℕ → ℕ → Result Reading ℕ} {ks : List ℕ} {heard : ℕ → Heard} {states : List State} {r : Reply}
     → (m : MultiplexedReply set resource read ks heard states r) (i : ℕ) → i ≡ m.index → ReadAs i (heard (get_or ks i 0)) m.named
 named_at m i e = rw (← e) at m.is_heard
 

@@ -1,5 +1,8 @@
 -- Handsets with one fault each, and the field of the statement that shuts each of them out; WrongEngines.antt lists them.
 -- Assumes nothing.
+use Rattle.std.proofs.Common.{Option, Some, None, Result, Ok, Err}
+use Rattle.resource.specs.declared.Cce.{Cce}
+use Rattle.resource.specs.declared.Resource.{Resource}
 use Prim.Native.Nat.{ℕ, zero, suc, ◌+◌, ◌-◌, ◌%◌, ◌<◌}
 use mathlib.Core.Bool.{Bool, true, false, cond, ◌&&◌, ◌||◌, false≢true}
 use mathlib.Core.List.{List, [], ◌∷◌, reverse}
@@ -17,9 +20,6 @@ use Rattle.frame.specs.Settings.{or_else}
 use Rattle.frame.specs.Special.{too_short}
 use Rattle.frame.specs.Table.{window_of}
 use Rattle.frame.proofs.Windows.{exactly_one_holds}
-use Rattle.resource.specs.declared.Inverted.{Inverted}
-use Rattle.resource.specs.declared.Inverted.TheVariants as inverted
-use Rattle.resource.specs.declared.Mapped.{Mapped}
 use Rattle.resource.specs.Calls.{resource_of, inverse_of}
 use Rattle.resource.proofs.OneToOne.{calls_one_to_one, resource_range}
 use Rattle.heard.specs.declared.Heard.{Heard}
@@ -36,22 +36,24 @@ use Rattle.fold.specs.Fold.{unseen, step_of, seen_from, seen_of}
 use Rattle.reply.specs.declared.Answer.{Answer}
 use Rattle.reply.specs.declared.Answer.TheVariants as answer
 use Rattle.reply.specs.declared.Reply.{Reply}
+use Rattle.reply.specs.declared.ReplyKind.{ReplyKind}
+use Rattle.reply.specs.declared.ReplyKind.TheVariants as kind
+use Rattle.reply.specs.Kinds.{kind_number}
 use Rattle.reply.specs.Replies.{reply_on, lone_answer, bundled_answer, window_answer}
-use Rattle.handset.specs.declared.Fed.{Fed}
+use Rattle.handset.specs.Feed.{Fed}
 use Rattle.handset.specs.declared.Handset.{Handset}
-use Rattle.handset.specs.declared.Made.{Made}
+use Rattle.handset.specs.Make.{Made}
 use Rattle.handset.specs.Feed.{window_settings, pushed, feed_refusal, fed_as, feed_of}
 use Rattle.handset.specs.Make.{make_of}
 use Rattle.station.specs.declared.Place.TheVariants as place
 use Rattle.station.specs.declared.Reading.{Reading}
-use Rattle.station.specs.declared.Told.{Told}
 use Rattle.station.specs.Readings.{read_of}
 use Rattle.agreement.specs.Demand3.{Engine, Demand3}
 use Rattle.agreement.specs.Run.{heard_in_run}
 use Rattle.agreement.specs.Window.{is_heard}
 use Rattle.engines.proofs.Computing.{schedules, handsets, stations}
 use Rattle.engines.proofs.Worked.{answer_at, fed_nothing, cell, scheduled_two_block_cell, heard_grant, heard_block, reply, all_heard, all_heard_holds, missed, first_missed, one_undecoded, one_undecoded_holds, refused_feeds, refused_feeds_holds, two_windows, two_windows_holds, shared, symbol_shared, lone_block, lone_block_holds, second_block, second_block_holds, no_resource_set, no_resource_set_holds, short_special, short_special_holds, block_in_each, block_in_each_holds, block_at_index, block_at_index_holds}
-use Rattle.engines.proofs.WrongEngines.{engine, made_by, fed_by, changed, knows_by, answers_by, answering, replying, replying_in, sent_on, with_bits, same_answer, same_resource, symbol_parts, named_at, one_lost, holds_in, in_all_heard, in_missed, in_one_undecoded, in_two_windows, in_shared, in_shared_before, in_lone_block, in_block_last, in_missed_with_block, in_release_last, in_block_at_index, in_release_at_index, in_short_multiplexed}
+use Rattle.engines.proofs.WrongEngines.{engine, made_by, fed_by, changed, knows_by, answers_by, answering, as_sent, replying, replying_in, sent_on, with_bits, same_answer, same_resource, symbol_parts, named_at, one_lost, holds_in, in_all_heard, in_missed, in_one_undecoded, in_two_windows, in_shared, in_shared_before, in_lone_block, in_block_last, in_missed_with_block, in_release_last, in_block_at_index, in_release_at_index, in_short_multiplexed}
 
 -- Making.
 
@@ -67,7 +69,7 @@ not_refuses_to_make d = omega (arith, d.made (cell 1 0) refl)
 
 -- A handset that refuses all.
 abbrev pub refuses_all : Handset → Heard → Fed
-refuses_all h x = record { answer = answer.Refused 9; handset = h }
+refuses_all h x = record { answer = Err 9; handset = h }
 
 pub not_refuses_all : Demand3 (fed_by refuses_all) → ⊥
 unfolding schedules
@@ -75,8 +77,8 @@ not_refuses_all d =
     ((holds_in (fed_by refuses_all) d all_heard all_heard_holds).refused_exactly 7 Nothing (record { inside = omega arith; brings = refl })).0 (9, refl) refl
 
 -- One that refuses 8 where it has nothing to send.
-abbrev pub refuses_silence : Answer → Answer
-refuses_silence = answering answer.Taken answer.NoWindow (answer.Refused 8) answer.Sent answer.Refused
+abbrev pub refuses_silence : Result Answer ℕ → Result Answer ℕ
+refuses_silence = answering (Ok answer.Taken) (Ok answer.NoWindow) (Err 8) as_sent Err
 
 pub not_refuses_silence : Demand3 (answers_by refuses_silence) → ⊥
 unfolding schedules
@@ -85,8 +87,8 @@ not_refuses_silence d =
     (8, ap refuses_silence (answer_at all_heard all_heard_holds 2)) refl
 
 -- One that answers "taken" where a cause is met.
-abbrev pub refuses_none : Answer → Answer
-refuses_none = answering answer.Taken answer.NoWindow answer.Silent answer.Sent (λ (k : ℕ). answer.Taken)
+abbrev pub refuses_none : Result Answer ℕ → Result Answer ℕ
+refuses_none = answering (Ok answer.Taken) (Ok answer.NoWindow) (Ok answer.Silent) as_sent (λ (k : ℕ). (Ok answer.Taken))
 
 pub not_refuses_none : Demand3 (answers_by refuses_none) → ⊥
 unfolding schedules
@@ -96,8 +98,8 @@ not_refuses_none d =
     omega (arith, same_answer (ap refuses_none (answer_at refused_feeds refused_feeds_holds 1)) r.1)
 
 -- One that refuses with 9 whatever the cause.
-abbrev pub refuses_with_nine : Answer → Answer
-refuses_with_nine = answering answer.Taken answer.NoWindow answer.Silent answer.Sent (λ (k : ℕ). answer.Refused 9)
+abbrev pub refuses_with_nine : Result Answer ℕ → Result Answer ℕ
+refuses_with_nine = answering (Ok answer.Taken) (Ok answer.NoWindow) (Ok answer.Silent) as_sent (λ (k : ℕ). Err 9)
 
 pub not_refuses_with_nine : Demand3 (answers_by refuses_with_nine) → ⊥
 unfolding schedules
@@ -107,7 +109,7 @@ not_refuses_with_nine d =
     omega (arith, same_answer (ap refuses_with_nine (answer_at refused_feeds refused_feeds_holds 1)) (ap (λ (f : Fed). f.answer) l))
 
 -- One that moves on at a refused feed, as if nothing had been heard.
-abbrev moved_on : Handset → Handset → Answer → Handset
+abbrev moved_on : Handset → Handset → Result Answer ℕ → Handset
 moved_on h next = answering next next next (λ (r : Reply). next) (λ (k : ℕ). pushed h Nothing)
 
 abbrev pub moves_on : Handset → Heard → Fed
@@ -129,14 +131,14 @@ unfolding handsets
 not_takes_second_block d =
     let r = ((holds_in (fed_by takes_eighteen) d second_block second_block_holds).refused_exactly 5 (heard_block true)
     (record { inside = omega arith; brings = refl })).1 (λ e. omega arith) in
-    omega (arith, same_answer {b = answer.Taken} refl r.1)
+    omega (arith, same_answer {b = (Ok answer.Taken)} refl r.1)
 
 pub not_takes_unset_block : Demand3 (fed_by takes_eighteen) → ⊥
 unfolding handsets
 not_takes_unset_block d =
     let r = ((holds_in (fed_by takes_eighteen) d no_resource_set no_resource_set_holds).refused_exactly 0 (heard_block true)
     (record { inside = omega arith; brings = refl })).1 (λ e. omega arith) in
-    omega (arith, same_answer {b = answer.Taken} refl r.1)
+    omega (arith, same_answer {b = (Ok answer.Taken)} refl r.1)
 
 -- One that refuses 18 for a scheduled block where it remembers another, of whatever window.
 abbrev remembers_block : List Slot → Bool
@@ -161,7 +163,7 @@ unfolding handsets
 not_takes_short_grant d =
     let r = ((holds_in (fed_by takes_twenty) d short_special short_special_holds).refused_exactly 1 (heard_grant 1 10 1 true false)
     (record { inside = omega arith; brings = refl })).1 (λ e. omega arith) in
-    omega (arith, same_answer {b = answer.Taken} refl r.1)
+    omega (arith, same_answer {b = (Ok answer.Taken)} refl r.1)
 
 abbrev pub takes_short_block : Handset → Heard → Fed
 takes_short_block h x = fed_as (cond (eqb (feed_refusal h x) 20 && is_block x) 0 (feed_refusal h x)) h x
@@ -171,7 +173,7 @@ unfolding handsets
 not_takes_short_block d =
     let r = ((holds_in (fed_by takes_short_block) d short_special short_special_holds).refused_exactly 3 (heard_block true)
     (record { inside = omega arith; brings = refl })).1 (λ e. omega arith) in
-    omega (arith, same_answer {b = answer.Taken} refl r.1)
+    omega (arith, same_answer {b = (Ok answer.Taken)} refl r.1)
 
 -- One that refuses a release there too.
 abbrev pub refuses_short_release : Handset → Heard → Fed
@@ -184,8 +186,8 @@ not_refuses_short_release d =
     (record { inside = omega arith; brings = refl })).0 (20, refl) refl
 
 -- One that takes such a subframe for an uplink one: 9 for 20.
-abbrev pub nine_for_twenty : Answer → Answer
-nine_for_twenty = answering answer.Taken answer.NoWindow answer.Silent answer.Sent (λ (k : ℕ). answer.Refused (cond (eqb k 20) 9 k))
+abbrev pub nine_for_twenty : Result Answer ℕ → Result Answer ℕ
+nine_for_twenty = answering (Ok answer.Taken) (Ok answer.NoWindow) (Ok answer.Silent) as_sent (λ (k : ℕ). Err (cond (eqb k 20) 9 k))
 
 pub not_nine_for_twenty : Demand3 (answers_by nine_for_twenty) → ⊥
 unfolding schedules
@@ -209,7 +211,7 @@ unfolding handsets
 not_ten_before_twenty d =
     let l = (holds_in (fed_by ten_before_twenty) d short_special short_special_holds).leaves 2 (heard_grant 2 10 1 true true)
     (record { inside = omega arith; brings = refl }) (λ e. omega arith) in
-    omega (arith, same_answer {b = answer.Refused 10} refl (ap (λ (f : Fed). f.answer) l))
+    omega (arith, same_answer {b = Err 10} refl (ap (λ (f : Fed). f.answer) l))
 
 -- The two of 18, by the words of the window table: subframes 4 and 5 of configuration 2 are in the window of 12; of configuration 1,
 -- subframe 0 is in that of 7 and subframe 5 in that of 12.
@@ -219,7 +221,7 @@ not_takes_second_in_window d =
     let r = ((holds_in (fed_by takes_eighteen) d second_block second_block_holds).second 5 (record { blocks = 1; first = true; second = false })
     (record { inside = omega arith; brings = refl }) refl).1
     (4, 12, 1, 0, omega arith, record { position = omega arith; distance = refl }, record { position = omega arith; distance = refl }, refl) in
-    omega (arith, same_answer {b = answer.Taken} refl r)
+    omega (arith, same_answer {b = (Ok answer.Taken)} refl r)
 
 -- the block heard before subframe 5 is that of 0
 only_first : (d : ℕ) → d < 5 → is_block (get_or (heard_in_run block_in_each.set block_in_each.items) d Nothing) ≡ true → d ≡ 0
@@ -248,8 +250,8 @@ not_refuses_across_windows d =
 -- Subframes without a reply.
 
 -- "Silent" for "taken".
-abbrev pub silent_for_taken : Answer → Answer
-silent_for_taken = answering answer.Silent answer.NoWindow answer.Silent answer.Sent answer.Refused
+abbrev pub silent_for_taken : Result Answer ℕ → Result Answer ℕ
+silent_for_taken = answering (Ok answer.Silent) (Ok answer.NoWindow) (Ok answer.Silent) as_sent Err
 
 pub not_silent_for_taken : Demand3 (answers_by silent_for_taken) → ⊥
 unfolding schedules
@@ -258,8 +260,8 @@ not_silent_for_taken d =
     omega (arith, same_answer (ap silent_for_taken (answer_at all_heard all_heard_holds 4)) t)
 
 -- "Silent" for "no window".
-abbrev pub silent_for_no_window : Answer → Answer
-silent_for_no_window = answering answer.Taken answer.Silent answer.Silent answer.Sent answer.Refused
+abbrev pub silent_for_no_window : Result Answer ℕ → Result Answer ℕ
+silent_for_no_window = answering (Ok answer.Taken) (Ok answer.Silent) (Ok answer.Silent) as_sent Err
 
 pub not_silent_for_no_window : Demand3 (answers_by silent_for_no_window) → ⊥
 unfolding schedules
@@ -268,8 +270,8 @@ not_silent_for_no_window d =
     omega (arith, same_answer (ap silent_for_no_window (answer_at two_windows two_windows_holds 3)) n)
 
 -- "No window" for "silent": in the bundled window whose miss is shown, and in the multiplexed one of which nothing is heard.
-abbrev pub no_window_for_silent : Answer → Answer
-no_window_for_silent = answering answer.Taken answer.NoWindow answer.NoWindow answer.Sent answer.Refused
+abbrev pub no_window_for_silent : Result Answer ℕ → Result Answer ℕ
+no_window_for_silent = answering (Ok answer.Taken) (Ok answer.NoWindow) (Ok answer.NoWindow) as_sent Err
 
 pub not_no_window_for_silent : Demand3 (answers_by no_window_for_silent) → ⊥
 unfolding schedules
@@ -286,8 +288,8 @@ not_no_window_for_silent_multiplexed d =
 -- Whether a reply is sent.
 
 -- A handset always silent.
-abbrev pub always_silent : Answer → Answer
-always_silent = replying (λ (r : Reply). answer.Silent)
+abbrev pub always_silent : Result Answer ℕ → Result Answer ℕ
+always_silent = replying (λ (r : Reply). Ok answer.Silent)
 
 pub not_always_silent : Demand3 (answers_by always_silent) → ⊥
 unfolding schedules
@@ -302,8 +304,8 @@ not_always_silent_multiplexed d =
     omega (arith, same_answer (ap always_silent (answer_at shared symbol_shared 12)) r.1)
 
 -- A handset silent as if missed before any grant: no bundled reply goes out.
-abbrev pub as_if_missed : Answer → Answer
-as_if_missed = replying_in 1 (λ (r : Reply). answer.Silent)
+abbrev pub as_if_missed : Result Answer ℕ → Result Answer ℕ
+as_if_missed = replying_in 1 (λ (r : Reply). Ok answer.Silent)
 
 pub not_as_if_missed : Demand3 (answers_by as_if_missed) → ⊥
 unfolding schedules
@@ -312,20 +314,20 @@ not_as_if_missed d =
     omega (arith, same_answer (ap as_if_missed (answer_at all_heard all_heard_holds 7)) r.1)
 
 -- A handset silent where the reply would go on the scheduled resource.
-abbrev pub silent_on_scheduled : Handset → Answer → Answer
-silent_on_scheduled h = replying (λ (r : Reply). cond (eqb r.resource.0 h.settings.scheduled) answer.Silent (answer.Sent r))
+abbrev pub silent_on_scheduled : Handset → Result Answer ℕ → Result Answer ℕ
+silent_on_scheduled h = replying (λ (r : Reply). cond (eqb r.resource.0 h.settings.scheduled) (Ok answer.Silent) (Ok (answer.Sent r)))
 
 pub not_silent_on_scheduled : Demand3 (knows_by silent_on_scheduled) → ⊥
 unfolding handsets
 not_silent_on_scheduled d =
     let r = (in_lone_block (knows_by silent_on_scheduled) d).0.1 (inr (refl, refl)) in
-    omega (arith, same_answer {b = answer.Silent} refl r.1)
+    omega (arith, same_answer {b = (Ok answer.Silent)} refl r.1)
 
 pub not_silent_on_scheduled_multiplexed : Demand3 (knows_by silent_on_scheduled) → ⊥
 unfolding handsets
 not_silent_on_scheduled_multiplexed d =
     let r = (in_block_at_index (knows_by silent_on_scheduled) d).0.1 refl in
-    omega (arith, same_answer {b = answer.Silent} refl r.1)
+    omega (arith, same_answer {b = (Ok answer.Silent)} refl r.1)
 
 -- What a handset has of the window that it is to answer: the printed K, what stood k ago, and the fold.
 abbrev own_window : Handset → List ℕ
@@ -338,15 +340,15 @@ abbrev own_seen : Handset → Seen
 own_seen h = seen_of (own_view h) (own_window h)
 
 -- Our handset with another count U in its bundled replies. (In a multiplexed window it is silent only where nothing is heard.)
-abbrev counts_by : (Seen → ℕ) → Handset → Answer → Answer
+abbrev counts_by : (Seen → ℕ) → Handset → Result Answer ℕ → Result Answer ℕ
 counts_by count h =
     let seen : Seen = own_seen h in
-    let other : Answer = bundled_answer (window_settings h) h.next
-    (record { u = count seen; v = seen.v; position = seen.position; cce = seen.cce; first = seen.first; second = seen.second; scheduled = seen.scheduled }) in
-    answering answer.Taken answer.NoWindow other (λ (r : Reply). cond (eqb r.kind 1) other (answer.Sent r)) answer.Refused
+    let other : Result Answer ℕ = Ok (bundled_answer (window_settings h) h.next
+    (record { u = count seen; v = seen.v; position = seen.position; cce = seen.cce; first = seen.first; second = seen.second; scheduled = seen.scheduled })) in
+    answering (Ok answer.Taken) (Ok answer.NoWindow) other (λ (r : Reply). cond (eqb (kind_number r.kind) 1) other (as_sent r)) Err
 
 -- A handset that holds V against the value for U + 1: it answers where one grant was lost, and is silent where none was.
-abbrev pub counts_one_more : Handset → Answer → Answer
+abbrev pub counts_one_more : Handset → Result Answer ℕ → Result Answer ℕ
 counts_one_more = counts_by (λ (seen : Seen). cond (eqb seen.u 0) 0 (seen.u + 1))
 
 pub not_counts_one_more : Demand3 (knows_by counts_one_more) → ⊥
@@ -355,30 +357,30 @@ not_counts_one_more d = one_lost ((in_missed (knows_by counts_one_more) d).0.0 (
 
 -- One that counts a heard scheduled block in U: it is silent where a grant and a block were heard and none was lost, and answers
 -- where one was lost.
-abbrev pub counts_block : Handset → Answer → Answer
+abbrev pub counts_block : Handset → Result Answer ℕ → Result Answer ℕ
 counts_block = counts_by (λ (seen : Seen). seen.u + bit seen.scheduled)
 
 pub not_counts_block : Demand3 (knows_by counts_block) → ⊥
 unfolding handsets
 not_counts_block d =
     let r = (in_block_last (knows_by counts_block) d).0.1 (inl (refl, inl refl)) in
-    omega (arith, same_answer {b = answer.Silent} refl r.1)
+    omega (arith, same_answer {b = (Ok answer.Silent)} refl r.1)
 
 pub not_counts_block_missed : Demand3 (knows_by counts_block) → ⊥
 unfolding handsets
 not_counts_block_missed d = one_lost ((in_missed_with_block (knows_by counts_block) d).0.0 (_, refl))
 
 -- One that answers for a heard scheduled block, on its resource, where a miss is shown.
-abbrev pub answers_missed : Handset → Answer → Answer
-answers_missed h = answering answer.Taken answer.NoWindow (lone_answer h.settings (own_seen h)) answer.Sent answer.Refused
+abbrev pub answers_missed : Handset → Result Answer ℕ → Result Answer ℕ
+answers_missed h = answering (Ok answer.Taken) (Ok answer.NoWindow) (Ok (lone_answer h.settings (own_seen h))) as_sent Err
 
 pub not_answers_missed : Demand3 (knows_by answers_missed) → ⊥
 unfolding handsets
 not_answers_missed d = one_lost ((in_missed_with_block (knows_by answers_missed) d).0.0 (_, refl))
 
 -- A reply in every window: on resource 10 where there is none to send.
-abbrev pub never_silent : Answer → Answer
-never_silent = answering answer.Taken answer.NoWindow (reply 2 10 0 0) answer.Sent answer.Refused
+abbrev pub never_silent : Result Answer ℕ → Result Answer ℕ
+never_silent = answering (Ok answer.Taken) (Ok answer.NoWindow) (reply 2 10 0 0) as_sent Err
 
 pub not_never_silent_multiplexed : Demand3 (answers_by never_silent) → ⊥
 unfolding schedules
@@ -392,7 +394,7 @@ ten_more h = record { settings = h.settings; next = h.next + 10; modes = h.modes
 abbrev ten_less : Handset → Handset
 ten_less h = record { settings = h.settings; next = h.next - 10; modes = h.modes; past = h.past }
 
-abbrev ten_more_after : Handset → Answer → Handset
+abbrev ten_more_after : Handset → Result Answer ℕ → Handset
 ten_more_after h = answering h h h (λ (r : Reply). ten_more h) (λ (k : ℕ). h)
 
 abbrev pub first_only : Handset → Heard → Fed
@@ -405,24 +407,28 @@ pub not_first_only : Demand3 (fed_by first_only) → ⊥
 unfolding handsets
 not_first_only d =
     let r = (in_two_windows (fed_by first_only) d).0.1 (inl (refl, inl refl)) in
-    omega (arith, same_answer {b = answer.Silent} refl r.1)
+    omega (arith, same_answer {b = (Ok answer.Silent)} refl r.1)
 
 -- What the reply is.
 
 -- A bundled reply goes out as a multiplexed one, and the reverse.
-abbrev pub other_kind : Answer → Answer
-other_kind = replying (λ (r : Reply). answer.Sent (record { kind = 3 - r.kind; resource = r.resource; b0 = r.b0; b1 = r.b1; second = r.second }))
+abbrev the_other : ReplyKind → ReplyKind
+the_other kind.Bundled = kind.Multiplexed
+the_other kind.Multiplexed = kind.Bundled
+
+abbrev pub other_kind : Result Answer ℕ → Result Answer ℕ
+other_kind = replying (λ (r : Reply). Ok (answer.Sent (record { kind = the_other r.kind; resource = r.resource; b0 = r.b0; b1 = r.b1; second = r.second })))
 
 pub not_other_kind : Demand3 (answers_by other_kind) → ⊥
 unfolding schedules
-not_other_kind d = omega (arith, ((in_all_heard (answers_by other_kind) d).1 _ (ap other_kind (answer_at all_heard all_heard_holds 7))).kind)
+not_other_kind d = omega (arith, ap kind_number ((in_all_heard (answers_by other_kind) d).1 _ (ap other_kind (answer_at all_heard all_heard_holds 7))).kind)
 
 pub not_other_kind_multiplexed : Demand3 (answers_by other_kind) → ⊥
 unfolding schedules
-not_other_kind_multiplexed d = omega (arith, ((in_shared (answers_by other_kind) d).1 _ (ap other_kind (answer_at shared symbol_shared 12))).kind)
+not_other_kind_multiplexed d = omega (arith, ap kind_number ((in_shared (answers_by other_kind) d).1 _ (ap other_kind (answer_at shared symbol_shared 12))).kind)
 
 -- The two bits are exchanged. In a multiplexed reply they are then another row's.
-abbrev pub exchanged : Answer → Answer
+abbrev pub exchanged : Result Answer ℕ → Result Answer ℕ
 exchanged = replying (λ (r : Reply). with_bits r r.b1 r.b0)
 
 pub not_exchanged_first : Demand3 (answers_by exchanged) → ⊥
@@ -442,7 +448,7 @@ not_exchanged_symbol d =
     omega (arith, (symbol_parts 1 1 0 _ _ _ m.is_symbol).1)
 
 -- The first block is always NACK.
-abbrev pub nacks_first : Answer → Answer
+abbrev pub nacks_first : Result Answer ℕ → Result Answer ℕ
 nacks_first = replying_in 1 (λ (r : Reply). with_bits r 0 r.b1)
 
 pub not_nacks_first : Demand3 (answers_by nacks_first) → ⊥
@@ -454,7 +460,7 @@ not_nacks_first d =
 abbrev last_seen : Handset → Seen
 last_seen h = step_of unseen (own_seen h).position (own_view h (get_or (own_window h) (own_seen h).position 0))
 
-abbrev pub last_alone : Handset → Answer → Answer
+abbrev pub last_alone : Handset → Result Answer ℕ → Result Answer ℕ
 last_alone h = replying_in 1 (λ (r : Reply). with_bits r (cond (eqb (own_seen h).u 0) r.b0 (bit (last_seen h).first)) r.b1)
 
 pub not_last_alone : Demand3 (knows_by last_alone) → ⊥
@@ -468,13 +474,13 @@ taken_for block release (Granted g) = Granted g
 taken_for block release (Scheduled b) = block b
 taken_for block release (Released p) = release p
 
-abbrev hears_by : (ScheduledBlock → Heard) → (Release → Heard) → Handset → Answer → Answer
+abbrev hears_by : (ScheduledBlock → Heard) → (Release → Heard) → Handset → Result Answer ℕ → Result Answer ℕ
 hears_by block release h =
-    let other : Answer = window_answer (window_settings h) h.next (λ (k : ℕ). view_of (taken_for block release (heard_in (get_or h.past (k - 1) none)))) in
-    answering answer.Taken answer.NoWindow other (λ (r : Reply). other) answer.Refused
+    let other : Result Answer ℕ = Ok (window_answer (window_settings h) h.next (λ (k : ℕ). view_of (taken_for block release (heard_in (get_or h.past (k - 1) none))))) in
+    answering (Ok answer.Taken) (Ok answer.NoWindow) other (λ (r : Reply). other) Err
 
 -- A scheduled block does not join the AND: it counts as decoded.
-abbrev pub skips_block : Handset → Answer → Answer
+abbrev pub skips_block : Handset → Result Answer ℕ → Result Answer ℕ
 skips_block = hears_by (λ (b : ScheduledBlock). Scheduled (record { blocks = b.blocks; first = true; second = true })) Released
 
 pub not_skips_block : Demand3 (knows_by skips_block) → ⊥
@@ -486,14 +492,14 @@ unfolding handsets
 not_skips_block_second d = false≢true ((((in_block_last (knows_by skips_block) d).1 _ refl).second refl).0 refl).1.1.1.0
 
 -- A scheduled block is not heard.
-abbrev pub deaf_to_blocks : Handset → Answer → Answer
+abbrev pub deaf_to_blocks : Handset → Result Answer ℕ → Result Answer ℕ
 deaf_to_blocks = hears_by (λ (b : ScheduledBlock). Nothing) Released
 
 pub not_deaf_to_blocks : Demand3 (knows_by deaf_to_blocks) → ⊥
 unfolding handsets
 not_deaf_to_blocks d =
     let r = (in_lone_block (knows_by deaf_to_blocks) d).0.1 (inr (refl, refl)) in
-    omega (arith, same_answer {b = answer.Silent} refl r.1)
+    omega (arith, same_answer {b = (Ok answer.Silent)} refl r.1)
 
 pub not_deaf_to_blocks_multiplexed : Demand3 (knows_by deaf_to_blocks) → ⊥
 unfolding handsets
@@ -502,10 +508,10 @@ not_deaf_to_blocks_multiplexed d =
     omega (arith, (symbol_parts 1 1 0 _ _ _ m.is_symbol).2)
 
 -- What comes in a subframe too short for data is not heard: as if it were in no window.
-abbrev pub deaf_in_short : Handset → Answer → Answer
+abbrev pub deaf_in_short : Handset → Result Answer ℕ → Result Answer ℕ
 deaf_in_short h =
-    let other : Answer = window_answer (window_settings h) h.next (λ (k : ℕ). cond (too_short h.settings (before h.next k)) Unheard (view_ago h.past k)) in
-    answering answer.Taken answer.NoWindow other (λ (r : Reply). other) answer.Refused
+    let other : Result Answer ℕ = Ok (window_answer (window_settings h) h.next (λ (k : ℕ). cond (too_short h.settings (before h.next k)) Unheard (view_ago h.past k))) in
+    answering (Ok answer.Taken) (Ok answer.NoWindow) other (λ (r : Reply). other) Err
 
 pub not_deaf_in_short : Demand3 (knows_by deaf_in_short) → ⊥
 unfolding handsets
@@ -514,7 +520,7 @@ not_deaf_in_short d =
     omega (arith, (symbol_parts 0 0 1 _ _ _ m.is_symbol).1)
 
 -- A release counts as a grant whose block is not decoded.
-abbrev pub fails_release : Handset → Answer → Answer
+abbrev pub fails_release : Handset → Result Answer ℕ → Result Answer ℕ
 fails_release = hears_by Scheduled (λ (p : Release). Granted (record { blocks = 1; first = false; second = false; cce = p.cce; dai = p.dai }))
 
 pub not_fails_release : Demand3 (knows_by fails_release) → ⊥
@@ -528,7 +534,7 @@ not_fails_release_multiplexed d =
     omega (arith, (symbol_parts 1 0 1 _ _ _ m.is_symbol).2)
 
 -- A release is not heard.
-abbrev pub deaf_to_releases : Handset → Answer → Answer
+abbrev pub deaf_to_releases : Handset → Result Answer ℕ → Result Answer ℕ
 deaf_to_releases = hears_by Scheduled (λ (p : Release). Nothing)
 
 pub not_deaf_to_releases : Demand3 (knows_by deaf_to_releases) → ⊥
@@ -538,7 +544,7 @@ not_deaf_to_releases d =
     omega (arith, ((calls_one_to_one (scheduled_two_block_cell 2 0) 2 refl).once m.0 5 0 3 13 m.3 refl).1)
 
 -- The second bit of a bundled reply is set in a cell of one block.
-abbrev pub second_set : Handset → Answer → Answer
+abbrev pub second_set : Handset → Result Answer ℕ → Result Answer ℕ
 second_set h = replying_in 1 (λ (r : Reply). with_bits r r.b0 (cond (eqb h.settings.blocks 1) 1 r.b1))
 
 pub not_second_set : Demand3 (knows_by second_set) → ⊥
@@ -546,7 +552,7 @@ unfolding handsets
 not_second_set d = omega (arith, ((in_all_heard (knows_by second_set) d).1 _ refl).bits.2 refl)
 
 -- The NACK of a first block goes out as 2.
-abbrev pub nack_as_two : Answer → Answer
+abbrev pub nack_as_two : Result Answer ℕ → Result Answer ℕ
 nack_as_two = replying_in 1 (λ (r : Reply). with_bits r (cond (eqb r.b0 0) 2 1) r.b1)
 
 pub not_nack_as_two : Demand3 (answers_by nack_as_two) → ⊥
@@ -555,7 +561,7 @@ not_nack_as_two d =
     omega (arith, ((in_one_undecoded (answers_by nack_as_two) d).1 _ (ap nack_as_two (answer_at one_undecoded one_undecoded_holds 7))).bits.0)
 
 -- The ACK of a second block goes out as 2.
-abbrev pub ack_as_two : Answer → Answer
+abbrev pub ack_as_two : Result Answer ℕ → Result Answer ℕ
 ack_as_two = replying_in 1 (λ (r : Reply). with_bits r r.b0 (cond (eqb r.b1 1) 2 0))
 
 pub not_ack_as_two : Demand3 (answers_by ack_as_two) → ⊥
@@ -565,18 +571,18 @@ not_ack_as_two d =
 
 -- The right bits go out on another resource than that of the PDCCH with position m and first CCE c; a reply on the scheduled resource
 -- goes out as it is.
-abbrev moved_to : Settings → (ℕ → ℕ → Mapped) → Reply → Inverted → Answer
-moved_to s other r (inverted.At m c) = reply_on s r.kind (other m c.0) r.b0 r.b1
-moved_to s other r (inverted.Refused k) = answer.Sent r
+abbrev moved_to : Settings → (ℕ → ℕ → Result Resource ℕ) → Reply → Result (ℕ × Cce) ℕ → Result Answer ℕ
+moved_to s other r (Ok (m, c)) = Ok (reply_on s r.kind (other m c.0) r.b0 r.b1)
+moved_to s other r (Err k) = Ok (answer.Sent r)
 
-abbrev moved : (Handset → ℕ → ℕ → Mapped) → Handset → Reply → Answer
+abbrev moved : (Handset → ℕ → ℕ → Result Resource ℕ) → Handset → Reply → Result Answer ℕ
 moved other h r = moved_to h.settings (other h) r (inverse_of h.settings h.next r.resource.0)
 
 -- On that of the first heard PDCCH.
 abbrev first_seen : Handset → Seen
 first_seen h = seen_from (own_view h) (own_window h) (reverse (order_of (own_window h))) unseen
 
-abbrev pub on_first : Handset → Answer → Answer
+abbrev pub on_first : Handset → Result Answer ℕ → Result Answer ℕ
 on_first h = replying (moved (λ h m c. resource_of h.settings h.next (first_seen h).position (first_seen h).cce.0) h)
 
 pub not_on_first : Demand3 (knows_by on_first) → ⊥
@@ -593,7 +599,7 @@ not_on_first_multiplexed d =
     omega (arith, same_resource _ _ (rw named at m.on_resource))
 
 -- Bundled, on that of the last heard PDCCH's first CCE at position 0. The station reads that pair: both ends agree.
-abbrev pub on_first_position : Handset → Answer → Answer
+abbrev pub on_first_position : Handset → Result Answer ℕ → Result Answer ℕ
 on_first_position h = replying_in 1 (moved (λ h m c. resource_of h.settings h.next 0 c) h)
 
 pub not_on_first_position : Demand3 (knows_by on_first_position) → ⊥
@@ -604,7 +610,7 @@ not_on_first_position d =
     omega (arith, rw first at m.2)
 
 -- Multiplexed, on that of the right position with the first CCE of the first heard PDCCH. The station reads that pair: both ends agree.
-abbrev pub on_first_cce : Handset → Answer → Answer
+abbrev pub on_first_cce : Handset → Result Answer ℕ → Result Answer ℕ
 on_first_cce h = replying_in 2 (moved (λ h m c. resource_of h.settings h.next m (first_seen h).cce.0) h)
 
 pub not_on_first_cce : Demand3 (knows_by on_first_cce) → ⊥
@@ -615,8 +621,8 @@ not_on_first_cce d =
     omega (arith, same_resource _ _ (rw named at m.on_resource))
 
 -- Bundled, on the scheduled resource wherever a scheduled block was heard, though a PDCCH was heard too.
-abbrev pub on_scheduled_too : Handset → Answer → Answer
-on_scheduled_too h = replying_in 1 (λ (r : Reply). cond (own_seen h).scheduled (sent_on r h.settings.scheduled) (answer.Sent r))
+abbrev pub on_scheduled_too : Handset → Result Answer ℕ → Result Answer ℕ
+on_scheduled_too h = replying_in 1 (λ (r : Reply). cond (own_seen h).scheduled (sent_on r h.settings.scheduled) (Ok (answer.Sent r)))
 
 pub not_on_scheduled_too : Demand3 (knows_by on_scheduled_too) → ⊥
 unfolding handsets
@@ -626,7 +632,7 @@ not_on_scheduled_too d =
 
 -- A scheduled block counts as a grant with first CCE 0 and DAI 1, on whose resource it is answered. The station reads that pair: both
 -- ends agree.
-abbrev pub grants_block : Handset → Answer → Answer
+abbrev pub grants_block : Handset → Result Answer ℕ → Result Answer ℕ
 grants_block =
     hears_by (λ (b : ScheduledBlock). Granted (record { blocks = b.blocks; first = b.first; second = b.second; cce = record { 0 = 0 }; dai = 1 })) Released
 
@@ -642,10 +648,10 @@ not_grants_block_multiplexed d =
     omega (arith, rw named at m.on_resource)
 
 -- Every reply goes out 4000 resources higher, and the station reads it so: the two agree, and with nobody else.
-abbrev pub raised : Answer → Answer
+abbrev pub raised : Result Answer ℕ → Result Answer ℕ
 raised = replying (λ (r : Reply). sent_on r (r.resource.0 + 4000))
 
-abbrev pub raised_reading : Settings → ℕ → Told → ℕ → ℕ → ℕ → Reading
+abbrev pub raised_reading : Settings → ℕ → Option ℕ → ℕ → ℕ → ℕ → Result Reading ℕ
 raised_reading s n told r b0 b1 = read_of s n told (cond (ltb r 4000) r (r - 4000)) b0 b1
 
 abbrev pub both_raised : Engine

@@ -7,7 +7,7 @@ use mathlib.Core.Path.{refl, ap}
 use native.Mathlib.Omega.{arith}
 use lib.Dec.{eqb}
 use Rattle.frame.specs.Settings.{has_second_port}
-use Rattle.handset.specs.declared.Changed.{Changed}
+use Rattle.handset.specs.Change.{Changed}
 use Rattle.handset.specs.declared.Handset.{Handset}
 use Rattle.handset.specs.Change.{in_new_mode, change_of}
 use Rattle.agreement.specs.Demand3.{Demand3}

@@ -2,7 +2,7 @@
 // bits wide. An answer is a struct of numbers (`numbers`): the refusal, 0 for none, and the values, which are 0 where they say nothing.
 #![tactic(auto)]
 
-ghost use Rattle.std.specs.Prelude.{◌≡◌, length};
+ghost use Rattle.std.specs.Prelude.{◌≡◌, ◌≤◌, length};
 ghost use Rattle.account.specs.Account.{open_of};
 ghost use Rattle.confirming.specs.Blocks.{confirmed_of};
 ghost use Rattle.credit.specs.Credit.{credit_of};
@@ -12,7 +12,7 @@ ghost use Rattle.resource.specs.Ports.{ports_of};
 ghost use Rattle.station.specs.Readings.{read_of};
 ghost use Rattle.claims.specs.Bits.{bit_checked_of, bit_scratch_of};
 ghost use Rattle.claims.specs.Claims.{checked_of, scratch_of};
-ghost use Rattle.numbers.specs.Answers.{window_answer, resource_answer, inverse_answer, told_position, reading_answer, claims_answer, fed_answer, silence_answer, grant_of, block_of, release_of, record_answer};
+ghost use Rattle.numbers.specs.Answers.{padded, window_answer, answered_answer, resource_answer, inverse_answer, told_position, reading_answer, confirmed_answer, credit_answer, claims_answer, made_answer, changed_answer, fed_answer, silence_answer, grant_of, block_of, release_of, replay_answer, record_answer, write_answer};
 ghost use Rattle.handset.specs.Change.{change_of};
 ghost use Rattle.handset.specs.Feed.{feed_of};
 ghost use Rattle.handset.specs.Make.{make_of};
@@ -23,18 +23,16 @@ ghost use Rattle.reader.specs.Record.{record_of};
 ghost use Rattle.spelling.specs.Writing.{write_of, spelled_into};
 
 use account::{Account, Opened};
-use confirming::{Confirmed, SentWindow};
-use credit::Credited;
-use frame::{Answered, Settings};
-use handset::{Changed, Handset, Made};
+use confirming::SentWindow;
+use frame::Settings;
+use handset::Handset;
 use heard::{Grant, Heard, Release, ScheduledBlock};
 use numbers::{
-    ClaimsAnswer, FedAnswer, InverseAnswer, ReadingAnswer, RecordAnswer, ResourceAnswer,
-    SilenceAnswer, WindowAnswer,
+    AnsweredAnswer, ChangedAnswer, ClaimsAnswer, ConfirmedAnswer, CreditAnswer, FedAnswer,
+    InverseAnswer, MadeAnswer, ReadingAnswer, RecordAnswer, ReplayAnswer, ResourceAnswer,
+    SilenceAnswer, WindowAnswer, WriteAnswer,
 };
-use replaying::Replayed;
 use resource::{Cce, Resource};
-use spelling::Written;
 
 // The number of the structs' layout, which the name carries too: a program that was compiled for another layout does not link.
 #[unsafe(no_mangle)]
@@ -44,35 +42,42 @@ pub extern "C" fn feedback_layout_5() -> u16
     5
 }
 
+// The numbers of a list, and zeros behind them.
+fn padded(list: &[u16]) -> [u16; 9]
+    requires { length list.now ≤ 9 }
+    ensures { result ≡ padded 9 list.now }
+{
+    let mut entries = [0; 9];
+    entries[..list.len()].copy_from_slice(list);
+    entries
+}
+
+#[tactic(auto, using(frame::proofs::Windows::window_size, frame::proofs::Times::order_size, frame::proofs::Refused::from_one), unfolding(numbers::specs::Answers::window_answer))]
 #[unsafe(no_mangle)]
 pub extern "C" fn feedback_window(settings: Settings, n: u16) -> WindowAnswer
     ensures { result ≡ window_answer settings n }
 {
-    let refusal = frame::window_refusal(settings, n);
-    if refusal != 0 {
-        return WindowAnswer {
-            refusal,
+    match frame::check_window(settings, n) {
+        Ok(()) => WindowAnswer {
+            refusal: 0,
+            size: frame::size_of(settings.config, n),
+            k: padded(frame::window_of(settings.config, n)),
+            order: padded(frame::order_of(settings.config, n)),
+        },
+        Err(refusal) => WindowAnswer {
+            refusal: refusal.into(),
             size: 0,
             k: [0; 9],
             order: [0; 9],
-        };
-    }
-    let w = frame::window_of(settings.config, n);
-    let k = w.k;
-    let order = w.order;
-    WindowAnswer {
-        refusal: 0,
-        size: w.size,
-        k,
-        order,
+        },
     }
 }
 
 #[unsafe(no_mangle)]
-pub extern "C" fn feedback_answered(settings: Settings, subframe: u16) -> Answered
-    ensures { result ≡ answered_of settings subframe }
+pub extern "C" fn feedback_answered(settings: Settings, subframe: u16) -> AnsweredAnswer
+    ensures { result ≡ answered_answer (answered_of settings subframe) }
 {
-    frame::answered_of(settings, subframe)
+    frame::answered_of(settings, subframe).into()
 }
 
 #[unsafe(no_mangle)]
@@ -84,14 +89,14 @@ pub extern "C" fn feedback_resource(
 ) -> ResourceAnswer
     ensures { result ≡ resource_answer (ports_of settings n position cce) }
 {
-    numbers::resource_numbers(resource::ports_of(settings, n, position, Cce::new(cce)))
+    resource::ports_of(settings, n, position, Cce::new(cce)).into()
 }
 
 #[unsafe(no_mangle)]
 pub extern "C" fn feedback_inverse(settings: Settings, n: u16, resource: u16) -> InverseAnswer
     ensures { result ≡ inverse_answer (inverse_of settings n resource) }
 {
-    numbers::inverse_numbers(resource::inverse_of(settings, n, Resource::new(resource)))
+    resource::inverse_of(settings, n, Resource::new(resource)).into()
 }
 
 // `position` is that of the scheduled block that was sent in the window, 65535 where none was.
@@ -107,7 +112,7 @@ pub extern "C" fn feedback_reading(
     ensures { result ≡ reading_answer (read_of settings n (told_position position) resource b0 b1) }
 {
     let told = numbers::told_position(position);
-    numbers::reading_numbers(station::read(settings, n, told, Resource::new(resource), b0, b1))
+    station::read(settings, n, told, Resource::new(resource), b0, b1).into()
 }
 
 #[unsafe(no_mangle)]
@@ -118,10 +123,10 @@ pub extern "C" fn feedback_confirmed(
     resource: u16,
     b0: u16,
     b1: u16,
-) -> Confirmed
-    ensures { result ≡ confirmed_of settings n sent resource b0 b1 }
+) -> ConfirmedAnswer
+    ensures { result ≡ confirmed_answer (confirmed_of settings n sent resource b0 b1) }
 {
-    confirming::confirm(settings, n, sent, Resource::new(resource), b0, b1)
+    confirming::confirm(settings, n, &sent, Resource::new(resource), b0, b1).into()
 }
 
 #[unsafe(no_mangle)]
@@ -139,11 +144,13 @@ pub extern "C" fn feedback_credit(
     resource: u16,
     b0: u16,
     b1: u16,
-    account: Account,
-) -> Credited
-    ensures { result ≡ credit_of settings n sent resource b0 b1 account }
+    mut account: Account,
+) -> CreditAnswer
+    ensures { result ≡ credit_answer (credit_of settings n sent resource b0 b1 account) }
 {
-    credit::credit(settings, n, sent, Resource::new(resource), b0, b1, account)
+    let r = Resource::new(resource);
+    let credited = credit::credit(settings, n, &sent, r, b0, b1, &mut account);
+    (credited, account).into()
 }
 
 #[unsafe(no_mangle)]
@@ -156,7 +163,7 @@ pub extern "C" fn feedback_claims(
     ensures value { result ≡ claims_answer (checked_of settings n claims.now (length scratch.old)) }
     ensures scratch_after { scratch.new ≡ scratch_of settings n claims.now scratch.old }
 {
-    numbers::claims_numbers(claims::claims_of(settings, n, claims, scratch))
+    claims::claims_of(settings, n, claims, scratch).into()
 }
 
 #[unsafe(no_mangle)]
@@ -169,36 +176,46 @@ pub extern "C" fn feedback_claims_bits(
     ensures value { result ≡ claims_answer (bit_checked_of settings n claims.now (length scratch.old)) }
     ensures scratch_after { scratch.new ≡ bit_scratch_of settings n claims.now scratch.old }
 {
-    numbers::claims_numbers(claims::claims_in_bits(settings, n, claims, scratch))
+    claims::claims_in_bits(settings, n, claims, scratch).into()
 }
 
 #[unsafe(no_mangle)]
-pub extern "C" fn feedback_make(settings: Settings) -> Made
-    ensures { result ≡ make_of settings }
+pub extern "C" fn feedback_make(settings: Settings) -> MadeAnswer
+    ensures { result ≡ made_answer (make_of settings) }
 {
-    handset::make(settings)
+    Handset::new(settings).into()
 }
 
 #[unsafe(no_mangle)]
-pub extern "C" fn feedback_change_mode(handset: Handset, mode: u16) -> Changed
-    ensures { result ≡ change_of handset mode }
+pub extern "C" fn feedback_change_mode(mut handset: Handset, mode: u16) -> ChangedAnswer
+    ensures { result ≡ changed_answer (change_of handset mode) }
 {
-    handset::change_mode(handset, mode)
+    let changed = handset.change_mode(mode);
+    (changed, handset).into()
+}
+
+// The feed of a handset that is lent by value, as all feeds of a C caller are.
+fn fed(mut handset: Handset, x: Heard) -> FedAnswer
+    ensures { result ≡ fed_answer (feed_of handset x) }
+{
+    let answer = handset.feed(x);
+    (answer, handset).into()
 }
 
 #[unsafe(no_mangle)]
 pub extern "C" fn feedback_feed_nothing(handset: Handset) -> FedAnswer
     ensures { result ≡ fed_answer (feed_of handset Nothing) }
 {
-    numbers::fed_numbers(handset::feed(handset, Heard::Nothing))
+    fed(handset, Heard::Nothing)
 }
 
 // Only a feed of nothing can be silent: 9 refuses all else in an uplink subframe.
 #[unsafe(no_mangle)]
-pub extern "C" fn feedback_silence(handset: Handset) -> SilenceAnswer
+pub extern "C" fn feedback_silence(mut handset: Handset) -> SilenceAnswer
     ensures { result ≡ silence_answer (explain_of handset Nothing) }
 {
-    numbers::silence_numbers(silence::explain(handset, Heard::Nothing))
+    let explained = silence::explain(&mut handset, Heard::Nothing);
+    (explained, handset).into()
 }
 
 // A decoded flag is a number: decoded unless it is 0.
@@ -220,7 +237,7 @@ pub extern "C" fn feedback_feed_grant(
         cce: Cce::new(cce),
         dai,
     };
-    numbers::fed_numbers(handset::feed(handset, Heard::Granted(grant)))
+    fed(handset, Heard::Granted(grant))
 }
 
 #[unsafe(no_mangle)]
@@ -237,7 +254,7 @@ pub extern "C" fn feedback_feed_scheduled(
         first: first != 0,
         second: second != 0,
     };
-    numbers::fed_numbers(handset::feed(handset, Heard::Scheduled(block)))
+    fed(handset, Heard::Scheduled(block))
 }
 
 #[unsafe(no_mangle)]
@@ -248,15 +265,15 @@ pub extern "C" fn feedback_feed_release(handset: Handset, cce: u16, dai: u16) ->
         cce: Cce::new(cce),
         dai,
     };
-    numbers::fed_numbers(handset::feed(handset, Heard::Released(release)))
+    fed(handset, Heard::Released(release))
 }
 
 #[unsafe(no_mangle)]
-pub extern "C" fn feedback_replay(trace: &[u8], out: &mut [u8]) -> Replayed
-    ensures value { result ≡ replay_of trace.now (length out.old) }
+pub extern "C" fn feedback_replay(trace: &[u8], out: &mut [u8]) -> ReplayAnswer
+    ensures value { result ≡ replay_answer (replay_of trace.now (length out.old)) }
     ensures out_after { out.new ≡ output_of trace.now out.old }
 {
-    replaying::replay(trace, out)
+    replaying::replay(trace, out).into()
 }
 
 // What a reader of the trace gives whose next record is the one of number `next`.
@@ -264,13 +281,13 @@ pub extern "C" fn feedback_replay(trace: &[u8], out: &mut [u8]) -> Replayed
 pub extern "C" fn feedback_record(trace: &[u8], next: usize) -> RecordAnswer
     ensures { result ≡ record_answer (record_of trace.now next) }
 {
-    numbers::record_numbers(reader::read_at(trace, next))
+    reader::record_at(trace, next).into()
 }
 
 #[unsafe(no_mangle)]
-pub extern "C" fn feedback_trace_write(trace: &[u8], out: &mut [u8]) -> Written
-    ensures value { result ≡ write_of trace.now (length out.old) }
+pub extern "C" fn feedback_trace_write(trace: &[u8], out: &mut [u8]) -> WriteAnswer
+    ensures value { result ≡ write_answer (write_of trace.now (length out.old)) }
     ensures out_after { out.new ≡ spelled_into trace.now out.old }
 {
-    spelling::write(trace, out)
+    spelling::write(trace, out).into()
 }

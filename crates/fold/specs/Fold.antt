@@ -1,10 +1,7 @@
 -- U, V and what else a bundled reply needs of a window: document 01, "The bundled reply"; document 02, U1.
 -- Assumes nothing.
-use Rattle.std.specs.Prelude.{ℕ, ◌+◌, ◌≤◌, true, false, ◌&&◌, List, [], ◌∷◌, ◌≡◌, get_or, length}
-use Rattle.frame.specs.declared.Window.{Window}
-use Rattle.frame.specs.Coded.{coded_window}
+use Rattle.std.specs.Prelude.{ℕ, ◌+◌, true, false, ◌&&◌, List, [], ◌∷◌, get_or}
 use Rattle.frame.specs.Order.{order_of}
-use Rattle.frame.specs.Table.{window_of}
 use Rattle.fold.specs.declared.Seen.{Seen}
 use Rattle.heard.specs.declared.View.{View}
 use Rattle.heard.specs.declared.View.TheVariants.{Unheard, Pdcch, Block}
@@ -46,9 +43,3 @@ seen_from view ks (m ∷ ms) seen = seen_from view ks ms (step_of seen m (view (
 -- The window with the printed K, in time order.
 unfoldable pub seen_of : (ℕ → View) → List ℕ → Seen
 seen_of view ks = seen_from view ks (order_of ks) unseen
-
--- What holds before the j-th position in time order: the window is that of n, and U counts positions before it.
-pub record Before (config n : ℕ) (w : Window) (j : ℕ) (seen : Seen) : Type 0 where
-  pub window : w ≡ coded_window (window_of config n)
-  pub left : j ≤ length (window_of config n)
-  pub counted : seen.u ≤ j

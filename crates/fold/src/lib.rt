@@ -6,13 +6,13 @@ mod window;
 ghost use Rattle.std.specs.Prelude.{◌≡◌, ◌≤◌};
 ghost use Rattle.fold.specs.Fold.{step_of};
 
-use heard::{View, pick};
+use heard::View;
 use resource::Cce;
 pub use window::seen_in;
 
 // What the fold over a window finds: U, V, the position and first CCE of the last heard PDCCH, each block's AND, and whether a
 // scheduled block was heard.
-#[derive(Clone, Copy)]
+#[derive(Clone, Copy, Debug, PartialEq, Eq)]
 pub struct Seen {
     pub u: u16,
     pub v: u16,
@@ -24,39 +24,27 @@ pub struct Seen {
 }
 
 // One subframe more, at position m.
+#[tactic(auto, unfolding(crate::specs::Fold::step_of))]
 fn step(seen: Seen, m: u16, x: View) -> Seen
     requires { seen.u ≤ 9 }
     ensures { result ≡ step_of seen m x }
 {
     match x {
         View::Unheard => seen,
-        View::Pdcch(g) => {
-            let cce = g.cce;
-            let first = pick(seen.first, g.first, false);
-            let second = pick(seen.second, g.second, false);
-            Seen {
-                u: seen.u + 1,
-                v: g.dai,
-                position: m,
-                cce,
-                first,
-                second,
-                scheduled: seen.scheduled,
-            }
-        }
-        View::Block(b) => {
-            let cce = seen.cce;
-            let first = pick(seen.first, b.first, false);
-            let second = pick(seen.second, b.second, false);
-            Seen {
-                u: seen.u,
-                v: seen.v,
-                position: seen.position,
-                cce,
-                first,
-                second,
-                scheduled: true,
-            }
-        }
+        View::Pdcch(g) => Seen {
+            u: seen.u + 1,
+            v: g.dai,
+            position: m,
+            cce: g.cce,
+            first: seen.first && g.first,
+            second: seen.second && g.second,
+            ..seen
+        },
+        View::Block(b) => Seen {
+            first: seen.first && b.first,
+            second: seen.second && b.second,
+            scheduled: true,
+            ..seen
+        },
     }
 }

@@ -1,40 +1,20 @@
-// U and V of a window, found by a loop over its positions in time order (document 01, "The bundled reply"; document 02, U5).
-ghost use Rattle.std.specs.Prelude.{◌≡◌, drop};
-ghost use Rattle.frame.specs.Order.{order_of};
+// U and V of a window, found by a loop over its positions in time order (document 01, "The bundled reply"; document 02, U5, which asks
+// for the loop).
+ghost use Rattle.std.specs.Prelude.{◌≡◌};
 ghost use Rattle.frame.specs.Table.{window_of};
-ghost use Rattle.fold.specs.Fold.{Before, seen_from, seen_of};
+ghost use Rattle.fold.specs.Fold.{seen_of};
 ghost use Rattle.heard.specs.Memory.{view_ago};
 
 use crate::{Seen, step};
-use frame::Window;
 use heard::{Slot, view_in};
 use resource::Cce;
 
-// The positions from the j-th in time order on: one subframe fewer at each turn.
-fn seen_from(past: [Slot; 13], config: u16, n: u16, w: Window, j: u16, seen: Seen) -> Seen
-    requires { Before config n w j seen }
-    ensures { result ≡ seen_from (view_ago past) (window_of config n) (drop j (order_of (window_of config n))) seen }
+// U, V and the rest for the window of subframe n, over what is remembered, the newest slot first.
+#[tactic(auto, using(frame::proofs::Times::order_below, frame::proofs::Times::order_size, frame::proofs::Windows::window_k, frame::proofs::Windows::window_size, crate::proofs::Folding::seen_more, crate::proofs::Folding::seen_all, crate::proofs::Folding::step_counts), unfolding(crate::specs::Fold::seen_of, heard::specs::Memory::view_ago))]
+pub fn seen_in(past: &[Slot; 13], config: u16, n: u16) -> Seen
+    ensures { result ≡ seen_of (view_ago past.now) (window_of config n) }
 {
-    let size = w.size;
-    let order = w.order;
-    let k = w.k;
-    let mut found = seen;
-    let mut i = j;
-    while i < size {
-        let m = order[i as usize];
-        let t = past[(k[m as usize] - 1) as usize];
-        found = step(found, m, view_in(t));
-        i += 1;
-    }
-    found
-}
-
-// U, V and the rest for the window of subframe n, over what is remembered.
-pub fn seen_in(past: [Slot; 13], config: u16, n: u16) -> Seen
-    ensures { result ≡ seen_of (view_ago past) (window_of config n) }
-{
-    let w = frame::window_of(config, n);
-    let unseen = Seen {
+    let mut seen = Seen {
         u: 0,
         v: 0,
         position: 0,
@@ -43,5 +23,10 @@ pub fn seen_in(past: [Slot; 13], config: u16, n: u16) -> Seen
         second: true,
         scheduled: false,
     };
-    seen_from(past, config, n, w, 0, unseen)
+    let ks = frame::window_of(config, n);
+    for &m in frame::order_of(config, n) {
+        let k = ks[m as usize];
+        seen = step(seen, m, view_in(past[k as usize - 1]));
+    }
+    seen
 }

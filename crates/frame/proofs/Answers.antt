@@ -1,20 +1,24 @@
 -- The answer for a downlink subframe: its refusal, and that in an accepted cell it is there and is the only one.
 -- Assumes nothing.
-use Prim.Native.Nat.{ℕ, zero, suc, ◌+◌, ◌≤◌, ◌%◌}
+use Prim.Native.Nat.{ℕ, ◌+◌, ◌<◌, ◌≤◌, ◌%◌}
 use mathlib.Core.Bool.{true, false, cond, false≢true}
 use mathlib.Core.Path.{◌≡◌, refl, sym, ap, ◌∙◌}
 use native.Mathlib.Decide.{dec_lt}
 use native.Mathlib.Omega.{arith}
-use Rattle.frame.specs.declared.Answered.{Answered}
+use Rattle.std.proofs.Common.{Result, Ok, Err}
+use Rattle.frame.specs.declared.refusal.Refusal.{Refusal}
 use Rattle.frame.specs.declared.Settings.{Settings}
 use Rattle.frame.specs.Coded.{coded_position}
-use Rattle.frame.specs.Distance.{distance_of, uplink_of, answered_position, no_downlink_refusal, answered_refusal, answered_as, answered_of, Answers, AnswersAlone, EachAnswered}
+use Rattle.frame.specs.Distance.{distance_of, uplink_of, answered_position, no_downlink_refusal, answered_refusal, answered_of, Answers, AnswersAlone, EachAnswered}
 use Rattle.frame.specs.Layout.{downlink}
 use Rattle.frame.specs.Once.{InWindow, InExactlyOne}
+use Rattle.frame.specs.Refusals.{number_of, refusal_in}
 use Rattle.frame.specs.Settings.{settings_refusal}
 use Rattle.frame.proofs.Accepted.{neither, held}
 use Rattle.frame.proofs.Causes.{refused_next}
+use Rattle.frame.proofs.Distances.{distance_most}
 use Rattle.frame.proofs.Layouts.{outside_frame}
+use Rattle.frame.proofs.Refused.{value_refused}
 use Rattle.frame.proofs.Windows.{inside_downlink, distance_inside, position_window, exactly_one_holds}
 
 -- Accepted settings are refused by 7 exactly where d is not downlink.
@@ -38,16 +42,23 @@ pub downlink_frame : (c d : ℕ) → downlink c d ≡ true → d ≤ 9
 downlink_frame c d e =
     elim (dec_lt 9 d) [ yes over ↦ absurd (false≢true (outside_frame c d over ∙ e)) | no within ↦ omega arith ]
 
--- The code's refusal, and its answer.
-pub refused_as : (r a n k m : ℕ) → r ≡ a → (r ≡ 0 → ⊥)
-    → ◌≡◌ {A = Answered} (record { refusal = r; n = 0; k = 0; position = 0 }) (answered_as a n k m)
-refused_as r zero n k m e h = absurd (h e)
-refused_as r (suc a) n k m e h = rw e
+-- What the code answers: the refusal, or for a downlink subframe its sum, which fits, and its answer.
+module _ (s : Settings) (d : ℕ) {T : Type 0} (asked : Result T Refusal) (told : refusal_in asked ≡ answered_refusal s d) where
+  pub answer_refused : (e : Refusal) → asked ≡ Err e → answered_of s d ≡ Err (number_of e)
+  unfolding answered_of
+  answer_refused e refused = value_refused asked e (answered_refusal s d) _ refused told
 
-pub told_as_holds : (s : Settings) (d n k m : ℕ) → answered_refusal s d ≡ 0 → n ≡ (d + k) % 10 → k ≡ distance_of s.config d
-    → m ≡ coded_position s.config d → ◌≡◌ {A = Answered} (record { refusal = 0; n = n; k = k; position = m }) (answered_of s d)
-unfolding coded_position uplink_of answered_of
-told_as_holds s d n k m none en ek em = rw (none, en, ek, em, answered_downlink s d none)
+  accepted : (x : T) → asked ≡ Ok x → answered_refusal s d ≡ 0
+  accepted x ok = sym told ∙ ap refusal_in ok
+
+  pub answer_small : (x : T) → asked ≡ Ok x → (k : ℕ) → k ≡ distance_of s.config d → d + k < 65536
+  answer_small x ok k e =
+      omega (arith, downlink_frame s.config d (answered_downlink s d (accepted x ok)), distance_most s.config d)
+
+  pub answer_told : (x : T) → asked ≡ Ok x → (k m : ℕ) → k ≡ distance_of s.config d → m ≡ coded_position s.config d
+      → Ok (record { n = (d + k) % 10; k = k; position = m }) ≡ answered_of s d
+  unfolding coded_position uplink_of answered_of
+  answer_told x ok k m ek em = rw (accepted x ok, ek, em, answered_downlink s d (accepted x ok))
 
 -- An answer for d is a position of d in the window of d + k of the run.
 in_run : (c d n k m : ℕ) → Answers c d n k m → InWindow c (d + k) m d
@@ -82,8 +93,7 @@ pub each_answered : (s : Settings) (d : ℕ) → settings_refusal s ≡ 0 → Ea
 unfolding answered_of
 each_answered s d ok =
     record {
-      accepted = λ e. rw (← at_downlink s d 0 (sym ok) refl e);
-      alone = λ e. rw (← at_downlink s d 0 (sym ok) refl e) (alone s.config d e);
+      answered = λ e. (_, rw (← at_downlink s d 0 (sym ok) refl e), alone s.config d e);
       refused = λ e. rw (← at_other s d 0 (sym ok) refl e);
       none = λ within e n k m a.
           let same : d % 10 ≡ d = omega arith in

@@ -12,9 +12,8 @@ pub mod Layouts
 pub mod Lists
 pub mod OnePort
 pub mod Orders
-pub mod Padded
 pub mod Ports
-pub mod Read
+pub mod Refused
 pub mod Shares
 pub mod Times
 pub mod Windows

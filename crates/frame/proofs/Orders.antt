@@ -7,8 +7,6 @@ use mathlib.Core.Path.{◌≡◌, refl, ap₂}
 use lib.Dec.{T, eqb, eqb→eq}
 use lib.Ieee.Fits.{and_l, and_r}
 use lib.ListN.{length}
-use Rattle.frame.specs.Coded.{padded, coded_order}
-use Rattle.frame.specs.declared.table.Order.{Order}
 use Rattle.frame.specs.Order.{order_of}
 use Rattle.frame.specs.Table.{table, window_of}
 use Rattle.frame.proofs.Windows.{every_row, window_passes}
@@ -28,14 +26,11 @@ same_lists (x ∷ xs) (y ∷ ys) t =
 
 -- the arm's numbers are the order of every row for which it stands, by its M, configuration and n
 abbrev Fits : (ℕ → ℕ → ℕ → Bool) → List ℕ → ℕ → ℕ → List ℕ → Bool
-Fits arm order c n ks = not (arm (length ks) c n) || same order (padded 9 (order_of ks))
-
-made : {xs ys : List ℕ} → xs ≡ ys → ◌≡◌ {A = Order} (record { 0 = xs }) (record { 0 = ys })
-made e = rw e
+Fits arm order c n ks = not (arm (length ks) c n) || same order (order_of ks)
 
 pub ordered : (arm : ℕ → ℕ → ℕ → Bool) (order : List ℕ) → T (every_row (Fits arm order) table) → (size c n : ℕ)
     → T (Fits arm order c n []) → size ≡ length (window_of c n) → arm size c n ≡ true
-    → ◌≡◌ {A = Order} (record { 0 = order }) (coded_order (window_of c n))
+    → order ≡ order_of (window_of c n)
 ordered arm order t size c n e read taken =
     let t = window_passes (Fits arm order) t c n e in
-    made (same_lists _ _ (rw (← read, taken) at t))
+    same_lists _ _ (rw (← read, taken) at t)

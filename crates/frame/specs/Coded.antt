@@ -1,33 +1,10 @@
--- The code's form of the tables: a list of at most nine numbers stands in an array of nine, with zeros after it, and ten numbers
--- below 16 stand in one number, as its hexadecimal digits.
+-- The code's form of the tables with ten numbers below 16, one for each subframe: one number, which has them as its hexadecimal digits.
 -- Assumes nothing.
-use Rattle.std.specs.Prelude.{ℕ, zero, suc, ◌+◌, ◌*◌, ◌/◌, ◌%◌, ◌^◌, cond, List, [], ◌∷◌, length}
-use Rattle.frame.specs.declared.Window.{Window}
-use Rattle.frame.specs.declared.table.Order.{Order}
-use Rattle.frame.specs.declared.table.Row.{Row}
+use Rattle.std.specs.Prelude.{ℕ, zero, suc, ◌+◌, ◌*◌, ◌/◌, ◌%◌, ◌^◌, cond, length}
 use Rattle.frame.specs.Distance.{distance_of, answered_position}
 use Rattle.frame.specs.Earliest.{earliest_k}
 use Rattle.frame.specs.Layout.{Letter, D, S, U, letter_of, downlink}
-use Rattle.frame.specs.Order.{order_of}
 use Rattle.frame.specs.Table.{window_of}
-
--- the first n numbers, zeros where the list has ended
-abbrev pub padded : ℕ → List ℕ → List ℕ
-padded zero l = []
-padded (suc n) [] = 0 ∷ padded n []
-padded (suc n) (x ∷ xs) = x ∷ padded n xs
-
--- M and K of a window
-abbrev pub coded_k : List ℕ → Row
-coded_k ks = record { 0 = length ks; 1 = padded 9 ks }
-
--- the time order of a window
-abbrev pub coded_order : List ℕ → Order
-coded_order ks = record { 0 = padded 9 (order_of ks) }
-
--- M, K and the time order of a window
-abbrev pub coded_window : List ℕ → Window
-coded_window ks = record { size = length ks; k = padded 9 ks; order = padded 9 (order_of ks) }
 
 -- the number with the n digits f 0, f 1, .., f (n - 1), the first one lowest
 abbrev pub digits : ℕ → (ℕ → ℕ) → ℕ

@@ -1,12 +1,13 @@
 -- Which uplink subframe answers for a downlink subframe d: document 01, "Frame and windows", read the other way round. Subframe d is
 -- k before n, and K of n has that k.
 -- Assumes nothing.
-use Rattle.std.specs.Prelude.{ℕ, zero, suc, ◌+◌, ◌-◌, ◌*◌, ◌<◌, ◌≤◌, ◌%◌, Bool, true, false, cond, ◌↔◌, ◌≡◌, eqb, length, get_or}
+use Rattle.std.specs.Prelude.{ℕ, zero, suc, ◌+◌, ◌-◌, ◌*◌, ◌<◌, ◌≤◌, ◌%◌, Bool, true, false, cond, ◌↔◌, ◌≡◌, eqb, length, get_or, Result, Ok, Err}
 use Rattle.frame.specs.declared.Answered.{Answered}
 use Rattle.frame.specs.declared.Settings.{Settings}
 use Rattle.frame.specs.Layout.{downlink}
 use Rattle.frame.specs.Once.{InWindow}
 use Rattle.frame.specs.Order.{member, position_of}
+use Rattle.frame.specs.Refusals.{unless_refused}
 use Rattle.frame.specs.Settings.{or_else, settings_refusal}
 use Rattle.frame.specs.Table.{window_of}
 
@@ -56,15 +57,11 @@ no_downlink_refusal c d = cond (downlink c d) 0 7
 unfoldable pub answered_refusal : Settings → ℕ → ℕ
 answered_refusal s d = or_else (settings_refusal s) (no_downlink_refusal s.config d)
 
--- A refusal, with zeros beside it, or where it is 0 the values.
-abbrev pub answered_as : ℕ → ℕ → ℕ → ℕ → Answered
-answered_as zero n k m = record { refusal = 0; n = n; k = k; position = m }
-answered_as (suc r) n k m = record { refusal = suc r; n = 0; k = 0; position = 0 }
-
 -- The answer for downlink subframe d: n, k and the position of d in the window of n.
-unfoldable pub answered_of : Settings → ℕ → Answered
+unfoldable pub answered_of : Settings → ℕ → Result Answered ℕ
 answered_of s d =
-    answered_as (answered_refusal s d) (uplink_of s.config d) (distance_of s.config d) (answered_position s.config d)
+    unless_refused (answered_refusal s d)
+    (record { n = uplink_of s.config d; k = distance_of s.config d; position = answered_position s.config d })
 
 -- What it is to answer for d: n is k after d, and k stands at position m of n's window.
 pub record Answers (c d n k m : ℕ) : Type 0 where
@@ -80,8 +77,6 @@ pub record AnswersAlone (c d n k m : ℕ) : Type 0 where
 -- In an accepted cell a downlink subframe is answered, by the numbers of the call and no others. Any other subframe is refused 7, and
 -- none of the frame's ten that is not downlink is answered by any numbers.
 pub record EachAnswered (s : Settings) (d : ℕ) : Type 0 where
-  pub accepted : downlink s.config d ≡ true → (answered_of s d).refusal ≡ 0
-  pub alone : downlink s.config d ≡ true
-      → AnswersAlone s.config d (answered_of s d).n (answered_of s d).k (answered_of s d).position
-  pub refused : downlink s.config d ≡ false → (answered_of s d).refusal ≡ 7
+  pub answered : downlink s.config d ≡ true → (a : Answered) × (answered_of s d ≡ Ok a) × AnswersAlone s.config d a.n a.k a.position
+  pub refused : downlink s.config d ≡ false → answered_of s d ≡ Err 7
   pub none : d ≤ 9 → downlink s.config d ≡ false → (n k m : ℕ) → Answers s.config d n k m → ⊥

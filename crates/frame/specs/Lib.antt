@@ -4,6 +4,7 @@ pub mod Earliest
 pub mod Layout
 pub mod Once
 pub mod Order
+pub mod Refusals
 pub mod Settings
 pub mod Special
 pub mod Table

@@ -1,45 +1,36 @@
 // The answer for one downlink subframe: Table 10.1-1 read the other way round.
 ghost use Rattle.std.specs.Prelude.{◌≡◌};
 ghost use Rattle.frame.specs.Distance.{answered_refusal, answered_of, shares};
+ghost use Rattle.frame.specs.Refusals.{refusal_in, numbered};
 
-use crate::refusals::settings_refusal;
+use crate::refusals::check_settings;
 use crate::table::{distance_of, is_downlink, position_of};
-use crate::{Answered, Settings};
+use crate::{Answered, Refusal, Settings};
 
-// The first of refusals 1 to 6, 17, 19 and 24 that the settings meet, then 7 for a subframe d that is not downlink; 0 if d has an answer.
-fn answered_refusal(s: Settings, d: u16) -> u16
-    ensures { result ≡ answered_refusal s d }
+// The first of refusals 1 to 6, 17, 19 and 24 that the settings meet, then 7 for a subframe d that is not downlink.
+#[tactic(auto, using(crate::proofs::Refused::first_refused, crate::proofs::Refused::first_accepted), unfolding(crate::specs::Distance::answered_refusal, crate::specs::Distance::no_downlink_refusal))]
+fn check_downlink(s: Settings, d: u16) -> Result<(), Refusal>
+    ensures { refusal_in result ≡ answered_refusal s d }
 {
-    let k = settings_refusal(s);
-    if k != 0 {
-        return k;
+    check_settings(s)?;
+    if !is_downlink(s.config, d) {
+        return Err(Refusal::Subframe);
     }
-    if is_downlink(s.config, d) {
-        return 0;
-    }
-    7
+    Ok(())
 }
 
 // The uplink subframe that answers for subframe d, how far it is from d, and d's position in its window.
-pub fn answered_of(s: Settings, d: u16) -> Answered
-    ensures { result ≡ answered_of s d }
+#[tactic(auto, using(crate::proofs::Answers::answer_refused, crate::proofs::Answers::answer_told, crate::proofs::Answers::answer_small))]
+pub fn answered_of(s: Settings, d: u16) -> Result<Answered, Refusal>
+    ensures { numbered result ≡ answered_of s d }
 {
-    let refusal = answered_refusal(s, d);
-    if refusal != 0 {
-        return Answered {
-            refusal,
-            n: 0,
-            k: 0,
-            position: 0,
-        };
-    }
+    check_downlink(s, d)?;
     let k = distance_of(s.config, d);
-    Answered {
-        refusal: 0,
+    Ok(Answered {
         n: (d + k) % 10,
         k,
         position: position_of(s.config, d),
-    }
+    })
 }
 
 // The subframe a before n is answered in the same uplink subframe as n.

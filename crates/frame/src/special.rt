@@ -1,26 +1,28 @@
 // Special subframes too short for data (document 02, U2; TS 36.213, section 7.1.7).
 ghost use Rattle.std.specs.Prelude.{◌≡◌};
 ghost use Rattle.frame.specs.Distance.{subframe_of};
+ghost use Rattle.frame.specs.Refusals.{refusal_in};
 ghost use Rattle.frame.specs.Special.{special_refusal, no_pdsch, too_short};
 
-use crate::Settings;
 use crate::table::{is_special, window_of};
+use crate::{Refusal, Settings};
 
 // The prefix and the special configuration: 19. The last special configuration is 8 with the normal prefix, 6 with the extended one.
 #[tactic(auto, unfolding(crate::specs::Special::special_refusal, crate::specs::Special::last_special))]
-pub fn special_refusal(s: Settings) -> u16
-    ensures { result ≡ special_refusal s }
+pub fn check_special(s: Settings) -> Result<(), Refusal>
+    ensures { refusal_in result ≡ special_refusal s }
 {
     if 1 < s.prefix {
-        return 19;
+        return Err(Refusal::Special);
     }
     if 8 - 2 * s.prefix < s.special {
-        return 19;
+        return Err(Refusal::Special);
     }
-    0
+    Ok(())
 }
 
 // The special configuration allows no PDSCH: 0 and 5 with the normal prefix, 0 and 4 with the extended one.
+#[tactic(auto, unfolding(crate::specs::Special::no_pdsch))]
 fn no_pdsch(prefix: u16, special: u16) -> bool
     ensures { result ≡ no_pdsch prefix special }
 {
@@ -30,6 +32,7 @@ fn no_pdsch(prefix: u16, special: u16) -> bool
 }
 
 // Subframe n is special and too short for data: a release can be sent there, a grant or a scheduled block can't.
+#[tactic(auto, unfolding(crate::specs::Special::too_short))]
 pub fn is_too_short(s: Settings, n: u16) -> bool
     ensures { result ≡ too_short s n }
 {
@@ -40,20 +43,16 @@ pub fn is_too_short(s: Settings, n: u16) -> bool
 fn subframe_of(config: u16, n: u16, m: u16) -> u16
     ensures { result ≡ subframe_of config n m }
 {
-    let first = n % 10;
-    if 8 < m {
-        return first;
+    match window_of(config, n).get(m as usize) {
+        Some(&k) => (n % 10 + 9 * k) % 10,
+        None => n % 10,
     }
-    let w = window_of(config, n);
-    (first + 9 * w.k[m as usize]) % 10
 }
 
 // The subframe at position m of the window of n is too short for data. The window is looked up only where some subframe is.
+#[tactic(auto, unfolding(crate::specs::Special::too_short))]
 pub fn position_too_short(s: Settings, n: u16, m: u16) -> bool
     ensures { result ≡ too_short s (subframe_of s.config n m) }
 {
-    if no_pdsch(s.prefix, s.special) {
-        return is_special(s.config, subframe_of(s.config, n, m));
-    }
-    false
+    no_pdsch(s.prefix, s.special) && is_special(s.config, subframe_of(s.config, n, m))
 }

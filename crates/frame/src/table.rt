@@ -1,26 +1,18 @@
 // The frame layouts and Table 10.1-1 (document 01, "Frame and windows"), one row of source for each row of the print.
 ghost use Rattle.std.specs.Prelude.{◌≡◌, length};
-ghost use Rattle.frame.specs.Coded.{layout_digits, size_digits, earliest_digits, distance_digits, position_digits, coded_position, coded_k, coded_order, coded_window};
+ghost use Rattle.frame.specs.Coded.{layout_digits, size_digits, earliest_digits, distance_digits, position_digits, coded_position};
 ghost use Rattle.frame.specs.Distance.{distance_of};
 ghost use Rattle.frame.specs.Earliest.{earliest_k};
 ghost use Rattle.frame.specs.Layout.{downlink, is_special};
+ghost use Rattle.frame.specs.Order.{order_of};
 ghost use Rattle.frame.specs.Table.{window_of};
 
-use crate::Window;
 use crate::digits::{digit_at, packed};
 
 // The digits of the letters S and U.
 const SPECIAL: u16 = 3;
 
 const UPLINK: u16 = 5;
-
-// A row of Table 10.1-1: M, then K in the print's order.
-#[derive(Clone, Copy)]
-struct Row(u16, [u16; 9]);
-
-// The positions of a row's K.
-#[derive(Clone, Copy)]
-struct Order([u16; 9]);
 
 // Subframes 0 to 9 of a configuration: D downlink, S special, U uplink.
 fn layout_of(config: u16) -> u64
@@ -38,58 +30,60 @@ fn layout_of(config: u16) -> u64
     }
 }
 
-// The row of configuration and uplink subframe n; zeros where the table has none.
-fn row_of(config: u16, n: u16) -> Row
-    ensures { result ≡ coded_k (window_of config n) }
+// The window of subframe n: K in the print's order, so that M is its length. Empty where there is none, outside the table too.
+pub fn window_of(config: u16, n: u16) -> &'static [u16]
+    ensures { result.now ≡ window_of config n }
 {
     match config {
         0 => match n {
-            2 => Row(1, [6, 0, 0, 0, 0, 0, 0, 0, 0]),
-            4 => Row(1, [4, 0, 0, 0, 0, 0, 0, 0, 0]),
-            7 => Row(1, [6, 0, 0, 0, 0, 0, 0, 0, 0]),
-            9 => Row(1, [4, 0, 0, 0, 0, 0, 0, 0, 0]),
-            _ => Row(0, [0; 9]),
+            2 => &[6],
+            4 => &[4],
+            7 => &[6],
+            9 => &[4],
+            _ => &[],
         },
         1 => match n {
-            2 => Row(2, [7, 6, 0, 0, 0, 0, 0, 0, 0]),
-            3 => Row(1, [4, 0, 0, 0, 0, 0, 0, 0, 0]),
-            7 => Row(2, [7, 6, 0, 0, 0, 0, 0, 0, 0]),
-            8 => Row(1, [4, 0, 0, 0, 0, 0, 0, 0, 0]),
-            _ => Row(0, [0; 9]),
+            2 => &[7, 6],
+            3 => &[4],
+            7 => &[7, 6],
+            8 => &[4],
+            _ => &[],
         },
         2 => match n {
-            2 => Row(4, [8, 7, 4, 6, 0, 0, 0, 0, 0]),
-            7 => Row(4, [8, 7, 4, 6, 0, 0, 0, 0, 0]),
-            _ => Row(0, [0; 9]),
+            2 => &[8, 7, 4, 6],
+            7 => &[8, 7, 4, 6],
+            _ => &[],
         },
         3 => match n {
-            2 => Row(3, [7, 6, 11, 0, 0, 0, 0, 0, 0]),
-            3 => Row(2, [6, 5, 0, 0, 0, 0, 0, 0, 0]),
-            4 => Row(2, [5, 4, 0, 0, 0, 0, 0, 0, 0]),
-            _ => Row(0, [0; 9]),
+            2 => &[7, 6, 11],
+            3 => &[6, 5],
+            4 => &[5, 4],
+            _ => &[],
         },
         4 => match n {
-            2 => Row(4, [12, 8, 7, 11, 0, 0, 0, 0, 0]),
-            3 => Row(4, [6, 5, 4, 7, 0, 0, 0, 0, 0]),
-            _ => Row(0, [0; 9]),
+            2 => &[12, 8, 7, 11],
+            3 => &[6, 5, 4, 7],
+            _ => &[],
         },
         5 => match n {
-            2 => Row(9, [13, 12, 9, 8, 7, 5, 4, 11, 6]),
-            _ => Row(0, [0; 9]),
+            2 => &[13, 12, 9, 8, 7, 5, 4, 11, 6],
+            _ => &[],
         },
         6 => match n {
-            2 => Row(1, [7, 0, 0, 0, 0, 0, 0, 0, 0]),
-            3 => Row(1, [7, 0, 0, 0, 0, 0, 0, 0, 0]),
-            4 => Row(1, [5, 0, 0, 0, 0, 0, 0, 0, 0]),
-            7 => Row(1, [7, 0, 0, 0, 0, 0, 0, 0, 0]),
-            8 => Row(1, [7, 0, 0, 0, 0, 0, 0, 0, 0]),
-            _ => Row(0, [0; 9]),
+            2 => &[7],
+            3 => &[7],
+            4 => &[5],
+            7 => &[7],
+            8 => &[7],
+            _ => &[],
         },
-        _ => Row(0, [0; 9]),
+        _ => &[],
     }
 }
 
-// Derived from the rows: M of subframes 9 to 0 of a configuration, a digit each; 0 where there is no window.
+// Derived from the rows: M of subframes 9 to 0 of a configuration, a digit each; 0 where there is no window. The four tables of digits
+// stand beside the rows for speed: M as the length of the row was tried, and takes 10 ns where a digit takes 2. They are proved equal to
+// what the rows say. Each lookup of a digit says itself what it answers outside a frame.
 fn sizes_of(config: u16) -> u64
     ensures { result ≡ size_digits config }
 {
@@ -154,23 +148,23 @@ fn positions_of(config: u16) -> u64
     }
 }
 
-// Derived from the rows: the positions with k falling, that is the window in time order.
-fn order_of(size: u16, config: u16, n: u16) -> Order
-    requires { size ≡ length (window_of config n) }
-    ensures { result ≡ coded_order (window_of config n) }
+// Derived from the rows: the positions of the window of subframe n with k falling, that is in time order.
+pub fn order_of(config: u16, n: u16) -> &'static [u16]
+    ensures { result.now ≡ order_of (window_of config n) }
 {
-    match size {
-        2 => Order([0, 1, 0, 0, 0, 0, 0, 0, 0]),
-        3 => Order([2, 0, 1, 0, 0, 0, 0, 0, 0]),
+    match size_of(config, n) {
+        1 => &[0],
+        2 => &[0, 1],
+        3 => &[2, 0, 1],
         4 => match config {
-            2 => Order([0, 1, 3, 2, 0, 0, 0, 0, 0]),
+            2 => &[0, 1, 3, 2],
             _ => match n {
-                2 => Order([0, 3, 1, 2, 0, 0, 0, 0, 0]),
-                _ => Order([3, 0, 1, 2, 0, 0, 0, 0, 0]),
+                2 => &[0, 3, 1, 2],
+                _ => &[3, 0, 1, 2],
             },
         },
-        9 => Order([0, 1, 7, 2, 3, 4, 8, 5, 6]),
-        _ => Order([0; 9]),
+        9 => &[0, 1, 7, 2, 3, 4, 8, 5, 6],
+        _ => &[],
     }
 }
 
@@ -229,19 +223,4 @@ pub fn position_of(config: u16, d: u16) -> u16
         return 0;
     }
     digit_at(positions_of(config), d)
-}
-
-// The window of subframe n; its size is 0 where there is none, outside the table too.
-pub fn window_of(config: u16, n: u16) -> Window
-    ensures { result ≡ coded_window (window_of config n) }
-{
-    let r = row_of(config, n);
-    let o = order_of(r.0, config, n);
-    let k = r.1;
-    let order = o.0;
-    Window {
-        size: r.0,
-        k,
-        order,
-    }
 }

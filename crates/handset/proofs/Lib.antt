@@ -1,5 +1,6 @@
 pub mod ModeBits
 pub mod Passing
+pub mod Pushed
 pub mod Refused
 pub mod Remembered
 pub mod Scheduled

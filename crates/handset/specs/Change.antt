@@ -2,7 +2,6 @@
 -- Assumes nothing.
 use Rattle.std.specs.Prelude.{ℕ, zero, suc}
 use Rattle.frame.specs.Settings.{or_else, new_mode_refusal, in_mode}
-use Rattle.handset.specs.declared.Changed.{Changed}
 use Rattle.handset.specs.declared.Handset.{Handset}
 use Rattle.handset.specs.Sound.{state_refusal}
 
@@ -14,6 +13,11 @@ change_refusal h mode = or_else (new_mode_refusal (in_mode h.settings mode)) (st
 -- The new mode stands from now on. Nothing else moves: the modes of the subframes that were fed before stay too.
 abbrev pub in_new_mode : Handset → ℕ → Handset
 in_new_mode h mode = record { settings = in_mode h.settings mode; next = h.next; modes = h.modes; past = h.past }
+
+-- What a change gives: the refusal, 0 for none, and the handset.
+pub record Changed : Type 0 where
+  pub refusal : ℕ
+  pub handset : Handset
 
 -- A refusal leaves the handset as it was.
 abbrev pub changed_as : ℕ → Handset → ℕ → Changed

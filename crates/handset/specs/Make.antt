@@ -1,12 +1,13 @@
 -- Making a handset: document 01, "The running handset".
 -- Assumes nothing.
-use Rattle.std.specs.Prelude.{ℕ, zero, suc, cond, List, [], ◌∷◌, eqb, get_or}
+use Rattle.std.specs.Prelude.{ℕ, zero, suc, cond, List, [], ◌∷◌, eqb, get_or, Result, Ok, Err}
 use Rattle.frame.specs.declared.Settings.{Settings}
+use Rattle.frame.specs.declared.refusal.Refusal.{Refusal}
+use Rattle.frame.specs.Refusals.{number_of}
 use Rattle.frame.specs.Settings.{settings_refusal}
 use Rattle.heard.specs.declared.Slot.{Slot}
 use Rattle.heard.specs.Memory.{none}
 use Rattle.handset.specs.declared.Handset.{Handset}
-use Rattle.handset.specs.declared.Made.{Made}
 use Rattle.handset.specs.Modes.{modes_before}
 
 -- The slots i, i + 1, .., `count` of them; nothing heard where the list has ended.
@@ -26,6 +27,16 @@ fresh s = record { settings = s; next = 0; modes = modes_before s.mode; past = m
 -- (proofs/Refused.antt).
 abbrev pub no_settings : Settings
 no_settings = record { config = 0; nrb = 0; n1 = 0; mode = 0; blocks = 0; scheduled = 0; prefix = 0; special = 0; ports = 0 }
+
+-- What is made: the refusal, 0 for none, and beside a refusal a handset that every feed refuses.
+pub record Made : Type 0 where
+  pub refusal : ℕ
+  pub handset : Handset
+
+-- What a result of the code says was made.
+abbrev pub made_as : Result Handset Refusal → Made
+made_as (Ok h) = record { refusal = 0; handset = h }
+made_as (Err r) = record { refusal = number_of r; handset = fresh no_settings }
 
 -- Making: 1 to 6, 17, 19 and 24, else a fresh handset.
 unfoldable pub make_of : Settings → Made

@@ -1,35 +1,29 @@
 // Changing the mode of a handset between feeds (document 02, U8; refusals 4, 5 and 8; U9, 24).
 ghost use Rattle.std.specs.Prelude.{◌≡◌};
+ghost use Rattle.frame.specs.Refusals.{refusal_in};
 ghost use Rattle.handset.specs.Change.{change_refusal, change_of};
 
-use crate::state::state_refusal;
-use crate::{Changed, Handset};
+use crate::Handset;
+use frame::Refusal;
 
-// 4, 5 and 24 for the new mode with the handset's other settings, then 8; 0 if the change is not refused.
-#[tactic(auto, using(frame::proofs::Causes::refused_first, frame::proofs::Causes::refused_next), unfolding(crate::specs::Change::change_refusal))]
-fn change_refusal(h: Handset, mode: u16) -> u16
-    ensures { result ≡ change_refusal h mode }
-{
-    let s = h.settings;
-    let new = frame::new_mode_refusal(frame::in_mode(s, mode));
-    if new != 0 {
-        return new;
+impl Handset {
+    // 4, 5 and 24 for the new mode with the handset's other settings, then 8.
+    #[tactic(auto, using(frame::proofs::Refused::first_refused, frame::proofs::Refused::first_accepted), unfolding(crate::specs::Change::change_refusal))]
+    fn check_change(&self, mode: u16) -> Result<(), Refusal>
+        ensures { refusal_in result ≡ change_refusal self.now mode }
+    {
+        frame::check_new_mode(frame::in_mode(self.settings, mode))?;
+        self.check_state()
     }
-    state_refusal(h)
-}
 
-// The handset in the new mode, with all that it remembers, or the refusal with the handset as it was.
-pub fn change_mode(h: Handset, mode: u16) -> Changed
-    ensures { result ≡ change_of h mode }
-{
-    let refusal = change_refusal(h, mode);
-    if refusal != 0 {
-        return Changed {
-            refusal,
-            handset: h,
-        };
+    // The new mode stands from now on, with all that is remembered; a refusal leaves the handset as it was.
+    #[tactic(auto, using(frame::proofs::Refused::from_one), unfolding(crate::specs::Change::change_of))]
+    pub fn change_mode(&mut self, mode: u16) -> Result<(), Refusal>
+        ensures refusal { refusal_in result ≡ (change_of self.old mode).refusal }
+        ensures after { self.new ≡ (change_of self.old mode).handset }
+    {
+        self.check_change(mode)?;
+        self.settings = frame::in_mode(self.settings, mode);
+        Ok(())
     }
-    let mut handset = h;
-    handset.settings = frame::in_mode(h.settings, mode);
-    Changed { refusal, handset }
 }

@@ -8,15 +8,11 @@ mod making;
 mod modes;
 mod state;
 
-pub use changing::change_mode;
-pub use feeding::feed;
 use frame::Settings;
 use heard::Slot;
-pub use making::make;
-use reply::Answer;
 
 // The handset's state, 74 bytes: its settings, the subframe it expects, and for the last 13 subframes, newest first, the mode that
-// stood when each was fed, a bit each from the lowest on, and what it heard.
+// stood when each was fed, a bit each from the lowest on, and what it heard. A C caller lends it, and may have written any numbers.
 #[repr(C)]
 #[derive(Clone, Copy)]
 pub struct Handset {
@@ -24,27 +20,4 @@ pub struct Handset {
     pub next: u16,
     pub modes: u16,
     pub past: [Slot; 13],
-}
-
-// A handset that was made, or the refusal, 0 for none, with a handset that every feed refuses.
-#[repr(C)]
-#[derive(Clone, Copy)]
-pub struct Made {
-    pub refusal: u16,
-    pub handset: Handset,
-}
-
-// The handset after a change of mode, or the refusal, 0 for none, with the handset as it was.
-#[repr(C)]
-#[derive(Clone, Copy)]
-pub struct Changed {
-    pub refusal: u16,
-    pub handset: Handset,
-}
-
-// The answer to a feed, and the handset after it.
-#[derive(Clone, Copy)]
-pub struct Fed {
-    pub answer: Answer,
-    pub handset: Handset,
 }

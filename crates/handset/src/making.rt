@@ -1,40 +1,40 @@
 // Making a handset from settings (document 01, "The running handset"; refusals 1 to 6, 17, 19 and 24).
 ghost use Rattle.std.specs.Prelude.{◌≡◌};
-ghost use Rattle.handset.specs.Make.{fresh, make_of};
+ghost use Rattle.handset.specs.Make.{no_settings, fresh, made_as, make_of};
 
+use crate::Handset;
 use crate::modes::modes_before;
-use crate::{Handset, Made};
-use frame::Settings;
+use frame::{Refusal, Settings};
 use heard::Slot;
 
 // A handset that expects subframe 0 and remembers nothing heard, in the mode that it is made with.
-fn fresh_of(settings: Settings) -> Handset
+#[tactic(auto, unfolding(crate::specs::Make::fresh))]
+fn fresh(settings: Settings) -> Handset
     ensures { result ≡ fresh settings }
 {
-    let none = Slot {
-        kind: 0,
-        cce: 0,
-        dai: 0,
-        results: 0,
-    };
-    let past = [none; 13];
-    let modes = modes_before(settings.mode);
     Handset {
         settings,
         next: 0,
-        modes,
-        past,
+        modes: modes_before(settings.mode),
+        past: [Slot::NOTHING; 13],
     }
 }
 
-// A fresh handset, or the first of refusals 1 to 6, 17, 19 and 24 that the settings meet, with a handset that every feed refuses.
-#[tactic(auto, unfolding(crate::specs::Make::make_of))]
-pub fn make(s: Settings) -> Made
-    ensures { result ≡ make_of s }
-{
-    let refusal = frame::settings_refusal(s);
-    if refusal != 0 {
-        let refused = Settings {
+impl Handset {
+    // A fresh handset, or the first of refusals 1 to 6, 17, 19 and 24 that the settings meet.
+    #[tactic(auto, using(frame::proofs::Refused::from_one), unfolding(crate::specs::Make::make_of))]
+    pub fn new(settings: Settings) -> Result<Handset, Refusal>
+        ensures { made_as result ≡ make_of settings }
+    {
+        frame::check_settings(settings)?;
+        Ok(fresh(settings))
+    }
+
+    // A handset that every feed refuses: its settings are zeros, which refusal 2 refuses. A C caller gets it beside a refusal.
+    pub fn refused() -> Handset
+        ensures { result ≡ fresh no_settings }
+    {
+        fresh(Settings {
             config: 0,
             nrb: 0,
             n1: 0,
@@ -44,10 +44,6 @@ pub fn make(s: Settings) -> Made
             prefix: 0,
             special: 0,
             ports: 0,
-        };
-        let handset = fresh_of(refused);
-        return Made { refusal, handset };
+        })
     }
-    let handset = fresh_of(s);
-    Made { refusal, handset }
 }

@@ -26,11 +26,11 @@ pub fn modes_before(mode: u16) -> u16
 }
 
 // None of the 13 remembered modes is 1, or the settings may have mode 1.
+#[tactic(auto, using(frame::proofs::Refused::accepted_test), unfolding(crate::specs::Modes::modes_sound))]
 pub fn modes_sound(s: Settings, modes: u16) -> bool
     ensures { result ≡ modes_sound s modes }
 {
-    let multiplexing = frame::new_mode_refusal(frame::in_mode(s, 1));
-    (modes % 8192 == 0) | (multiplexing == 0)
+    (modes % 8192 == 0) | frame::check_new_mode(frame::in_mode(s, 1)).is_ok()
 }
 
 // The settings in which the window of subframe n is answered: in the mode of its earliest subframe.

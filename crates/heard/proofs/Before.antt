@@ -1,14 +1,15 @@
 -- The look back of 18: what it depends on, and that what is heard by itself is judged without it.
 -- Assumes nothing.
-use Prim.Native.Nat.{ℕ, zero, suc, ◌≤◌}
-use mathlib.Core.Bool.{Bool, true, false, cond, ◌&&◌, ◌||◌, false≢true, or-true}
-use mathlib.Core.Path.{◌≡◌, refl, sym}
-use native.Mathlib.Decide.{ℕ_discrete}
+use Prim.Native.Nat.{ℕ, zero, suc, ◌<◌, ◌≤◌}
+use mathlib.Core.Bool.{Bool, true, false, ◌&&◌, and-eq-true_iff}
+use mathlib.Core.Path.{◌≡◌, refl}
 use native.Mathlib.Nat.{le_step}
 use native.Mathlib.Omega.{arith}
+use Rattle.std.proofs.Common.{Decides}
+use Rattle.std.proofs.lemmas.Bool.Decides.{Decides-below_or}
 use Rattle.frame.specs.declared.Settings.{Settings}
 use Rattle.frame.specs.Distance.{shares}
-use Rattle.frame.proofs.Accepted.{neither, unmet}
+use Rattle.frame.proofs.Accepted.{neither}
 use Rattle.frame.proofs.Shares.{shares_near}
 use Rattle.heard.specs.declared.Heard.{Heard}
 use Rattle.heard.specs.Heard.{is_block, heard_refusal, block_before, BeforeExactly, second_refusal, cause_of}
@@ -29,58 +30,39 @@ pub before_fewer : (most c n : ℕ) (f g : ℕ → Bool) → ((a : ℕ) → 1 �
 unfolding block_before
 before_fewer zero c n f g h e = refl
 before_fewer (suc a) c n f g h e =
-    go (f (suc a)) (g (suc a)) (shares c n (suc a)) (h (suc a) (omega arith)) e (before_fewer a c n f g h)
-  where
-    go : (p q r : Bool) → (p ≡ true → q ≡ true) → ((q && r) || block_before a c n g) ≡ false
-        → (block_before a c n g ≡ false → block_before a c n f ≡ false) → ((p && r) || block_before a c n f) ≡ false
-    go false true true h e rest = absurd (false≢true (sym e))
-    go false true false h e rest = rest e
-    go false false r h e rest = rest e
-    go true q false h e rest = rest (rw (h refl) at e)
-    go true q true h e rest = absurd (false≢true (sym (rw (h refl) at e)))
+    let rest = before_fewer a c n f g h in
+    let here : f (suc a) ≡ true → g (suc a) ≡ true = h (suc a) (omega arith) in
+    grind arith
 
 -- What is not refused is not refused by itself, and no second block.
 pub cause_none_holds : (s : Settings) (n : ℕ) (f : ℕ → Bool) (x : Heard) → cause_of s n f x ≡ 0
     → (heard_refusal s n x ≡ 0) × ((is_block x && block_before 13 s.config n f) ≡ false)
 unfolding cause_of second_refusal
 cause_none_holds s n f x e =
-    let a = neither (heard_refusal s n x) (cond (is_block x && block_before 13 s.config n f) 18 0) e in
-    (a.0, (unmet (is_block x && block_before 13 s.config n f) 17 0 a.1).0)
+    let a = neither _ _ e in
+    (a.0, grind arith)
 
 pub cause_fewer : (s : Settings) (n : ℕ) (f g : ℕ → Bool) (x : Heard) → ((a : ℕ) → 1 ≤ a → f a ≡ true → g a ≡ true)
     → cause_of s n g x ≡ 0 → cause_of s n f x ≡ 0
 unfolding cause_of second_refusal
-cause_fewer s n f g x h e = let a = cause_none_holds s n g x e in rw (a.0, go (is_block x) a.1)
-  where
-    go : (b : Bool) → (b && block_before 13 s.config n g) ≡ false → (b && block_before 13 s.config n f) ≡ false
-    go true e = before_fewer 13 s.config n f g h e
-    go false e = refl
+cause_fewer s n f g x h e =
+    let a = cause_none_holds s n g x e in
+    let rest = before_fewer 13 s.config n f g h in
+    rw a.0 (grind arith)
 
 -- A block that it finds stands somewhere before, and one that stands before is found, no further back than it looks.
-before_some : (most c n : ℕ) (f : ℕ → Bool) → block_before most c n f ≡ true → (a : ℕ) × (1 ≤ a) × (f a ≡ true) × (shares c n a ≡ true)
+before_decided : (c n : ℕ) (f : ℕ → Bool) (most : ℕ)
+    → Decides (block_before most c n f) ((k : ℕ) × (k < most) × ((f (suc k) ≡ true) × (shares c n (suc k) ≡ true)))
 unfolding block_before
-before_some zero c n f e = absurd (false≢true e)
-before_some (suc a) c n f e = go (f (suc a)) refl (shares c n (suc a)) refl (before_some a c n f) e
-  where
-    go : (p : Bool) → f (suc a) ≡ p → (q : Bool) → shares c n (suc a) ≡ q
-        → (block_before a c n f ≡ true → (a : ℕ) × (1 ≤ a) × (f a ≡ true) × (shares c n a ≡ true))
-        → ((p && q) || block_before a c n f) ≡ true → (a : ℕ) × (1 ≤ a) × (f a ≡ true) × (shares c n a ≡ true)
-    go true p true q rest e = (suc a, omega arith, p, q)
-    go true p false q rest e = rest e
-    go false p q r rest e = rest e
-
-before_found : (most c n : ℕ) (f : ℕ → Bool) (a : ℕ) → 1 ≤ a → a ≤ most → f a ≡ true → shares c n a ≡ true → block_before most c n f ≡ true
-unfolding block_before
-before_found zero c n f a least within p q = absurd (omega arith)
-before_found (suc most) c n f a least within p q = go (ℕ_discrete a (suc most)) (before_found most c n f a least)
-  where
-    go : Dec (a ≡ suc most) → (a ≤ most → f a ≡ true → shares c n a ≡ true → block_before most c n f ≡ true)
-        → ((f (suc most) && shares c n (suc most)) || block_before most c n f) ≡ true
-    go (yes e) rest = rw (rw e at p, rw e at q)
-    go (no e) rest = rw (rest (omega arith) p q) (or-true (f (suc most) && shares c n (suc most)))
+before_decided c n f most =
+    Decides-below_or _ _ (λ m. block_before m c n f) (λ k. and-eq-true_iff (f (suc k)) (shares c n (suc k))) refl (λ m. refl) most
 
 pub before_exactly : (c n : ℕ) (f : ℕ → Bool) → BeforeExactly c n f
 before_exactly c n f down = (
-  before_some 13 c n f,
-  λ s. before_found 13 c n f s.0 s.1 (omega (arith, shares_near c n s.0 down s.3)) s.2 s.3,
+  λ e. let k = (before_decided c n f 13).0 e in (suc k.0, omega arith, k.2.0, k.2.1),
+  λ s. found s.0 s.1 (omega (arith, shares_near c n s.0 down s.3)) s.2 s.3,
 )
+  where
+    found : (a : ℕ) → 1 ≤ a → a ≤ 13 → f a ≡ true → shares c n a ≡ true → block_before 13 c n f ≡ true
+    found zero least within p q = absurd (omega arith)
+    found (suc k) least within p q = (before_decided c n f 13).1 (k, omega arith, (p, q))

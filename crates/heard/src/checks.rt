@@ -1,146 +1,115 @@
 // Refusals 9 to 12, 18 and 20 of what a subframe brings (document 01, "Causes and their numbers"; document 02, U1 and U2).
-ghost use Rattle.std.specs.Prelude.{◌≡◌, drop};
-ghost use Rattle.frame.specs.Settings.{or_else};
+ghost use Rattle.std.specs.Prelude.{◌≡◌};
+ghost use Rattle.frame.specs.Refusals.{refusal_in};
 ghost use Rattle.heard.specs.Heard.{uplink_refusal, data_refusal, carried_refusal, pdcch_refusal, unset_refusal, heard_refusal, block_before, cause_of};
 ghost use Rattle.heard.specs.Memory.{block_ago};
 
-use crate::{Heard, Slot};
-use frame::Settings;
+use crate::{Heard, Slot, SlotKind};
+use frame::{Refusal, Settings};
 use resource::Cce;
 
-fn uplink_refusal(s: Settings, n: u16) -> u16
-    ensures { result ≡ uplink_refusal s n }
+// An uplink subframe: 9.
+#[tactic(auto, unfolding(crate::specs::Heard::uplink_refusal))]
+fn check_uplink(s: Settings, n: u16) -> Result<(), Refusal>
+    ensures { refusal_in result ≡ uplink_refusal s n }
 {
-    if frame::is_downlink(s.config, n) {
-        return 0;
+    if !frame::is_downlink(s.config, n) {
+        return Err(Refusal::Uplink);
     }
-    9
+    Ok(())
 }
 
 // Data, that is a grant or a scheduled block: 9, then 20.
-fn data_refusal(s: Settings, n: u16) -> u16
-    ensures { result ≡ data_refusal s n }
+#[tactic(auto, using(frame::proofs::Refused::first_refused, frame::proofs::Refused::first_accepted), unfolding(crate::specs::Heard::data_refusal, crate::specs::Heard::short_refusal))]
+fn check_data(s: Settings, n: u16) -> Result<(), Refusal>
+    ensures { refusal_in result ≡ data_refusal s n }
 {
-    let uplink = uplink_refusal(s, n);
-    if uplink != 0 {
-        return uplink;
-    }
+    check_uplink(s, n)?;
     if frame::is_too_short(s, n) {
-        return 20;
+        return Err(Refusal::Short);
     }
-    0
+    Ok(())
 }
 
 // The blocks carried: 10.
-fn carried_refusal(s: Settings, blocks: u16) -> u16
-    ensures { result ≡ carried_refusal s blocks }
+#[tactic(auto, unfolding(crate::specs::Heard::carried_refusal))]
+fn check_carried(s: Settings, blocks: u16) -> Result<(), Refusal>
+    ensures { refusal_in result ≡ carried_refusal s blocks }
 {
-    if blocks < 1 {
-        return 10;
+    if !(1..=s.blocks).contains(&blocks) {
+        return Err(Refusal::Carried);
     }
-    if s.blocks < blocks {
-        return 10;
-    }
-    0
+    Ok(())
 }
 
 // A PDCCH: 11 and 12.
-fn pdcch_refusal(s: Settings, cce: Cce, dai: u16) -> u16
-    ensures { result ≡ pdcch_refusal s cce.0 dai }
+#[tactic(auto, unfolding(crate::specs::Heard::pdcch_refusal))]
+fn check_pdcch(s: Settings, cce: Cce, dai: u16) -> Result<(), Refusal>
+    ensures { refusal_in result ≡ pdcch_refusal s cce.0 dai }
 {
     if !resource::is_cce(s.nrb, cce) {
-        return 11;
+        return Err(Refusal::Cce);
     }
-    if dai < 1 {
-        return 12;
+    if !(1..=4).contains(&dai) {
+        return Err(Refusal::Dai);
     }
-    if 4 < dai {
-        return 12;
-    }
-    0
+    Ok(())
 }
 
 // A scheduled block with no resource set: 18.
-fn unset_refusal(s: Settings) -> u16
-    ensures { result ≡ unset_refusal s }
+#[tactic(auto, unfolding(crate::specs::Heard::unset_refusal))]
+fn check_resource_set(s: Settings) -> Result<(), Refusal>
+    ensures { refusal_in result ≡ unset_refusal s }
 {
-    if frame::has_scheduled(s) {
-        return 0;
+    if !frame::has_scheduled(s) {
+        return Err(Refusal::Scheduled);
     }
-    18
+    Ok(())
 }
 
-// The first refusal of two; 0 is none.
-fn or_else(k: u16, next: u16) -> u16
-    ensures { result ≡ or_else k next }
-{
-    if k != 0 {
-        return k;
-    }
-    next
-}
-
-// The first of refusals 9, 20, 10 to 12, and 18 for a scheduled block with no resource set, that is met by what subframe n brings; 0
-// if it is valid there by itself.
-pub fn heard_refusal(s: Settings, n: u16, x: Heard) -> u16
-    ensures { result ≡ heard_refusal s n x }
+// The first of refusals 9, 20, 10 to 12, and 18 for a scheduled block with no resource set, that is met by what subframe n brings,
+// judged by itself.
+#[tactic(auto, using(frame::proofs::Refused::first_refused, frame::proofs::Refused::first_accepted), unfolding(crate::specs::Heard::heard_refusal))]
+pub fn check_heard(s: Settings, n: u16, x: Heard) -> Result<(), Refusal>
+    ensures { refusal_in result ≡ heard_refusal s n x }
 {
     match x {
-        Heard::Nothing => 0,
+        Heard::Nothing => Ok(()),
         Heard::Granted(g) => {
-            let carried = carried_refusal(s, g.blocks);
-            let cce = g.cce;
-            let pdcch = pdcch_refusal(s, cce, g.dai);
-            or_else(data_refusal(s, n), or_else(carried, pdcch))
+            check_data(s, n)?;
+            check_carried(s, g.blocks)?;
+            check_pdcch(s, g.cce, g.dai)
         }
         Heard::Scheduled(b) => {
-            let carried = carried_refusal(s, b.blocks);
-            or_else(data_refusal(s, n), or_else(carried, unset_refusal(s)))
+            check_data(s, n)?;
+            check_carried(s, b.blocks)?;
+            check_resource_set(s)
         }
         Heard::Released(p) => {
-            let cce = p.cce;
-            let pdcch = pdcch_refusal(s, cce, p.dai);
-            or_else(uplink_refusal(s, n), pdcch)
+            check_uplink(s, n)?;
+            check_pdcch(s, p.cce, p.dai)
         }
     }
 }
 
-// A scheduled block was heard before in the window of subframe n: one of the slots from `from` on, the newest of which was heard in
-// the subframe before n. The oldest is asked first.
-pub fn block_before(config: u16, n: u16, past: [Slot; 13], from: usize) -> bool
-    ensures { result ≡ block_before 13 config n (block_ago (drop from past)) }
+// A scheduled block was heard before in the window of subframe n: one of the slots, the newest of which comes first and was heard in
+// the subframe before n. No window reaches back more than 13 subframes.
+pub fn block_before(config: u16, n: u16, past: &[Slot]) -> bool
+    ensures { result ≡ block_before 13 config n (block_ago past.now) }
 {
-    let mut i: usize = 13;
-    while from < i {
-        i -= 1;
-        let t = past[i];
-        if t.kind == 2 {
-            if frame::shares_window(config, n, (i - from + 1) as u16) {
-                return true;
-            }
-        }
-    }
-    false
+    (1..14).zip(past).any(|(ago, t)| t.kind == SlotKind::Block as u8
+        && frame::shares_window(config, n, ago))
 }
 
-// The first of refusals 9, 20, 10 to 12 and 18 that is met by what subframe n brings after what the slots from `from` on heard; 0 if it is
-// valid there. Only a scheduled block looks back.
-pub fn cause_of(s: Settings, n: u16, past: [Slot; 13], from: usize, x: Heard) -> u16
-    ensures { result ≡ cause_of s n (block_ago (drop from past)) x }
+// The first of refusals 9, 20, 10 to 12 and 18 that is met by what subframe n brings after what the slots heard, the newest of which
+// comes first. Only a scheduled block looks back.
+#[tactic(auto, using(frame::proofs::Refused::first_refused, frame::proofs::Refused::first_accepted), unfolding(crate::specs::Heard::cause_of, crate::specs::Heard::second_refusal))]
+pub fn check_cause(s: Settings, n: u16, past: &[Slot], x: Heard) -> Result<(), Refusal>
+    ensures { refusal_in result ≡ cause_of s n (block_ago past.now) x }
 {
-    let refusal = heard_refusal(s, n, x);
-    if refusal != 0 {
-        return refusal;
-    }
+    check_heard(s, n, x)?;
     match x {
-        Heard::Nothing => 0,
-        Heard::Granted(_) => 0,
-        Heard::Scheduled(_) => {
-            if block_before(s.config, n, past, from) {
-                return 18;
-            }
-            0
-        }
-        Heard::Released(_) => 0,
+        Heard::Scheduled(_) if block_before(s.config, n, past) => Err(Refusal::Scheduled),
+        _ => Ok(()),
     }
 }

@@ -16,9 +16,8 @@ use borrow.Author.Tests.{ltb-true}
 use Rattle.frame.proofs.Bools.{both}
 use Rattle.symbols.specs.declared.State.{State}
 use Rattle.symbols.specs.declared.State.TheVariants.{Ack, Nack, Dtx}
-use Rattle.symbols.specs.declared.Symbol.TheVariants.{Sent}
 use Rattle.symbols.specs.Delivered.{is_symbol, is_ack, in_some_row, delivered_at, delivered_set, delivery_of}
-use Rattle.symbols.specs.Selection.{table2, table3, table4, table_of, symbol_of}
+use Rattle.symbols.specs.Selection.{table2, table3, table4, table_of, symbol_of, symbol}
 use Rattle.symbols.proofs.Reading.{is_symbol_holds, is_ack_holds}
 use Rattle.symbols.proofs.States.{every_window, every_sent, sent_passes}
 use Rattle.limit.specs.Rules.{Positions, Rule, SentBy, Sound, ours, LosesMore, Best}
@@ -38,7 +37,7 @@ unfolding ours
 inside size sent i b0 b1 p e = omega (arith, below _ size _ e)
 
 -- Where something was sent at every position each state is counted.
-pub all_counted : {size i b0 b1 : ℕ} (ss : List State) → length ss ≡ size → symbol_of ss ≡ Sent i b0 b1
+pub all_counted : {size i b0 b1 : ℕ} (ss : List State) → length ss ≡ size → symbol_of ss ≡ symbol i b0 b1
     → SentBy size (λ (p : ℕ). true) i b0 b1 ss
 all_counted ss e sent =
     record { counted = record { of_size = e; unsent = λ p never. absurd (false≢true (sym never)) }; symbol = sent }

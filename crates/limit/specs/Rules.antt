@@ -2,14 +2,11 @@
 -- It is about rules that know the window's size M, the positions at which something was sent and the reply's symbol, as 02 asks. A
 -- rule that is told more, such as what was decoded, is no such rule, and so no counterexample.
 -- Assumes nothing.
-use Rattle.std.specs.Prelude.{ℕ, ◌/◌, ◌%◌, ◌^◌, Bool, true, false, ◌&&◌, List, ◌⊎◌, ◌≡◌, eqb, ltb, length, get_or}
-use Rattle.symbols.specs.declared.Delivery.{Delivery}
-use Rattle.symbols.specs.declared.Delivery.TheVariants.{Set, NoRow}
+use Rattle.std.specs.Prelude.{ℕ, ◌/◌, ◌%◌, ◌^◌, Bool, true, false, ◌&&◌, List, ◌⊎◌, ◌≡◌, eqb, ltb, length, get_or, Option, Some, None}
 use Rattle.symbols.specs.declared.State.{State}
 use Rattle.symbols.specs.declared.State.TheVariants.{Ack, Dtx}
-use Rattle.symbols.specs.declared.Symbol.TheVariants.{Sent}
 use Rattle.symbols.specs.Delivered.{delivery_of}
-use Rattle.symbols.specs.Selection.{symbol_of}
+use Rattle.symbols.specs.Selection.{symbol_of, symbol}
 
 -- A set of positions, by its test.
 abbrev pub Positions : Type 0
@@ -27,7 +24,7 @@ pub record Counted (size : ℕ) (sent : Positions) (ss : List State) : Type 0 wh
 -- "one of them sending that symbol"
 pub record SentBy (size : ℕ) (sent : Positions) (i b0 b1 : ℕ) (ss : List State) : Type 0 where
   pub counted : Counted size sent ss
-  pub symbol : symbol_of ss ≡ Sent i b0 b1
+  pub symbol : symbol_of ss ≡ symbol i b0 b1
 
 -- "the rule names no position that one of them sending that symbol doesn't have as A": each of them has it as A.
 abbrev pub Sound : Rule → ℕ → Positions → ℕ → ℕ → ℕ → Type 0
@@ -38,9 +35,9 @@ Sound rule size sent i b0 b1 =
 abbrev pub in_set : ℕ → Positions
 in_set set p = eqb (set / 2 ^ p % 2) 1
 
-abbrev pub named_by : Delivery → Positions
-named_by (Set set) p = in_set set p
-named_by NoRow p = false
+abbrev pub named_by : Option ℕ → Positions
+named_by (Some set) p = in_set set p
+named_by None p = false
 
 -- "ours": the positions of the window that `symbols::delivered` answers for the symbol, and with it the station's reading
 -- (Station.antt). It does not look at what was sent.

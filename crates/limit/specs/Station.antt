@@ -1,12 +1,11 @@
 -- The station's reading is the rule `ours` of Rules.antt: what it delivers of a multiplexed reply are the positions that `ours` names
 -- for the window's size, the index and the bits. read_of is what station::read promises, and feedback_reading with it.
 -- Assumes nothing.
-use Rattle.std.specs.Prelude.{ℕ, ◌≡◌}
+use Rattle.std.specs.Prelude.{Result, Ok, Err, Option, Some, None, ℕ, ◌≡◌}
 use Rattle.frame.specs.declared.Settings.{Settings}
 use Rattle.resource.specs.Calls.{size_of}
 use Rattle.station.specs.declared.Place.{Place}
 use Rattle.station.specs.declared.Reading.TheVariants.{Multiplexed}
-use Rattle.station.specs.declared.Told.{Told}
 use Rattle.station.specs.Readings.{place_position, read_of}
 use Rattle.limit.specs.Rules.{Positions, in_set, ours}
 
@@ -14,5 +13,5 @@ use Rattle.limit.specs.Rules.{Positions, in_set, ours}
 -- set exactly if `ours` names it. The index is the position of what the reply is read as.
 abbrev pub ReadingIsOurs : Type 0
 ReadingIsOurs =
-    (s : Settings) (n : ℕ) (told : Told) (r b0 b1 : ℕ) (named : Place) (set : ℕ) → read_of s n told r b0 b1 ≡ Multiplexed named set
+    (s : Settings) (n : ℕ) (told : Option ℕ) (r b0 b1 : ℕ) (named : Place) (set : ℕ) → read_of s n told r b0 b1 ≡ Ok (Multiplexed named set)
     → (sent : Positions) (p : ℕ) → in_set set p ≡ ours (size_of s n) sent (place_position named) b0 b1 p

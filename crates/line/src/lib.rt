@@ -1,100 +1,99 @@
-// A text of at most 100 bytes, filled byte by byte, and numbers in decimal: what `listing`, `printing` and `reporting` write with.
+// A text of at most 100 bytes, and numbers in decimal: what `listing`, `printing`, `size_text` and `reporting` write with.
+//
+// The kit's `ArrayString` with `write!` is no substitute: `write!` says what was written where it is `Ok`, and nothing says when it is,
+// so no function over it could promise its text.
 #![tactic(auto)]
 
-ghost use Rattle.std.specs.Prelude.{◌<◌, ◌≡◌, [], ◌++◌};
-ghost use Rattle.line.specs.Decimal.{decimal_digit, digit_for, decimal, listed};
-ghost use Rattle.line.specs.Put.{paged, put_of, added};
+ghost use Rattle.std.specs.Prelude.{◌≡◌, [], ◌∷◌, ◌++◌, decimal};
+ghost use Rattle.line.specs.Line.{added, decimal_digit, listed};
 
-// A text of at most 100 bytes, its length and its bytes; the bytes after it are 0.
-#[derive(Clone, Copy)]
+use arrayvec::ArrayVec;
+use std::io::Write;
+use std::marker::Model;
+
+// A text of at most 100 bytes. What is put on a full line is left out.
+#[derive(Drop)]
 pub struct Line {
-    pub size: usize,
-    pub text: [u8; 100],
+    bytes: ArrayVec<u8, 100>,
 }
 
-// A line with no text.
-pub fn empty() -> Line
-    ensures { result ≡ paged [] }
-{
-    Line {
-        size: 0,
-        text: [0; 100],
-    }
+impl Model for Line {
+    ghost use Rattle.std.specs.Prelude.{List, ℕ};
+
+    ghost Value = { List ℕ };
+
+    ghost view = { λ l. l.bytes.items };
 }
 
-// The line with one more byte; a full line stays as it is.
-#[tactic(auto, unfolding(crate::specs::Put::put_of))]
-pub fn put(p: Line, b: u8) -> Line
-    ensures { result ≡ put_of p b }
-{
-    let size = p.size;
-    if 100 <= size {
-        return p;
+impl Line {
+    // A line with no text.
+    pub fn new() -> Line
+        ensures { result ≡ [] }
+    {
+        Line {
+            bytes: ArrayVec::new(),
+        }
     }
-    let mut text = p.text;
-    text[size] = b;
-    Line {
-        size: size + 1,
-        text,
-    }
-}
 
-// The line with a text.
-pub fn put_text(p: Line, text: &[u8]) -> Line
-    ensures { result ≡ added p text.now }
-{
-    let mut line = p;
-    let mut m: usize = 0;
-    while m < text.len() {
-        line = put(line, text[m]);
-        m += 1;
+    // The text.
+    pub fn as_bytes(&self) -> &[u8]
+        ensures { result.now ≡ self.now }
+    {
+        self.bytes.as_slice()
     }
-    line
+
+    // Puts bytes after the text, as many as there is room for.
+    #[tactic(auto, using(crate::proofs::Adding::added_written))]
+    pub fn extend_from_slice(&mut self, bytes: &[u8])
+        ensures { self.new ≡ added self.old bytes.now }
+    {
+        // It takes what fits, and never fails.
+        let _ = self.bytes.write(bytes);
+    }
+
+    pub fn push(&mut self, b: u8)
+        ensures { self.new ≡ added self.old (b ∷ []) }
+    {
+        self.extend_from_slice(&[b]);
+    }
+
+    pub fn push_str(&mut self, text: &str)
+        ensures { self.new ≡ added self.old text.now }
+    {
+        self.extend_from_slice(text.as_bytes());
+    }
+
+    // Puts a number on the line, in decimal.
+    pub fn push_number(&mut self, x: u16)
+        ensures { self.new ≡ added self.old (decimal x) }
+    {
+        let mut buffer = itoa::Buffer::new();
+        self.push_str(buffer.format(x));
+    }
+
+    // Puts a text on the line, then a number.
+    #[tactic(auto, using(crate::proofs::Adding::added_append))]
+    pub fn push_labelled(&mut self, text: &str, x: u16)
+        ensures { self.new ≡ added self.old (text.now ++ decimal x) }
+    {
+        self.push_str(text);
+        self.push_number(x);
+    }
+
+    // Puts numbers on the line, a text before each.
+    #[tactic(auto, using(crate::proofs::Adding::listed_more, crate::proofs::Adding::listed_all))]
+    pub fn push_listed(&mut self, text: &str, xs: &[u16])
+        ensures { self.new ≡ added self.old (listed text.now xs.now) }
+    {
+        for x in xs {
+            self.push_labelled(text, *x);
+        }
+    }
 }
 
 // The last decimal digit of a number, in ASCII: 48 is `0`.
-pub fn digit(x: u16) -> u8
+pub fn digit(x: u32) -> u8
     ensures { result ≡ decimal_digit x }
 {
-    (48 + x % 10) as u8
-}
-
-// The line with the digit that counts units; the line as it is where the number is below the unit.
-fn put_digit(p: Line, unit: u16, x: u16) -> Line
-    requires { 0 < unit }
-    ensures { result ≡ added p (digit_for unit x) }
-{
-    if x < unit {
-        return p;
-    }
-    put(p, digit(x / unit))
-}
-
-// The line with a number in decimal.
-pub fn put_number(p: Line, x: u16) -> Line
-    ensures { result ≡ added p (decimal x) }
-{
-    let thousands = put_digit(put_digit(p, 10000, x), 1000, x);
-    let tens = put_digit(put_digit(thousands, 100, x), 10, x);
-    put(tens, digit(x))
-}
-
-// The line with a text, then a number.
-pub fn put_labelled(p: Line, text: &[u8], x: u16) -> Line
-    ensures { result ≡ added p (text.now ++ decimal x) }
-{
-    put_number(put_text(p, text), x)
-}
-
-// The line with numbers, a text before each.
-pub fn put_listed(p: Line, text: &[u8], xs: &[u16]) -> Line
-    ensures { result ≡ added p (listed text.now xs.now) }
-{
-    let mut line = p;
-    let mut i: usize = 0;
-    while i < xs.len() {
-        line = put_labelled(line, text, xs[i]);
-        i += 1;
-    }
-    line
+    b'0' + (x % 10) as u8
 }

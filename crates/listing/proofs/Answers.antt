@@ -1,21 +1,14 @@
 -- The two kinds of answer to an input, the refusal and the lines of a configuration. Each has room on a page: the lines by a test
 -- of the seven configurations that antt computes.
 -- Assumes nothing.
-use Prim.Native.Nat.{ℕ, ◌-◌, ◌≤◌}
-use mathlib.Core.Bool.{Bool, true, false, ◌&&◌}
-use mathlib.Core.List.{List, []}
-use mathlib.Core.Path.{◌≡◌, refl}
-use native.Mathlib.Omega.{arith}
+use Rattle.std.proofs.Common.{ℕ, ◌-◌, ◌≤◌, ◌≡◌, Bool, true, false, ◌&&◌, List, [], length, get_or, refl, arith}
 use lib.Dec.{T, eqb, leb, lit≤}
-use lib.ListN.{length, get_or}
 use borrow.Author.Tests.{eqb-true, leb-true, eq-eqb, le-leb}
+use Rattle.std.specs.Fmt.{digits}
 use Rattle.frame.proofs.Below.{below, below_at}
 use Rattle.frame.specs.Table.{table, window_of}
-use Rattle.io.specs.Counts.{IsPrefixLen}
-use Rattle.line.proofs.Paged.{alone}
-use Rattle.line.specs.Decimal.{decimal, listed}
-use Rattle.line.specs.Put.{paged, added}
-use Rattle.line.specs.declared.Line.{Line}
+use Rattle.line.proofs.Adding.{added_alone}
+use Rattle.line.specs.Line.{added, listed}
 use Rattle.listing.specs.Page.{line, line_of, lines_below, refusal, accepted, page_of}
 
 -- the lines of configuration c have room on a page
@@ -23,17 +16,8 @@ abbrev room_for : ℕ → Bool
 room_for c = leb (length (lines_below 10 c)) 100
 
 room_tested : T (below 7 room_for)
-unfolding table window_of decimal listed line line_of lines_below
+unfolding table window_of digits listed line line_of lines_below
 room_tested = tt
-
--- what `page_for` promises of its result r
-abbrev Answered : List ℕ → Line → Type 0
-Answered input r = (r ≡ paged (page_of input)) × IsPrefixLen r.size r.text
-
--- The page that holds the text for an input, where that has room.
-answered : (input text : List ℕ) (r : Line) → page_of input ≡ text → length text ≤ 100 → r ≡ added (paged []) text
-    → Answered input r
-answered input text r e h p = rw e (alone text r h p)
 
 -- what an input that is accepted meets
 abbrev Meets : List ℕ → Type 0
@@ -54,17 +38,14 @@ not_accepted input h =
     go false b c d p q r s = refl
 
 -- The answer to an input that is refused.
-pub refused : (input : List ℕ) (r : Line) → (Meets input → ⊥) → r ≡ added (paged []) refusal → Answered input r
+pub refused : (input : List ℕ) → (Meets input → ⊥) → added [] refusal ≡ page_of input
 unfolding page_of
-refused input r h p = answered input refusal r (rw (not_accepted input h)) (lit≤ tt) p
+refused input h = rw (not_accepted input h) (added_alone refusal (lit≤ tt))
 
 -- The answer to an input that is accepted.
-pub lines : (input : List ℕ) (r : Line) → Meets input
-    → r ≡ added (paged []) (lines_below 10 (get_or input 0 0 - 48)) → Answered input r
+pub lines : (input : List ℕ) → Meets input → added [] (lines_below 10 (get_or input 0 0 - 48)) ≡ page_of input
 unfolding page_of accepted
-lines input r h p =
+lines input h =
     let c = get_or input 0 0 - 48 in
-    answered input (lines_below 10 c) r
-    (simp (eq-eqb _ _ h.0, le-leb _ _ h.1, le-leb _ _ h.2, eq-eqb _ _ h.3))
-    (lit≤ (below_at 7 room_for room_tested c (omega arith)))
-    p
+    simp (eq-eqb _ _ h.0, le-leb _ _ h.1, le-leb _ _ h.2, eq-eqb _ _ h.3)
+    (added_alone (lines_below 10 c) (lit≤ (below_at 7 room_for room_tested c (omega arith))))

@@ -1,8 +1,8 @@
 -- What the program `windows` prints, as bytes: document 01, "Buyers' access".
 -- Assumes nothing.
-use Rattle.std.specs.Prelude.{ℕ, zero, suc, ◌-◌, Bool, cond, ◌&&◌, List, [], ◌∷◌, ◌++◌, eqb, leb, length, get_or}
+use Rattle.std.specs.Prelude.{ℕ, zero, suc, ◌-◌, Bool, cond, ◌&&◌, List, [], ◌∷◌, ◌++◌, eqb, leb, length, get_or, codes, decimal}
 use Rattle.frame.specs.Table.{window_of}
-use Rattle.line.specs.Decimal.{decimal, listed}
+use Rattle.line.specs.Line.{listed}
 
 -- The line of a window: "c n M k_0 k_1 ..", a space (32) before each number but the first, ended by a newline (10).
 unfoldable pub line : ℕ → ℕ → List ℕ → List ℕ
@@ -19,7 +19,7 @@ lines_below (suc n) c = lines_below n c ++ line_of c n
 
 -- The text "refused 1", ended by a newline.
 abbrev pub refusal : List ℕ
-refusal = 114 ∷ 101 ∷ 102 ∷ 117 ∷ 115 ∷ 101 ∷ 100 ∷ 32 ∷ 49 ∷ 10 ∷ []
+refusal = codes "refused 1\n"
 
 -- The input is one digit 0 to 6 (48 to 54) and a newline, nothing more.
 unfoldable pub accepted : List ℕ → Bool

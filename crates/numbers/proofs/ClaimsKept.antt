@@ -1,5 +1,6 @@
 -- The numbers of feedback_claims and feedback_claims_bits lose nothing: no claims are refused with 0.
 -- Assumes nothing.
+use Rattle.std.proofs.Common.{Ok, Option}
 use Prim.Native.Nat.{ℕ, zero, suc}
 use mathlib.Core.Bool.{not}
 use mathlib.Core.List.{List}
@@ -8,8 +9,7 @@ use lib.Dec.{ltb, eqb-suc-zero}
 use lib.ListN.{length}
 use Rattle.frame.specs.declared.Settings.{Settings}
 use Rattle.frame.proofs.Bools.{either}
-use Rattle.claims.specs.declared.Checked.{Checked}
-use Rattle.claims.specs.Claims.{first_bad, first_clash, scratch_refusal, checked_on, refused_or, checked_with}
+use Rattle.claims.specs.Claims.{Checked, first_bad, first_clash, scratch_refusal, checked_on, refused_or, checked_with}
 use Rattle.numbers.specs.Answers.{claims_answer}
 use Rattle.numbers.specs.Back.{checked_in, KindFor}
 use Rattle.numbers.specs.Kinds.{claims_clash}
@@ -27,4 +27,4 @@ unfolding checked_with checked_on
 claims_kept s n list room lent =
     refused_or_kept (scratch_refusal s n room lent) _
     (either CheckedKept (ltb (first_bad s n list) (length list)) _ _ (refl, (refl, refl))
-    (either CheckedKept (ltb (first_clash s n list) (length list)) _ _ (refl, (refl, refl)) (refl, (refl, refl))))
+    (either (λ (clash : Option ℕ). CheckedKept (Ok clash)) (ltb (first_clash s n list) (length list)) _ _ (refl, (refl, refl)) (refl, (refl, refl))))

@@ -1,34 +1,32 @@
 -- The numbers of feedback_record lose nothing, and those of feedback_replay and feedback_trace_write tell a refusal by the kind.
 -- Assumes nothing.
+use Rattle.heard.specs.declared.Slot.{Slot}
+use Rattle.std.proofs.Common.{Option, Result, Err}
 use Prim.Native.Nat.{ℕ, zero, suc}
 use mathlib.Core.Bool.{Bool, true, false, cond, not}
 use mathlib.Core.List.{List}
 use mathlib.Core.Path.{◌≡◌, refl, sym, ap}
 use lib.Dec.{eqb, ltb, leb, eqb-suc-zero}
-use Rattle.frame.specs.Settings.{or_else}
 use Rattle.frame.proofs.Bools.{either}
-use Rattle.handset.specs.Make.{make_of}
-use Rattle.reader.specs.declared.Record.{Record}
-use Rattle.reader.specs.declared.Record.TheVariants as traced
 use Rattle.reader.specs.Record.{record_slot, read_as, refused_or, record_of}
 use Rattle.trace.specs.Trace.{header_of, settings_of, parts_refusal, trace_refusal}
+use Rattle.frame.specs.Settings.{or_else}
+use Rattle.handset.specs.Make.{make_of}
 use Rattle.replaying.specs.Replay.{Played, played_in, start_refusal, replay_done, replay_stopped, replayed_as, replay_of}
-use Rattle.numbers.specs.Answers.{record_answer}
-use Rattle.spelling.specs.declared.Stop.{Stop}
-use Rattle.spelling.specs.declared.Written.{Written}
 use Rattle.spelling.specs.Spelling.{spelled_size}
-use Rattle.spelling.specs.Writing.{stop_of, room_refusal, written_as, stopped_or, write_of}
+use Rattle.spelling.specs.Writing.{Stop, Written, stop_of, room_refusal, written_as, stopped_or, write_of}
+use Rattle.numbers.specs.Answers.{record_answer}
 use Rattle.numbers.specs.Back.{record_in, KindFor, DoneFor}
 use Rattle.numbers.specs.Kinds.{record_end}
 
 -- A reader's answer comes back from its numbers, and its kind is one that there is, 0 where it is refused.
-abbrev Kept : Record → Type 0
+abbrev Kept : Result (Option Slot) ℕ → Type 0
 Kept x = (record_in (record_answer x) ≡ x) × KindFor record_end (record_answer x).kind (record_answer x).refusal
 
-refused_kept : (k : ℕ) → Kept (traced.Refused (suc k))
+refused_kept : (k : ℕ) → Kept (Err (suc k))
 refused_kept k = (refl, (sym (ap not (eqb-suc-zero k)), refl))
 
-read_kept : (k : ℕ) (x : Record) → Kept x → Kept (refused_or k x)
+read_kept : (k : ℕ) (x : Result (Option Slot) ℕ) → Kept x → Kept (refused_or k x)
 read_kept zero x kept = kept
 read_kept (suc k) x kept = refused_kept k
 

@@ -1,5 +1,4 @@
 pub mod Adding
 pub mod Every
 pub mod Lines
-pub mod Rows
 pub mod Windows

@@ -2,9 +2,7 @@
 -- Assumes nothing.
 use Prim.Native.Nat.{ℕ, zero, suc, ◌+◌, ◌-◌, ◌<◌, ◌≤◌}
 use mathlib.Core.List.{List, [], ◌∷◌, ◌++◌, map}
-use mathlib.Core.Path.{◌≡◌, ap, ◌∙◌}
-use native.Mathlib.Decide.{dec_lt}
-use native.Mathlib.Nat.{not-suc-le-zero}
+use mathlib.Core.Path.{◌≡◌, refl, ap, sym, ◌∙◌}
 use native.Mathlib.Omega.{arith}
 use lib.Dec.{T, eqb, leb, lit≤, eqb→eq}
 use lib.ListN.{length, get_or, length-map, get_or-append, get_or-eq_default}
@@ -12,27 +10,33 @@ use lib.Seq.{get_or-append-add}
 use Rattle.frame.proofs.Below.{below_at}
 use Rattle.frame.proofs.Lists.{entry}
 use Rattle.frame.specs.Table.{table, window_of}
-use Rattle.io.specs.Counts.{IsPrefixLen}
-use Rattle.line.proofs.Paged.{alone}
-use Rattle.line.specs.Decimal.{decimal, listed}
-use Rattle.line.specs.Put.{paged, added}
-use Rattle.line.specs.declared.Line.{Line}
-use Rattle.symbols.specs.Coded.{blank_row}
+use Rattle.std.specs.Fmt.{digits}
+use Rattle.line.proofs.Adding.{added_append, added_alone}
+use Rattle.line.specs.Line.{added, listed}
+use Rattle.symbols.specs.declared.TableRow.{TableRow}
+use Rattle.symbols.specs.Coded.{printed}
 use Rattle.symbols.specs.Selection.{table2, table3, table4, table_of}
 use Rattle.printing.specs.Text.{cell, k_text, cells_below, window_row, window_table}
 use Rattle.printing.specs.Text.{words, said, symbol_row, title, heading, symbol_table, all_lines, ended, line_text}
 use Rattle.printing.proofs.Every.{every, every_at}
 
--- A row of the table for M = size.
-pub row_line : (size i : ℕ) → 3 ≤ i → i < length (symbol_table size)
-    → get_or (symbol_table size) i [] ≡ symbol_row (get_or (table_of size) (i - 3) blank_row)
-unfolding symbol_table
-row_line size zero l h = absurd (omega arith)
-row_line size (suc zero) l h = absurd (omega arith)
-row_line size (suc (suc zero)) l h = absurd (omega arith)
-row_line size (suc (suc (suc j))) l h =
-    let e : suc (suc (suc j)) - 3 ≡ j = omega arith in
-    rw e (entry symbol_row (table_of size) j [] blank_row (omega (arith, length-map (table_of size) symbol_row)))
+-- A line past the heading is that of a row of the table for M = size.
+module _ (size i j : ℕ) (rows : List TableRow) (read : map printed rows ≡ table_of size) (past : 3 ≤ i) (place : j ≡ i - 3)
+    (inside : i < length (symbol_table size)) where
+  pub row_inside : j < length rows
+  unfolding symbol_table
+  row_inside = omega (arith, length-map rows printed, ap length read, length-map (table_of size) symbol_row)
+
+  pub row_line : (r : TableRow) → symbol_row (printed (get_or rows j r)) ≡ get_or (symbol_table size) i []
+  unfolding symbol_table
+  row_line r =
+      let line : i ≡ suc (suc (suc j)) = omega arith in
+      let whole : j < length (table_of size) = omega (arith, row_inside, length-map rows printed, ap length read) in
+      rw line
+      (sym
+      (entry symbol_row (table_of size) j [] (printed r) whole
+      ∙ ap (λ t. symbol_row (get_or t j (printed r))) (sym read)
+      ∙ ap symbol_row (entry printed rows j (printed r) r row_inside)))
 
 -- A row of Table 10.1-1.
 pub window_row_line : (i : ℕ) → 3 ≤ i → i < 10 → get_or window_table i [] ≡ window_row (i - 3)
@@ -53,6 +57,19 @@ after : (a b : List (List ℕ)) (i : ℕ) → length a ≤ i → get_or (a ++ b)
 after a b i h =
     let e : i ≡ length a + (i - length a) = omega arith in
     ap (λ k. get_or (a ++ b) k []) e ∙ get_or-append-add a b (i - length a) []
+
+-- How many lines the tables take.
+pub lines2 : length (symbol_table 2) ≡ 9
+unfolding symbol_table table_of table2
+lines2 = refl
+
+pub lines3 : length (symbol_table 3) ≡ 14
+unfolding symbol_table table_of table3
+lines3 = refl
+
+pub lines4 : length (symbol_table 4) ≡ 23
+unfolding symbol_table table_of table4
+lines4 = refl
 
 abbrev from3 : List (List ℕ)
 from3 = symbol_table 3 ++ symbol_table 4
@@ -94,32 +111,22 @@ module _ (i : ℕ) where
       ∙ after (symbol_table 3) (symbol_table 4) (i - 19) (omega arith)
       ∙ ap (λ k. get_or (symbol_table 4) k []) e
 
--- Line i, its newline with it.
-pub line_ended : (i : ℕ) → i < 56 → line_text i ≡ ended (get_or all_lines i [])
-unfolding line_text all_lines window_table symbol_table table_of table2 table3 table4
-line_ended i h = entry ended all_lines i [] [] h
-
--- There is no line 56.
-pub past_last : (i : ℕ) → 56 ≤ i → line_text i ≡ []
-unfolding line_text all_lines window_table symbol_table table_of table2 table3 table4
-past_last i h = get_or-eq_default (map ended all_lines) [] h
-
--- A line that is not empty is one of the 56.
-pub within : (i : ℕ) (r : Line) → r ≡ paged (line_text i) → 0 < r.size → i < 56
-within i r e h = go (dec_lt i 56)
-  where
-    go : Dec (i < 56) → i < 56
-    go (yes l) = l
-    go (no l) = absurd (not-suc-le-zero (rw (e, past_last i (omega arith)) at h))
-
 room_tested : T (every (λ l. leb (length l) 100) (map ended all_lines))
-unfolding all_lines window_table window_row cells_below window_of table cell k_text listed decimal symbol_table title heading symbol_row words said table_of table2 table3 table4
+unfolding all_lines window_table window_row cells_below window_of table cell k_text listed digits symbol_table title heading symbol_row words said table_of table2 table3 table4
 room_tested = tt
 
 room : (i : ℕ) → length (line_text i) ≤ 100
 unfolding line_text
 room i = lit≤ (every_at (λ l. leb (length l) 100) (map ended all_lines) [] room_tested tt i)
 
--- What `table_line` promises of its result, where line i was put on an empty line.
-pub promised : (i : ℕ) (r : Line) → r ≡ added (paged []) (line_text i) → (r ≡ paged (line_text i)) × IsPrefixLen r.size r.text
-promised i r = alone (line_text i) r (room i)
+-- Line i, put on an empty line, its newline after it.
+pub line_ended : (i : ℕ) → i < 56 → added (added [] (get_or all_lines i [])) (10 ∷ []) ≡ line_text i
+unfolding line_text all_lines window_table symbol_table table_of table2 table3 table4
+line_ended i h =
+    let e : line_text i ≡ ended (get_or all_lines i []) = entry ended all_lines i [] [] h in
+    added_append [] (get_or all_lines i []) (10 ∷ []) ∙ ap (added []) (sym e) ∙ added_alone (line_text i) (room i)
+
+-- There is no line 56.
+pub past_last : (i : ℕ) → 56 ≤ i → line_text i ≡ []
+unfolding line_text all_lines window_table symbol_table table_of table2 table3 table4
+past_last i h = get_or-eq_default (map ended all_lines) [] h

@@ -1,210 +1,176 @@
 // The text that the program `tables` prints: Table 10.1-1 of TS 36.213 from the rows that replies look up (`frame::window_of`),
-// Tables 10.1-2 to 10.1-4 from the rows that the engine's lookups are proved equal to (`symbols::table_row`).
+// Tables 10.1-2 to 10.1-4 from the rows that the engine's lookups are proved equal to (`symbols::table_of`).
 #![tactic(auto)]
 
 ghost use Rattle.std.specs.Prelude.{◌≤◌, ◌<◌, ◌≡◌, [], length, get_or};
 ghost use Rattle.frame.specs.Table.{window_of};
-ghost use Rattle.io.specs.Counts.{IsPrefixLen};
-ghost use Rattle.line.specs.Put.{paged, added};
-ghost use Rattle.symbols.specs.Coded.{blank_row};
-ghost use Rattle.symbols.specs.Selection.{table_of};
-ghost use Rattle.printing.specs.Column.{column_of};
-ghost use Rattle.printing.specs.Text.{cell, k_text, widths, window_row, window_table};
+ghost use Rattle.line.specs.Line.{added};
+ghost use Rattle.symbols.specs.Coded.{printed};
+ghost use Rattle.printing.specs.Text.{cell, word, k_text, window_row, window_table};
 ghost use Rattle.printing.specs.Text.{said, symbol_row, title, heading, symbol_table, all_lines, line_text};
 
-use line::{Line, digit, empty, put, put_labelled, put_listed, put_number, put_text};
-use symbols::Symbol;
+use line::{Line, digit};
+use symbols::{Cell, Symbol, TableRow};
 
-// The line with a text in a column, spaces after it up to the column's width.
-fn put_cell(p: Line, text: &[u8], width: usize) -> Line
-    ensures { result ≡ added p (cell width text.now) }
+// How many lines the text has.
+pub const LINES: u16 = 56;
+
+// Puts a text in a column on the line, spaces after it up to the column's width.
+#[tactic(auto, using(crate::proofs::Adding::cell_begun, crate::proofs::Adding::cell_more, crate::proofs::Adding::cell_done))]
+fn push_cell(line: &mut Line, text: &[u8], width: usize)
+    ensures { line.new ≡ added line.old (cell width text.now) }
 {
-    let mut line = put_text(p, text);
-    let mut m = text.len();
-    while m < width {
-        line = put(line, b' ');
-        m += 1;
+    line.extend_from_slice(text);
+    for _place in text.len()..width {
+        line.push(b' ');
     }
-    line
 }
 
 // K of subframe n in configuration c as printed.
+#[tactic(auto, using(crate::proofs::Windows::k_none, crate::proofs::Windows::k_some))]
 fn k_text(c: u16, n: u16) -> Line
-    ensures value { result ≡ paged (k_text (window_of c n)) }
-    ensures prefix_len { IsPrefixLen result.size result.text }
+    ensures { result ≡ k_text (window_of c n) }
 {
-    let w = frame::window_of(c, n);
-    if w.size == 0 {
-        return put(empty(), b'-');
+    let mut line = Line::new();
+    match frame::window_of(c, n) {
+        [] => line.push(b'-'),
+        [first, rest @ ..] => {
+            line.push_number(*first);
+            line.push_listed(", ", rest);
+        }
     }
-    let size = w.size as usize;
-    let k = w.k;
-    put_listed(put_number(empty(), k[0]), b", ", &k[1..size])
+    line
 }
 
 // The columns of subframes 0 to 9 of Table 10.1-1 have these widths.
 const WIDTHS: [usize; 10] = [3, 3, 31, 12, 6, 3, 3, 12, 3, 1];
 
-// The line with the column of subframe n.
-fn put_k(p: Line, c: u16, n: u16) -> Line
-    requires { n < 10 }
-    ensures { result ≡ added p (cell (get_or widths n 0) (k_text (window_of c n))) }
+// Puts the row of configuration c on the line.
+#[tactic(auto, using(crate::proofs::Adding::cells_none, crate::proofs::Adding::cells_more), unfolding(crate::specs::Text::window_row))]
+fn push_window_row(line: &mut Line, c: u16)
+    ensures { line.new ≡ added line.old (window_row c) }
 {
-    let k = k_text(c, n);
-    let size = k.size;
-    let text = k.text;
-    put_cell(p, &text[..size], WIDTHS[n as usize])
-}
-
-// The row of configuration c.
-fn window_row(c: u16) -> Line
-    ensures { result ≡ added (paged []) (window_row c) }
-{
-    let number = [digit(c)];
-    let mut line = put_cell(empty(), &number, 15);
-    let mut n: u16 = 0;
-    while n < 10 {
-        line = put_k(line, c, n);
-        n += 1;
+    push_cell(line, &[digit(c as u32)], 15);
+    for n in 0..10 {
+        push_cell(line, k_text(c, n).as_bytes(), WIDTHS[n as usize]);
     }
-    line
 }
 
-// Line i of Table 10.1-1: the title, the two lines of the heading, then the rows.
-fn window_line(i: u16) -> Line
+// Puts line i of Table 10.1-1 on the line: the title, the two lines of the heading, then the rows.
+#[tactic(auto, using(crate::proofs::Lines::window_row_line), unfolding(crate::specs::Text::window_table))]
+fn push_window_line(line: &mut Line, i: u16)
     requires { i < 10 }
-    ensures { result ≡ added (paged []) (get_or window_table i []) }
+    ensures { line.new ≡ added line.old (get_or window_table i []) }
 {
-    if i == 0 {
-        return put_text(
-            empty(),
-            b"Table 10.1-1: Downlink association set index K: {k_0, k_1, ..., k_(M-1)} for TDD",
-        );
+    match i {
+        0 => line.push_str(
+            "Table 10.1-1: Downlink association set index K: {k_0, k_1, ..., k_(M-1)} for TDD",
+        ),
+        1 => line.push_str("UL-DL          Subframe n"),
+        2 => line.push_str(
+            "Configuration  0  1  2                              3           4     5  6  7           8  9",
+        ),
+        _ => push_window_row(line, i - 3),
     }
-    if i == 1 {
-        return put_text(empty(), b"UL-DL          Subframe n");
-    }
-    if i == 2 {
-        return put_text(
-            empty(),
-            b"Configuration  0  1  2                              3           4     5  6  7           8  9",
-        );
-    }
-    window_row(i - 3)
 }
 
-// The line with a cell of Tables 10.1-2 to 10.1-4, in a column; a BLANK cell has none.
-fn put_word(p: Line, state: u16) -> Line
-    ensures { result ≡ added p (column_of state) }
+// A cell of Tables 10.1-2 to 10.1-4 as the print spells it.
+fn word(cell: Cell) -> &'static [u8]
+    ensures { result.now ≡ word cell }
 {
-    if state == symbols::ACK {
-        return put_cell(p, b"ACK", 13);
+    match cell {
+        Cell::Ack => b"ACK",
+        Cell::Nack => b"NACK",
+        Cell::Dtx => b"DTX",
+        Cell::NackDtx => b"NACK/DTX",
     }
-    if state == symbols::NACK {
-        return put_cell(p, b"NACK", 13);
-    }
-    if state == symbols::DTX {
-        return put_cell(p, b"DTX", 13);
-    }
-    if state == symbols::NACK_DTX {
-        return put_cell(p, b"NACK/DTX", 13);
-    }
-    p
 }
 
-// The line with what a row says: the resource, then the bits.
-fn put_said(p: Line, says: Symbol) -> Line
-    ensures { result ≡ added p (said says) }
+// Puts what a row says on the line: the resource, then the bits.
+#[tactic(auto, using(line::proofs::Adding::added_append), unfolding(crate::specs::Text::said))]
+fn push_said(line: &mut Line, says: Option<Symbol>)
+    ensures { line.new ≡ added line.old (said says) }
 {
     match says {
-        Symbol::Sent(i, b0, b1) => {
-            let resource = put_labelled(p, b"n_PUCCH,", i);
-            put_labelled(put_labelled(resource, b"    ", b0), b", ", b1)
+        Some(symbol) => {
+            line.push_labelled("n_PUCCH,", symbol.index);
+            line.push_labelled("    ", symbol.b0);
+            line.push_labelled(", ", symbol.b1);
         }
-        Symbol::Silent => put_text(put_cell(p, b"N/A", 13), b"N/A"),
+        None => {
+            push_cell(line, b"N/A", 13);
+            line.push_str("N/A");
+        }
     }
 }
 
-// Row i of the table for M = size.
-fn symbol_row(size: u16, i: u16) -> Line
-    ensures { result ≡ added (paged []) (symbol_row (get_or (table_of size) i blank_row)) }
+// Puts a row on the line: a column for each cell, then what the row says.
+#[tactic(auto, using(crate::proofs::Adding::words_more, crate::proofs::Adding::words_done))]
+fn push_symbol_row(line: &mut Line, row: &TableRow)
+    ensures { line.new ≡ added line.old (symbol_row (printed row.now)) }
 {
-    let row = symbols::table_row(size, i);
-    let cells = row.cells;
-    let says = row.says;
-    let two = put_word(put_word(empty(), cells[0]), cells[1]);
-    let four = put_word(put_word(two, cells[2]), cells[3]);
-    put_said(four, says)
+    for cell in row.cells {
+        push_cell(line, word(*cell), 13);
+    }
+    push_said(line, row.says);
 }
 
-// The title of the table for M = size.
-fn title_line(size: u16) -> Line
-    ensures { result ≡ added (paged []) (title size) }
+// Puts the title of the table for M = size on the line.
+fn push_title(line: &mut Line, size: u16)
+    ensures { line.new ≡ added line.old (title size) }
 {
-    let table = put_labelled(empty(), b"Table 10.1-", size);
-    put_labelled(
-        table,
-        b": Transmission of ACK/NACK multiplexing for M = ",
-        size,
-    )
+    line.push_labelled("Table 10.1-", size);
+    line.push_labelled(": Transmission of ACK/NACK multiplexing for M = ", size);
 }
 
-// The heading of the table for M = size: as many columns HARQ-ACK(i) as the table has.
-fn heading_line(size: u16) -> Line
+// Puts the heading of the table for M = size on the line: as many columns HARQ-ACK(i) as the table has.
+fn push_heading(line: &mut Line, size: u16)
     requires { size ≤ 4 }
-    ensures { result ≡ added (paged []) (heading size) }
+    ensures { line.new ≡ added line.old (heading size) }
 {
-    let states = *b"HARQ-ACK(0)  HARQ-ACK(1)  HARQ-ACK(2)  HARQ-ACK(3)  ";
-    let width = size as usize * 13;
-    put_text(
-        put_text(empty(), &states[..width]),
-        b"n_PUCCH      b(0), b(1)",
-    )
+    let columns = b"HARQ-ACK(0)  HARQ-ACK(1)  HARQ-ACK(2)  HARQ-ACK(3)  ";
+    line.extend_from_slice(&columns[..size as usize * 13]);
+    line.push_str("n_PUCCH      b(0), b(1)");
 }
 
-// Line i of the table for M = size: an empty line, the title, the heading, then the rows.
-fn symbol_line(size: u16, i: u16) -> Line
+// Puts line i of the table for M = size on the line: an empty line, the title, the heading, then the rows.
+#[tactic(auto, using(line::proofs::Adding::added_none, crate::proofs::Lines::row_inside, crate::proofs::Lines::row_line), unfolding(crate::specs::Text::symbol_table))]
+fn push_symbol_line(line: &mut Line, size: u16, i: u16)
     requires size_bound { size ≤ 4 }
     requires i_in_bounds { i < length (symbol_table size) }
-    ensures { result ≡ added (paged []) (get_or (symbol_table size) i []) }
+    ensures { line.new ≡ added line.old (get_or (symbol_table size) i []) }
 {
-    if i == 0 {
-        return empty();
+    match i {
+        0 => (),
+        1 => push_title(line, size),
+        2 => push_heading(line, size),
+        _ => push_symbol_row(line, &symbols::table_of(size)[usize::from(i - 3)]),
     }
-    if i == 1 {
-        return title_line(size);
-    }
-    if i == 2 {
-        return heading_line(size);
-    }
-    symbol_row(size, i - 3)
 }
 
-// Line i of the 56 of the text, without its newline.
-fn unended(i: u16) -> Line
+// Puts line i of the text on the line, without its newline.
+#[tactic(auto, using(crate::proofs::Lines::in1, crate::proofs::Lines::in2, crate::proofs::Lines::in3, crate::proofs::Lines::in4, crate::proofs::Lines::lines2, crate::proofs::Lines::lines3, crate::proofs::Lines::lines4))]
+fn push_unended(line: &mut Line, i: u16)
     requires { i < 56 }
-    ensures { result ≡ added (paged []) (get_or all_lines i []) }
+    ensures { line.new ≡ added line.old (get_or all_lines i []) }
 {
-    if i < 10 {
-        return window_line(i);
+    match i {
+        0..10 => push_window_line(line, i),
+        10..19 => push_symbol_line(line, 2, i - 10),
+        19..33 => push_symbol_line(line, 3, i - 19),
+        _ => push_symbol_line(line, 4, i - 33),
     }
-    if i < 19 {
-        return symbol_line(2, i - 10);
-    }
-    if i < 33 {
-        return symbol_line(3, i - 19);
-    }
-    symbol_line(4, i - 33)
 }
 
-// Line i of the whole text, from 0, its newline included; size 0 past the last line.
-// The second promise follows from the first; with it a caller may lend `&text[..size]`.
+// Line i of the whole text, from 0, its newline included; no text past the last line.
+#[tactic(auto, using(crate::proofs::Lines::line_ended, crate::proofs::Lines::past_last))]
 pub fn table_line(i: u16) -> Line
-    ensures value { result ≡ paged (line_text i) }
-    ensures prefix_len { IsPrefixLen result.size result.text }
+    ensures { result ≡ line_text i }
 {
-    if 55 < i {
-        return empty();
+    let mut line = Line::new();
+    if i < LINES {
+        push_unended(&mut line, i);
+        line.push(b'\n');
     }
-    put(unended(i), b'\n')
+    line
 }

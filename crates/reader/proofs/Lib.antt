@@ -1,1 +1,2 @@
 pub mod Given
+pub mod Left

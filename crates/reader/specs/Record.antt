@@ -1,11 +1,9 @@
 -- A record of a trace, and what of it is used: document 02, U3, whose sentences stand above the definitions.
 -- Assumes nothing.
-use Rattle.std.specs.Prelude.{ℕ, zero, suc, ◌+◌, ◌/◌, ◌%◌, cond, List, eqb, ltb, leb}
+use Rattle.std.specs.Prelude.{ℕ, zero, suc, ◌+◌, ◌/◌, ◌%◌, cond, List, Option, Some, None, Result, Ok, Err, eqb, ltb, leb}
 use Rattle.heard.specs.declared.Heard.{Heard}
 use Rattle.heard.specs.declared.Slot.{Slot}
 use Rattle.heard.specs.Memory.{none, heard_in}
-use Rattle.reader.specs.declared.Record.{Record}
-use Rattle.reader.specs.declared.Record.TheVariants.{Refused, At, End}
 use Rattle.trace.specs.Trace.{byte_at, header_of, parts_refusal, place_of}
 
 -- "A record takes four: kind (0 nothing, 1 grant, 2 scheduled, 3 release), first CCE, DAI, results (bit 0 first block, bit 1 second,
@@ -38,14 +36,15 @@ unfoldable pub brought_at : List ℕ → ℕ → Heard
 brought_at l i = brought_by (record_slot l i)
 
 -- A record that is read: what of it is used, or 22 for its kind.
-unfoldable pub read_as : Slot → Record
-read_as t = cond (leb t.kind 3) (At (used_in t)) (Refused 22)
+unfoldable pub read_as : Slot → Result (Option Slot) ℕ
+read_as t = cond (leb t.kind 3) (Ok (Some (used_in t))) (Err 22)
 
-abbrev pub refused_or : ℕ → Record → Record
+-- A refusal, or where it is 0 what is read.
+abbrev pub refused_or : ℕ → Result (Option Slot) ℕ → Result (Option Slot) ℕ
 refused_or zero read = read
-refused_or (suc k) read = Refused (suc k)
+refused_or (suc k) read = Err (suc k)
 
--- The record of number i of any bytes: 21, or 22 for their parts; the end where there are no more than i records; else record i, or
--- 22 for its own kind.
-unfoldable pub record_of : List ℕ → ℕ → Record
-record_of l i = refused_or (parts_refusal l) (cond (ltb i (header_of l).records) (read_as (record_slot l i)) End)
+-- The record of number i of any bytes: 21, or 22 for their parts; none, the end, where there are no more than i records; else record i,
+-- or 22 for its own kind.
+unfoldable pub record_of : List ℕ → ℕ → Result (Option Slot) ℕ
+record_of l i = refused_or (parts_refusal l) (cond (ltb i (header_of l).records) (read_as (record_slot l i)) (Ok None))

@@ -3,24 +3,17 @@
 
 mod records;
 
-ghost use Rattle.std.specs.Prelude.{◌≡◌};
-ghost use Rattle.reader.specs.Reading.{following_of, heard_of};
+ghost use Rattle.std.specs.Prelude.{◌≡◌, ◌<◌, IfOk, IfSome};
+ghost use Rattle.frame.specs.Refusals.{numbered};
+ghost use Rattle.reader.specs.Reading.{following_of};
 ghost use Rattle.reader.specs.Record.{record_of};
 
-use heard::{Heard, Slot};
-pub use records::{heard_in, record_at};
+use frame::Refusal;
+use heard::Slot;
+pub use records::record_at;
 
-// What a reader gives: the refusal, 21 or 22; a record, every field and bit that its kind does not use being 0; or the end.
-#[derive(Clone, Copy)]
-pub enum Record {
-    Refused(u16),
-    At(Slot),
-    End,
-}
-
-// A lent trace and the number of the next record, from 0. The functions over it take the struct apart and put it together; the work
-// is in `record_at`, on a plain slice.
-#[derive(Clone, Copy)]
+// A lent trace and the number of the next record, from 0.
+#[derive(Clone, Debug, Drop)]
 pub struct Reader<'a> {
     pub trace: &'a [u8],
     pub next: usize,
@@ -34,61 +27,38 @@ impl<'a> Reader<'a> {
         Reader { trace, next: 0 }
     }
 
-    // The next record, for any bytes and any number: 21, 22, the record or the end.
-    pub fn read(self) -> Record
-        ensures { result ≡ record_of self.entry.trace.now self.entry.next }
+    // The next record, for any bytes and any number: 21, 22, the record, every field and bit that its kind does not use being 0, or
+    // none at the end. No trace has more records than a number of 16 bits counts.
+    pub fn read(&self) -> Result<Option<Slot>, Refusal>
+        ensures value { numbered result ≡ record_of self.now.trace.now self.now.next }
+        ensures few { IfOk result (λ found. IfSome found (λ _. self.now.next < 65536)) }
     {
         record_at(self.trace, self.next)
     }
 
-    // The reader at the record after.
-    pub fn advanced(self) -> Reader<'a>
-        ensures { (result.trace ≡ self.entry.trace) × (result.next ≡ following_of self.entry.next) }
+    // Goes to the record after. The greatest number stays, which is past the records of every trace.
+    #[tactic(auto, unfolding(crate::specs::Reading::following_of))]
+    pub fn advance(&mut self)
+        ensures { (self.new.trace ≡ self.old.trace) × (self.new.next ≡ following_of self.old.next) }
     {
-        Reader {
-            trace: self.trace,
-            next: following(self.next),
-        }
+        self.next = self.next.saturating_add(1);
     }
 }
 
-// The number after i; the greatest number stays, which is past the records of every trace.
-fn following(i: usize) -> usize
-    ensures { result ≡ following_of i }
-{
-    if i < 18446744073709551615 {
-        return i + 1;
-    }
-    i
-}
+// The records from the next one on, up to the end or the first that is refused.
+impl Iterator for Reader<'_> {
+    ghost use Rattle.std.specs.Iterator.{YieldsFirst, item_count};
+    ghost use Rattle.reader.specs.Reading.{records_left};
 
-// The replay asks by what follows: parameters and results are plain, so what calls these functions needs no struct. Each makes a reader
-// and asks it: the number at which it begins, what it gives at a number, and the number after.
-pub fn first_number(trace: &[u8]) -> usize
-    ensures { result ≡ 0 }
-{
-    Reader::new(trace).next
-}
+    type Item = Slot;
 
-pub fn number_after(trace: &[u8], next: usize) -> usize
-    ensures { result ≡ following_of next }
-{
-    Reader { trace, next }.advanced().next
-}
+    ghost next_gives = { YieldsFirst records_left };
 
-pub fn read_at(trace: &[u8], next: usize) -> Record
-    ensures { result ≡ record_of trace.now next }
-{
-    Reader { trace, next }.read()
-}
+    ghost remaining = { item_count records_left };
 
-// What the record of number i brings the handset, by the reader; nothing where it gives no record.
-pub fn heard_at(trace: &[u8], i: usize) -> Heard
-    ensures { result ≡ heard_of (record_of trace.now i) }
-{
-    match read_at(trace, i) {
-        Record::Refused(_) => Heard::Nothing,
-        Record::At(t) => heard_in(t),
-        Record::End => Heard::Nothing,
+    fn next(&mut self) -> Option<Slot> {
+        let record = self.read().ok().flatten()?;
+        self.advance();
+        Some(record)
     }
 }

@@ -1,13 +1,14 @@
 // One record: where it stands, and what of it is used.
-ghost use Rattle.std.specs.Prelude.{◌<◌, ◌^◌, ◌≡◌};
-ghost use Rattle.heard.specs.Memory.{blocks_in, heard_in};
-ghost use Rattle.reader.specs.Record.{slot_at, used_results, used_in, read_as, record_of};
+ghost use Rattle.std.specs.Prelude.{◌<◌, ◌^◌, ◌≡◌, cond, leb, IfOk, IfSome};
+ghost use Rattle.frame.specs.Refusals.{refusal_in, numbered};
+ghost use Rattle.heard.specs.Kinds.{kind_number};
+ghost use Rattle.reader.specs.Record.{slot_at, used_results, used_in, record_of};
 
-use crate::Record;
-use heard::{Grant, Heard, Release, ScheduledBlock, Slot};
-use resource::Cce;
+use frame::Refusal;
+use heard::{Slot, SlotKind};
 
 // The four bytes from `at` on.
+#[tactic(auto, unfolding(crate::specs::Record::slot_at))]
 fn slot_at(trace: &[u8], at: usize) -> Slot
     requires { at < 2 ^ 32 }
     ensures { result ≡ slot_at trace.now at }
@@ -21,116 +22,62 @@ fn slot_at(trace: &[u8], at: usize) -> Slot
 }
 
 // The bits of the results that count: the second block's only with two blocks.
+#[tactic(auto, unfolding(crate::specs::Record::used_results))]
 fn used_results(results: u8) -> u8
     ensures { result ≡ used_results results }
 {
     if results / 4 % 2 == 1 {
-        return 4 + results % 4;
+        4 + results % 4
+    } else {
+        results % 2
     }
-    results % 2
 }
 
-// A record with every field and bit that its kind does not use at 0.
-fn used_in(t: Slot) -> Slot
+// The kind of a record; 22 for one over 3.
+fn kind_of(t: Slot) -> Result<SlotKind, Refusal>
+    ensures refused { refusal_in result ≡ cond (leb t.kind 3) 0 22 }
+    ensures value { IfOk result (λ kind. kind_number kind ≡ t.kind) }
+{
+    SlotKind::try_from(t.kind).map_err(|_| Refusal::TraceParts)
+}
+
+// A record of this kind with every field and bit that the kind does not use at 0.
+#[tactic(auto, unfolding(crate::specs::Record::used_in))]
+fn used_in(kind: SlotKind, t: Slot) -> Slot
+    requires { kind_number kind ≡ t.kind }
     ensures { result ≡ used_in t }
 {
     let results = used_results(t.results);
-    if t.kind == 1 {
-        return Slot {
-            kind: 1,
-            cce: t.cce,
-            dai: t.dai,
-            results,
-        };
-    }
-    if t.kind == 2 {
-        return Slot {
-            kind: 2,
+    match kind {
+        SlotKind::Nothing => Slot {
+            cce: 0,
+            dai: 0,
+            results: 0,
+            ..t
+        },
+        SlotKind::Grant => Slot { results, ..t },
+        SlotKind::Block => Slot {
             cce: 0,
             dai: 0,
             results,
-        };
+            ..t
+        },
+        SlotKind::Release => Slot { results: 0, ..t },
     }
-    if t.kind == 3 {
-        return Slot {
-            kind: 3,
-            cce: t.cce,
-            dai: t.dai,
-            results: 0,
-        };
-    }
-    Slot {
-        kind: 0,
-        cce: 0,
-        dai: 0,
-        results: 0,
-    }
-}
-
-// What of a record is used, or 22 for its kind.
-fn read_as(t: Slot) -> Record
-    ensures { result ≡ read_as t }
-{
-    if 3 < t.kind {
-        return Record::Refused(22);
-    }
-    Record::At(used_in(t))
 }
 
 // The record of number i, for any bytes and any number.
-pub fn record_at(trace: &[u8], i: usize) -> Record
-    ensures { result ≡ record_of trace.now i }
+#[tactic(auto, unfolding(crate::specs::Record::record_of, crate::specs::Record::record_slot, crate::specs::Record::read_as))]
+pub fn record_at(trace: &[u8], i: usize) -> Result<Option<Slot>, Refusal>
+    ensures value { numbered result ≡ record_of trace.now i }
+    ensures few { IfOk result (λ found. IfSome found (λ _. i < 65536)) }
 {
-    let refusal = trace::parts_refusal(trace);
-    if refusal != 0 {
-        return Record::Refused(refusal);
+    trace::check_parts(trace)?;
+    let header = trace::header_of(trace);
+    if header.records as usize <= i {
+        return Ok(None);
     }
-    let h = trace::header_of(trace);
-    let records = h.records as usize;
-    if i < records {
-        let first = h.first as usize;
-        return read_as(slot_at(trace, first + 4 * i));
-    }
-    Record::End
-}
-
-// The blocks carried.
-fn blocks_in(t: Slot) -> u16
-    ensures { result ≡ blocks_in t }
-{
-    if t.results / 4 % 2 == 1 {
-        return 2;
-    }
-    1
-}
-
-// What four such numbers say was heard.
-pub fn heard_in(t: Slot) -> Heard
-    ensures { result ≡ heard_in t }
-{
-    let blocks = blocks_in(t);
-    let first = t.results % 2 == 1;
-    let second = t.results / 2 % 2 == 1;
-    let cce = Cce::new(t.cce as u16);
-    let dai = t.dai as u16;
-    if t.kind == 1 {
-        return Heard::Granted(Grant {
-            blocks,
-            first,
-            second,
-            cce,
-            dai,
-        });
-    }
-    if t.kind == 2 {
-        return Heard::Scheduled(ScheduledBlock {
-            blocks,
-            first,
-            second,
-        });
-    }
-    if t.kind == 3 {
-        return Heard::Released(Release { cce, dai });
-    }
-    Heard::Nothing
+    let record = slot_at(trace, header.first as usize + 4 * i);
+    let kind = kind_of(record)?;
+    Ok(Some(used_in(kind, record)))
 }

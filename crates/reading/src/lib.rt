@@ -9,7 +9,8 @@ use std::io;
 use std::io::Read;
 
 // Reads until `buf` is full or the input ends, and returns how many bytes it put at the start of `buf`. It ends with the error of the
-// first read that fails. On an empty `buf` it makes no call. A pipe gives its bytes in pieces: what is not full is read again.
+// first read that fails. On an empty `buf` it makes no call. A pipe gives its bytes in pieces: what is not full is read again, in a
+// `while`, since std has no call for this: `read_exact` fails where the input ends first, and `read_to_end` fills a `Vec`, which is heap.
 pub fn read_full<R: Read>(reader: &mut R, buf: &mut [u8]) -> io::Result<usize>
     ensures bound { ReadsAtMost result buf.new }
     ensures bytes { IfOk result (λ n. Consumes (R.remaining reader.old) (R.remaining reader.new) (take n buf.new)) }

@@ -1,5 +1,6 @@
 -- The lines that are printed of a recorded drive: specs/Lines.antt, proved. Assumes nothing.
-use Prim.Native.Nat.{ℕ, ◌+◌, ◌*◌, ◌/◌, ◌%◌, ◌≤◌}
+use Rattle.std.proofs.Common.{Result, Ok, Err}
+use Prim.Native.Nat.{ℕ, ◌*◌, ◌/◌, ◌%◌, ◌≤◌}
 use mathlib.Core.List.{List, ◌++◌}
 use mathlib.Core.Path.{◌≡◌, sym, ap, ◌∙◌}
 use native.Mathlib.Decide.{dec_le}
@@ -8,8 +9,9 @@ use lib.ListN.{length, take, drop, length-drop}
 use lib.Seq.{take_all, take-append-le, drop-append-le}
 use Rattle.frame.specs.Settings.{settings_refusal}
 use Rattle.counting.specs.Windows.{windows_before}
+use Rattle.reply.specs.Kinds.{kind_number}
 use Rattle.reply.specs.declared.Answer.{Answer}
-use Rattle.reply.specs.declared.Answer.TheVariants.{Taken, NoWindow, Silent, Sent, Refused}
+use Rattle.reply.specs.declared.Answer.TheVariants.{Taken, NoWindow, Silent, Sent}
 use Rattle.trace.specs.Trace.{settings_of}
 use Rattle.replaying.specs.Replay.{played_in, written, output_of}
 use Rattle.replaying.specs.Written.{bytes_of}
@@ -35,14 +37,14 @@ inside at bytes rest e =
     rw (drop-append-le at bytes rest (omega (arith, room, length-drop at bytes)), take-append-le 8 (drop at bytes) rest room)
 
 -- The line of a subframe, from its bytes.
-from_bytes : (l out : List ℕ) (w i : ℕ) (a : Answer) → frame_of (settings_of l).config w ≡ i / 10 → take 8 (drop (8 * w) out) ≡ bytes_of (i % 10) a
+from_bytes : (l out : List ℕ) (w i : ℕ) (a : Result Answer ℕ) → frame_of (settings_of l).config w ≡ i / 10 → take 8 (drop (8 * w) out) ≡ bytes_of (i % 10) a
     → length (bytes_of (i % 10) a) ≡ 8 → window_text l out w ≡ answer_line i a
-from_bytes l out w i Silent frame e size = line_named l out w _ _ _ _ _ e ∙ ap (λ (f : ℕ). line_text f (i % 10) 0 0 0 0) frame
-from_bytes l out w i (Sent r) frame e size =
-    line_named l out w _ _ _ _ _ e ∙ ap (λ (f : ℕ). line_text f (i % 10) r.kind r.resource.0 r.b0 r.b1) frame
-from_bytes l out w i Taken frame e size = absurd (omega arith)
-from_bytes l out w i NoWindow frame e size = absurd (omega arith)
-from_bytes l out w i (Refused k) frame e size = absurd (omega arith)
+from_bytes l out w i (Ok Silent) frame e size = line_named l out w _ _ _ _ _ e ∙ ap (λ (f : ℕ). line_text f (i % 10) 0 0 0 0) frame
+from_bytes l out w i (Ok (Sent r)) frame e size =
+    line_named l out w _ _ _ _ _ e ∙ ap (λ (f : ℕ). line_text f (i % 10) (kind_number r.kind) r.resource.0 r.b0 r.b1) frame
+from_bytes l out w i (Ok Taken) frame e size = absurd (omega arith)
+from_bytes l out w i (Ok NoWindow) frame e size = absurd (omega arith)
+from_bytes l out w i (Err k) frame e size = absurd (omega arith)
 
 pub lines_right : (l : List ℕ) → settings_refusal (settings_of l) ≡ 0 → LinesRight l
 lines_right l good old start i h none has =

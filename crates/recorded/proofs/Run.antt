@@ -1,5 +1,6 @@
 -- The feeds of a replay are a run of demand 3: specs/Run.antt, proved.
 -- Assumes nothing.
+use Rattle.std.proofs.Common.{Result}
 use Prim.Native.Nat.{ℕ, zero, suc, ◌+◌, ◌-◌, ◌*◌, ◌%◌, ◌<◌, ◌≤◌, suc-le-suc}
 use mathlib.Core.Bool.{Bool, true, false, cond}
 use mathlib.Core.List.{List, [], ◌∷◌}
@@ -18,15 +19,12 @@ use Rattle.counting.specs.Windows.{has_window, windows_before}
 use Rattle.counting.proofs.Frames.{windows_rise}
 use Rattle.heard.specs.declared.Heard.{Heard}
 use Rattle.heard.specs.declared.Heard.TheVariants.{Nothing}
-use Rattle.heard.specs.Memory.{view_ago}
 use Rattle.reply.specs.declared.Answer.{Answer}
-use Rattle.reply.specs.declared.Answer.TheVariants as answer
-use Rattle.handset.specs.declared.Fed.{Fed}
+use Rattle.handset.specs.Feed.{Fed}
 use Rattle.handset.specs.declared.Handset.{Handset}
-use Rattle.handset.specs.Feed.{window_settings, next_answer, feed_of}
+use Rattle.handset.specs.Feed.{feed_of}
 use Rattle.handset.specs.Change.{change_of}
 use Rattle.handset.specs.Make.{make_of}
-use Rattle.handset.proofs.Told.{never_refused}
 use Rattle.reader.specs.Record.{brought_at}
 use Rattle.trace.specs.Trace.{header_of, settings_at, settings_of}
 use Rattle.replaying.specs.Replay.{refusal_in, brought_in, Played, after as behind, stop_or, played, played_in, start_refusal, ended_as, replay_of, written, output_of}
@@ -41,25 +39,13 @@ use Rattle.agreement.proofs.Memory.{ValidPast, unchanged, accepted_unchanged, re
 use Rattle.agreement.proofs.SameModes.{AllFeeds, made_settings}
 use Rattle.recorded.specs.Run.{unless_refused, feeds_from, run_of, answer_to, bytes_from, IsRun}
 
-not_refused : (a : Answer) → ((k : ℕ) → a ≡ answer.Refused k → ⊥) → refusal_in a ≡ 0
-not_refused answer.Taken h = refl
-not_refused answer.NoWindow h = refl
-not_refused answer.Silent h = refl
-not_refused (answer.Sent r) h = refl
-not_refused (answer.Refused k) h = absurd (h k refl)
-
--- A feed that is not refused has another answer.
-next_answered : (h : Handset) → refusal_in (next_answer h) ≡ 0
-unfolding next_answer
-next_answered h = not_refused _ (never_refused (window_settings h) h.next (view_ago h.past))
-
 module _ (set : Settings) (good : settings_refusal set ≡ 0) where
   -- The refusal of a feed after a history is the history's cause.
   refusal_after : (l : List Heard) → ValidPast set l → (x : Heard) → refusal_in (feed_of (unchanged set l) x).answer ≡ cause_after set l x
   refusal_after l valid x = go (cause_after set l x) refl
     where
       go : (k : ℕ) → cause_after set l x ≡ k → refusal_in (feed_of (unchanged set l) x).answer ≡ k
-      go zero e = rw (accepted_unchanged set good l valid x e) (next_answered (unchanged set l))
+      go zero e = rw (accepted_unchanged set good l valid x e) refl
       go (suc k) e = rw (refused_unchanged set good l valid x (λ z. omega arith)) e
 
   -- A record after a history: taken up, it is remembered and the next one comes; refused, it is the last.
@@ -143,7 +129,7 @@ module _ (set : Settings) (good : settings_refusal set ≡ 0) where
       go (suc k) next = inr (omega arith)
 
   -- What is printed is what the feeds answer, one after the other.
-  bytes_along : (xs l : List Heard) → ValidPast set l → (answers : ℕ → Answer)
+  bytes_along : (xs l : List Heard) → ValidPast set l → (answers : ℕ → Result Answer ℕ)
       → ((i : ℕ) → i < length (feeds_from (unchanged set l) xs)
       → answers (length l + i) ≡ (feed_of (handset_after feed_of change_of (unchanged set l) (take i (feeds_from (unchanged set l) xs))) (get_or xs i Nothing)).answer)
       → (played (unchanged set l) (length l) xs).bytes ≡ bytes_from answers (length l) (length (feeds_from (unchanged set l) xs))
@@ -151,7 +137,7 @@ module _ (set : Settings) (good : settings_refusal set ≡ 0) where
   bytes_along (x ∷ xs) l valid answers each = go (cause_after set l x) refl (bytes_along xs (x ∷ l))
     where
       go : (k : ℕ) → cause_after set l x ≡ k
-          → (ValidPast set (x ∷ l) → (answers : ℕ → Answer)
+          → (ValidPast set (x ∷ l) → (answers : ℕ → Result Answer ℕ)
           → ((i : ℕ) → i < length (feeds_from (unchanged set (x ∷ l)) xs)
           → answers (suc (length l) + i) ≡ (feed_of (handset_after feed_of change_of (unchanged set (x ∷ l)) (take i (feeds_from (unchanged set (x ∷ l)) xs))) (get_or xs i Nothing)).answer)
           → (played (unchanged set (x ∷ l)) (suc (length l)) xs).bytes ≡ bytes_from answers (suc (length l)) (length (feeds_from (unchanged set (x ∷ l)) xs)))
@@ -170,7 +156,7 @@ module _ (set : Settings) (good : settings_refusal set ≡ 0) where
           rw (plays_last x xs l valid k e, feeds_last x xs l valid k e, here, refused_unchanged set good l valid x (λ z. omega arith))
 
   -- The window of a subframe that is taken up stands behind those of the subframes before it.
-  window_at_holds : (xs l : List Heard) → ValidPast set l → (answers : ℕ → Answer)
+  window_at_holds : (xs l : List Heard) → ValidPast set l → (answers : ℕ → Result Answer ℕ)
       → ((i : ℕ) → i < length (feeds_from (unchanged set l) xs)
       → answers (length l + i) ≡ (feed_of (handset_after feed_of change_of (unchanged set l) (take i (feeds_from (unchanged set l) xs))) (get_or xs i Nothing)).answer)
       → (j : ℕ) → j < length (feeds_from (unchanged set l) xs) → refusal_in (answers (length l + j)) ≡ 0 → has_window set.config ((length l + j) % 10) ≡ true
@@ -182,7 +168,7 @@ module _ (set : Settings) (good : settings_refusal set ≡ 0) where
     where
       go : (k : ℕ) → cause_after set l x ≡ k → (j : ℕ) → j < length (feeds_from (unchanged set l) (x ∷ xs)) → refusal_in (answers (length l + j)) ≡ 0
           → has_window set.config ((length l + j) % 10) ≡ true
-          → (ValidPast set (x ∷ l) → (answers : ℕ → Answer)
+          → (ValidPast set (x ∷ l) → (answers : ℕ → Result Answer ℕ)
           → ((i : ℕ) → i < length (feeds_from (unchanged set (x ∷ l)) xs)
           → answers (suc (length l) + i) ≡ (feed_of (handset_after feed_of change_of (unchanged set (x ∷ l)) (take i (feeds_from (unchanged set (x ∷ l)) xs))) (get_or xs i Nothing)).answer)
           → (j : ℕ) → j < length (feeds_from (unchanged set (x ∷ l)) xs) → refusal_in (answers (suc (length l) + j)) ≡ 0 → has_window set.config ((suc (length l) + j) % 10) ≡ true

@@ -37,6 +37,7 @@
 --              scheduled: its DAI kept                                          not_keeps_dai
 --              release: a record copied as it is                                not_copies_release
 -- Assumes nothing.
+use Rattle.std.proofs.Common.{Option, Some, None, Result, Ok, Err}
 use Prim.Native.Nat.{ℕ, zero, suc, ◌+◌, ◌-◌, ◌%◌}
 use mathlib.Core.Bool.{Bool, true, cond, ◌&&◌}
 use mathlib.Core.List.{List, [], ◌∷◌, ◌++◌}
@@ -52,16 +53,12 @@ use Rattle.heard.specs.declared.Slot.{Slot}
 use Rattle.heard.specs.Memory.{slot_of, none}
 use Rattle.trace.specs.declared.Header.{Header}
 use Rattle.trace.specs.Trace.{number_bytes, header_of, settings_of}
-use Rattle.reader.specs.declared.Record.{Record}
-use Rattle.reader.specs.declared.Record.TheVariants.{Refused, At, End}
 use Rattle.reader.specs.Record.{used_in, record_slot, read_as, record_of}
 use Rattle.replaying.specs.Accepted.{AcceptedTrace}
-use Rattle.replaying.specs.declared.Replayed.{Replayed}
-use Rattle.replaying.specs.Replay.{written, output_as}
-use Rattle.spelling.specs.declared.Written.{Written}
+use Rattle.replaying.specs.Replay.{Replayed, written, output_as}
 use Rattle.spelling.specs.OneSpelling.{Writer, Bytes, OneSpelling}
 use Rattle.spelling.specs.Spelling.{spelled_size, header_bytes, settings_bytes, slot_bytes, spelling_of}
-use Rattle.spelling.specs.Writing.{write_of, spelled_into}
+use Rattle.spelling.specs.Writing.{Written, write_of, spelled_into}
 use Rattle.recorded.proofs.Spelled.{spellings, elsewhere, alike, missed, unlike, empty}
 use Rattle.recorded.proofs.Worked.{settings, drive, stopped}
 
@@ -374,10 +371,10 @@ pub not_backwards_read : OneSpelling (writing turned) → ⊥
 unfolding spellings read_as record_of
 not_backwards_read s = omega (arith, ap kind_read (s.read pair (replicate 26 9) refl 0))
   where
-    kind_read : Record → ℕ
-    kind_read (Refused k) = 9
-    kind_read (At t) = t.kind
-    kind_read End = 9
+    kind_read : Result (Option Slot) ℕ → ℕ
+    kind_read (Err k) = 9
+    kind_read (Ok (Some t)) = t.kind
+    kind_read (Ok None) = 9
 
 pub not_backwards_brought : OneSpelling (writing turned) → ⊥
 unfolding spellings

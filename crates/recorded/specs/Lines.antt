@@ -1,10 +1,11 @@
 -- What the program `replay-text` prints of a recorded drive, said of the run: a line names the frame and the subframe in which its
 -- window was answered, and what was answered there.
 -- Assumes nothing.
-use Rattle.std.specs.Prelude.{ℕ, ◌/◌, ◌%◌, ◌<◌, true, List, [], ◌≡◌, length}
+use Rattle.std.specs.Prelude.{Result, Ok, Err, ℕ, ◌/◌, ◌%◌, ◌<◌, true, List, [], ◌≡◌, length}
 use Rattle.counting.specs.Windows.{has_window, windows_before}
+use Rattle.reply.specs.Kinds.{kind_number}
 use Rattle.reply.specs.declared.Answer.{Answer}
-use Rattle.reply.specs.declared.Answer.TheVariants.{Taken, NoWindow, Silent, Sent, Refused}
+use Rattle.reply.specs.declared.Answer.TheVariants.{Taken, NoWindow, Silent, Sent}
 use Rattle.trace.specs.Trace.{settings_of}
 use Rattle.reader.specs.Record.{brought_at}
 use Rattle.replaying.specs.Replay.{start_refusal, output_of}
@@ -13,12 +14,12 @@ use Rattle.agreement.specs.Demand3.{cause_at}
 use Rattle.recorded.specs.Run.{run_of, answer_to}
 
 -- The line of what subframe i was answered.
-abbrev pub answer_line : ℕ → Answer → List ℕ
-answer_line i Silent = line_text (i / 10) (i % 10) 0 0 0 0
-answer_line i (Sent r) = line_text (i / 10) (i % 10) r.kind r.resource.0 r.b0 r.b1
-answer_line i Taken = []
-answer_line i NoWindow = []
-answer_line i (Refused k) = []
+abbrev pub answer_line : ℕ → Result Answer ℕ → List ℕ
+answer_line i (Ok Silent) = line_text (i / 10) (i % 10) 0 0 0 0
+answer_line i (Ok (Sent r)) = line_text (i / 10) (i % 10) (kind_number r.kind) r.resource.0 r.b0 r.b1
+answer_line i (Ok Taken) = []
+answer_line i (Ok NoWindow) = []
+answer_line i (Err k) = []
 
 -- Subframe i completes window number windows_before c i; its line says what it was answered.
 abbrev pub LinesRight : List ℕ → Type 0

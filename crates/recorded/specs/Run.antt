@@ -1,7 +1,7 @@
 -- The feeds of a replay are a run of demand 3: document 02, U3, "The replay equals the feeds one by one". So what demand 3 says of a
 -- run it says of what a replay prints.
 -- Assumes nothing.
-use Rattle.std.specs.Prelude.{ℕ, zero, suc, ◌*◌, ◌%◌, ◌<◌, true, cond, List, [], ◌∷◌, ◌++◌, ◌≡◌, eqb, length, take, drop}
+use Rattle.std.specs.Prelude.{Result, ℕ, zero, suc, ◌*◌, ◌%◌, ◌<◌, true, cond, List, [], ◌∷◌, ◌++◌, ◌≡◌, eqb, length, take, drop}
 use Rattle.frame.specs.Settings.{ports_refusal}
 use Rattle.counting.specs.Windows.{has_window, windows_before}
 use Rattle.confirmation.specs.declared.Send.{Send}
@@ -32,11 +32,11 @@ unfoldable pub run_of : List ℕ → List Item
 run_of l = feeds_from (make_of (settings_of l)).handset (brought_in l)
 
 -- What the run answers to record i.
-abbrev pub answer_to : List ℕ → ℕ → Answer
+abbrev pub answer_to : List ℕ → ℕ → Result Answer ℕ
 answer_to l i = (fed_at feedback_engine (settings_of l) (run_of l) i (brought_at l i)).answer
 
 -- The bytes that `count` answers give, from that of subframe i on.
-abbrev pub bytes_from : (ℕ → Answer) → ℕ → ℕ → List ℕ
+abbrev pub bytes_from : (ℕ → Result Answer ℕ) → ℕ → ℕ → List ℕ
 bytes_from answers i zero = []
 bytes_from answers i (suc count) = bytes_of (i % 10) (answers i) ++ bytes_from answers (suc i) count
 

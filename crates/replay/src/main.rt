@@ -12,8 +12,9 @@ fn main(rt: HostRuntime) -> io::Result<()> {
     let replayed = replaying::replay(&input[..n], &mut out);
     let size = 8 * replayed.windows as usize;
     rt.stdout().write_all(&out[..size])?;
-    let line = reporting::refusal_line(replayed.refusal, replayed.kind, replayed.number);
-    let length = line.size;
-    let text = line.text;
-    rt.stderr().write_all(&text[..length])
+    if let Err(stop) = replayed.end {
+        rt.stderr()
+            .write_all(reporting::refusal_line(stop).as_bytes())?;
+    }
+    Ok(())
 }

@@ -8,18 +8,16 @@ use std::io::Write;
 fn main(rt: HostRuntime) -> io::Result<()> {
     let mut input = [0u8; 65536];
     let n = reading::read_full(&mut rt.stdin(), &mut input)?;
+    let trace = &input[..n];
     let mut out = [0u8; 65536];
-    let replayed = replaying::replay(&input[..n], &mut out);
-    let mut w: u16 = 0;
-    while w < replayed.windows {
-        let line = reporting::window_line(&input[..n], &out, w);
-        let length = line.size;
-        let text = line.text;
-        rt.stdout().write_all(&text[..length])?;
-        w += 1;
+    let replayed = replaying::replay(trace, &mut out);
+    for w in 0..replayed.windows {
+        let line = reporting::window_line(trace, &out, w);
+        rt.stdout().write_all(line.as_bytes())?;
     }
-    let line = reporting::refusal_line(replayed.refusal, replayed.kind, replayed.number);
-    let length = line.size;
-    let text = line.text;
-    rt.stdout().write_all(&text[..length])
+    if let Err(stop) = replayed.end {
+        rt.stdout()
+            .write_all(reporting::refusal_line(stop).as_bytes())?;
+    }
+    Ok(())
 }

@@ -1,5 +1,7 @@
 -- A feed that is not refused, as a replay uses it: the handset keeps its settings and goes on by a subframe, and eight bytes are
 -- written exactly where the subframe has a window. Assumes nothing.
+use Rattle.std.proofs.Common.{Result, Ok}
+use Rattle.std.specs.Result.{IfOk}
 use Prim.Native.Nat.{ℕ, zero, suc, ◌+◌, ◌*◌, ◌%◌, ◌≤◌}
 use mathlib.Core.Bool.{Bool, true, false, cond}
 use mathlib.Core.Path.{◌≡◌, refl, ap}
@@ -17,37 +19,35 @@ use Rattle.heard.specs.declared.Heard.{Heard}
 use Rattle.heard.specs.declared.View.{View}
 use Rattle.heard.specs.Memory.{view_ago}
 use Rattle.reply.specs.declared.Answer.{Answer}
-use Rattle.reply.specs.declared.Answer.TheVariants.{Taken, NoWindow, Silent, Sent, Refused}
+use Rattle.reply.specs.declared.Answer.TheVariants.{Taken, NoWindow, Silent, Sent}
 use Rattle.reply.specs.Replies.{window_answer}
 use Rattle.reply.proofs.Answered.{Answered, Told, window_answered}
 use Rattle.handset.specs.declared.Handset.{Handset}
 use Rattle.handset.specs.Feed.{answer_of, window_settings, next_answer, pushed, feed_refusal, fed_as, feed_of}
 use Rattle.handset.proofs.Told.{answer_told}
 use Rattle.replaying.specs.Replay.{refusal_in}
-use Rattle.replaying.specs.Written.{window_bytes, bytes_of, FitsBytes}
+use Rattle.replaying.specs.Written.{window_bytes, answer_bytes, bytes_of, FitsBytes}
 
 -- How many bytes the answer to a subframe gives, and that it goes into bytes.
-pub record Gives (c n : ℕ) (x : Answer) : Type 0 where
+pub record Gives (c n : ℕ) (x : Result Answer ℕ) : Type 0 where
   pub size : length (bytes_of n x) ≡ 8 * cond (has_window c n) 1 0
-  pub fits : FitsBytes x
+  pub fits : IfOk x FitsBytes
 
-answered_size : (n : ℕ) (x : Answer) → Answered x → length (bytes_of n x) ≡ 8
+answered_size : (n : ℕ) (x : Answer) → Answered x → length (answer_bytes n x) ≡ 8
 unfolding window_bytes
 answered_size n Silent a = refl
 answered_size n (Sent r) a = refl
 answered_size n Taken a = absurd a
 answered_size n NoWindow a = absurd a
-answered_size n (Refused k) a = absurd a
 
 told_fits : (x : Answer) → Told x → FitsBytes x
 told_fits Silent t = tt
-told_fits (Sent r) t = (omega (arith, t.1), omega (arith, t.2), omega (arith, t.3))
+told_fits (Sent r) t = (omega (arith, t.0), omega (arith, t.1))
 told_fits Taken t = tt
 told_fits NoWindow t = tt
-told_fits (Refused k) t = tt
 
 module _ (s : Settings) (n : ℕ) (view : ℕ → View) where
-  with_window : eqb (length (window_of s.config n)) 0 ≡ false → length (bytes_of n (answer_of s n view)) ≡ 8 * cond (has_window s.config n) 1 0
+  with_window : eqb (length (window_of s.config n)) 0 ≡ false → length (answer_bytes n (answer_of s n view)) ≡ 8 * cond (has_window s.config n) 1 0
   unfolding answer_of has_window
   with_window some =
       let up : downlink s.config n ≡ false = window_uplink s.config n (positive (length (window_of s.config n)) some) in
@@ -57,15 +57,15 @@ module _ (s : Settings) (n : ℕ) (view : ℕ → View) where
       positive zero e = absurd (eqb-false 0 0 e refl)
       positive (suc size) e = omega arith
 
-  without_window : eqb (length (window_of s.config n)) 0 ≡ true → length (bytes_of n (answer_of s n view)) ≡ 8 * cond (has_window s.config n) 1 0
+  without_window : eqb (length (window_of s.config n)) 0 ≡ true → length (answer_bytes n (answer_of s n view)) ≡ 8 * cond (has_window s.config n) 1 0
   unfolding answer_of window_answer has_window
-  without_window none = rw none (either (λ (x : Answer). length (bytes_of n x) ≡ 0) (downlink s.config n) _ _ refl refl)
+  without_window none = rw none (either (λ (x : Answer). length (answer_bytes n x) ≡ 0) (downlink s.config n) _ _ refl refl)
 
-  sized : (b : Bool) → eqb (length (window_of s.config n)) 0 ≡ b → length (bytes_of n (answer_of s n view)) ≡ 8 * cond (has_window s.config n) 1 0
+  sized : (b : Bool) → eqb (length (window_of s.config n)) 0 ≡ b → length (answer_bytes n (answer_of s n view)) ≡ 8 * cond (has_window s.config n) 1 0
   sized true e = without_window e
   sized false e = with_window e
 
-  gives : Gives s.config n (answer_of s n view)
+  gives : Gives s.config n (Ok (answer_of s n view))
   gives = record { size = sized (eqb (length (window_of s.config n)) 0) refl; fits = told_fits (answer_of s n view) (answer_told s n view) }
 
 -- A feed that was taken up.

@@ -5,3 +5,4 @@ pub mod Feeds
 pub mod Plays
 pub mod Putting
 pub mod Starts
+pub mod Turns

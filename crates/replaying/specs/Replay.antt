@@ -1,26 +1,21 @@
 -- The replay of a trace: document 02, U3, whose sentences stand above the definitions.
 -- Assumes nothing.
-use Rattle.std.specs.Prelude.{ℕ, zero, suc, ◌*◌, ◌/◌, cond, List, [], ◌∷◌, ◌++◌, eqb, ltb, length, drop}
+use Rattle.std.specs.Prelude.{Result, Ok, Err, ℕ, zero, suc, ◌*◌, ◌/◌, cond, List, [], ◌∷◌, ◌++◌, eqb, ltb, length, drop}
 use Rattle.frame.specs.Settings.{or_else}
 use Rattle.counting.specs.Windows.{windows_before}
 use Rattle.heard.specs.declared.Heard.{Heard}
 use Rattle.reply.specs.declared.Answer.{Answer}
-use Rattle.reply.specs.declared.Answer.TheVariants.{Taken, NoWindow, Silent, Sent, Refused}
 use Rattle.handset.specs.declared.Handset.{Handset}
 use Rattle.handset.specs.Feed.{feed_of}
 use Rattle.handset.specs.Make.{make_of}
 use Rattle.reader.specs.Record.{brought_at}
 use Rattle.trace.specs.Trace.{header_of, settings_of, trace_refusal}
-use Rattle.replaying.specs.declared.Replayed.{Replayed}
 use Rattle.replaying.specs.Written.{bytes_of}
 
 -- The refusal of an answer, 0 for none.
-abbrev pub refusal_in : Answer → ℕ
-refusal_in Taken = 0
-refusal_in NoWindow = 0
-refusal_in Silent = 0
-refusal_in (Sent r) = 0
-refusal_in (Refused k) = k
+abbrev pub refusal_in : Result Answer ℕ → ℕ
+refusal_in (Ok a) = 0
+refusal_in (Err k) = k
 
 -- What the records bring, from record i on, `count` of them.
 abbrev pub brought_from : List ℕ → ℕ → ℕ → List Heard
@@ -67,6 +62,14 @@ output_needed l = 8 * windows_before (settings_of l).config (header_of l).record
 unfoldable pub start_refusal : List ℕ → ℕ → ℕ
 start_refusal l room =
     or_else (trace_refusal l) (or_else (make_of (settings_of l)).refusal (cond (ltb room (output_needed l)) 23 0))
+
+-- What a replay answers: the refusal, 0 for none; a kind; the number of the record that was refused, from 0; and how many windows were
+-- written.
+pub record Replayed : Type 0 where
+  pub refusal : ℕ
+  pub kind : ℕ
+  pub number : ℕ
+  pub windows : ℕ
 
 -- Kinds of an answer: refused before any record, done, stopped at a record.
 abbrev pub replay_refused : ℕ

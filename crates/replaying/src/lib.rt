@@ -2,163 +2,97 @@
 // eight bytes for each window into a lent output.
 #![tactic(auto)]
 
-ghost use Rattle.std.specs.Prelude.{◌+◌, ◌*◌, ◌≤◌, ◌≡◌, length};
+mod feeding;
+mod stop;
+mod windows;
+
+ghost use Rattle.std.specs.Prelude.{◌*◌, ◌≤◌, ◌≡◌, length, IfOk};
+ghost use Rattle.frame.specs.Refusals.{refusal_in};
+ghost use Rattle.frame.specs.Settings.{or_else};
+ghost use Rattle.handset.specs.Make.{make_of};
+ghost use Rattle.trace.specs.Trace.{settings_of, trace_refusal};
+ghost use Rattle.replaying.specs.Ended.{replayed_by};
 ghost use Rattle.replaying.specs.Ready.{Ready};
-ghost use Rattle.replaying.specs.Replay.{refusal_in, brought_in, played, start_refusal, ended_as, replay_of, written, output_of};
-ghost use Rattle.replaying.specs.Written.{window_bytes, bytes_of, put_at, FitsBytes};
+ghost use Rattle.replaying.specs.Replay.{brought_in, played, start_refusal, ended_as, replay_of, written, output_of};
 
+pub use feeding::feed_record;
+use frame::Refusal;
 use handset::Handset;
-use reply::Answer;
+use reader::Reader;
+pub use stop::Stop;
+use windows::put_answer;
 
-// The kinds of an answer.
-const REFUSED: u16 = 0;
-
-const DONE: u16 = 1;
-
-const STOPPED: u16 = 2;
-
-// What a replay answers: the refusal, 0 for none; the kind, 0 refused before any record, 1 done, 2 stopped at a record; the number
-// of the record that was refused, from 0; and how many windows were written.
-#[repr(C)]
-#[derive(Clone, Copy)]
-pub struct Replayed {
-    pub refusal: u16,
-    pub kind: u16,
-    pub number: u16,
+// What a replay comes to: how many windows were written, and whether it ran to its end.
+#[derive(Clone, Copy, Debug, PartialEq, Eq)]
+pub struct Outcome {
     pub windows: u16,
+    pub end: Result<(), Stop>,
 }
 
-// The refusal of an answer, 0 for none.
-pub fn refusal_in(answer: Answer) -> u16
-    ensures { result ≡ refusal_in answer }
+// The handset that the records of a trace are fed to; 21, 22, then the refusals of making one.
+#[tactic(auto, using(frame::proofs::Refused::first_refused, frame::proofs::Refused::first_accepted, crate::proofs::Starts::made_refusal, crate::proofs::Starts::made_handset))]
+pub fn handset_of(trace: &[u8]) -> Result<Handset, Refusal>
+    ensures refusal { refusal_in result ≡ or_else (trace_refusal trace.now) (make_of (settings_of trace.now)).refusal }
+    ensures made { IfOk result (λ h. h ≡ (make_of (settings_of trace.now)).handset) }
 {
-    match answer {
-        Answer::Taken => 0,
-        Answer::NoWindow => 0,
-        Answer::Silent => 0,
-        Answer::Sent(_) => 0,
-        Answer::Refused(k) => k,
-    }
+    trace::check_trace(trace)?;
+    Handset::new(trace::settings_of(trace))
 }
 
-// What is refused before any record: 21, 22, those on settings, then 23.
-fn start_refusal(trace: &[u8], room: usize) -> u16
-    ensures { result ≡ start_refusal trace.now room }
+// The same before a replay: 23 then for an output of fewer bytes than the windows need that all records complete.
+#[tactic(auto, using(frame::proofs::Refused::first_refused, frame::proofs::Refused::first_accepted, crate::proofs::Starts::start_as), unfolding(crate::specs::Replay::output_needed))]
+fn start(trace: &[u8], room: usize) -> Result<Handset, Refusal>
+    ensures refusal { refusal_in result ≡ start_refusal trace.now room }
+    ensures made { IfOk result (λ h. h ≡ (make_of (settings_of trace.now)).handset) }
 {
-    let refusal = trace::trace_refusal(trace);
-    if refusal != 0 {
-        return refusal;
-    }
-    let s = trace::settings_of(trace);
-    let settings = frame::settings_refusal(s);
-    if settings != 0 {
-        return settings;
-    }
-    let h = trace::header_of(trace);
-    let windows = counting::windows_before(s.config, h.records) as usize;
+    let handset = handset_of(trace)?;
+    let records = trace::header_of(trace).records;
+    let windows = counting::windows_before(trace::settings_of(trace).config, records) as usize;
     if room < 8 * windows {
-        return 23;
+        return Err(Refusal::Output);
     }
-    0
+    Ok(handset)
 }
 
-// Writes a window's eight bytes at `at`.
-fn put_window(out: &mut [u8], at: usize, n: u8, kind: u8, resource: u16, b0: u8, b1: u8)
-    requires { at + 8 ≤ length out.old }
-    ensures { out.new ≡ put_at at (window_bytes n kind resource b0 b1) out.old }
+// Feeds the records one by one, as a reader gives them, to a fresh handset, up to the first refusal. Whatever a record brings, and
+// whatever the trace has become, a subframe writes eight bytes or none by the handset's settings and number alone, and no more records
+// are fed than were counted, so nothing is written outside.
+fn play(trace: &[u8], records: u16, mut handset: Handset, out: &mut [u8]) -> Outcome
+    requires { Ready trace.now records handset out.old }
+    ensures value { replayed_by result ≡ ended_as (played handset 0 (brought_in trace.now)) }
+    ensures out_after { out.new ≡ written (played handset 0 (brought_in trace.now)).bytes out.old }
 {
-    let low = (resource % 256) as u8;
-    let high = (resource / 256) as u8;
-    out[at] = n;
-    out[at + 1] = kind;
-    out[at + 2] = low;
-    out[at + 3] = high;
-    out[at + 4] = b0;
-    out[at + 5] = b1;
-    out[at + 6] = 0;
-    out[at + 7] = 0;
-}
-
-// Writes at `at` what the answer to subframe n gives, and says where the next window's bytes begin.
-fn put_answer(out: &mut [u8], at: usize, n: u16, answer: Answer) -> usize
-    requires n_bound { (n ≤ 255) × FitsBytes answer }
-    requires answer_in_bounds { at + length (bytes_of n answer) ≤ length out.old }
-    ensures value { result ≡ at + length (bytes_of n answer) }
-    ensures out_after { out.new ≡ put_at at (bytes_of n answer) out.old }
-{
-    match answer {
-        Answer::Taken => at,
-        Answer::NoWindow => at,
-        Answer::Silent => {
-            put_window(out, at, n as u8, 0, 0, 0, 0);
-            at + 8
+    let mut windows = 0;
+    for (number, record) in (0..records).zip(Reader::new(trace)) {
+        let n = handset.next;
+        match feed_record(&mut handset, number, record) {
+            Ok(answer) => windows = put_answer(out, windows, n, answer),
+            Err(stop) => {
+                return Outcome {
+                    windows,
+                    end: Err(stop),
+                };
+            }
         }
-        Answer::Sent(r) => {
-            let resource = r.resource;
-            let kind = r.kind as u8;
-            let b0 = r.b0 as u8;
-            let b1 = r.b1 as u8;
-            put_window(out, at, n as u8, kind, resource.number(), b0, b1);
-            at + 8
-        }
-        Answer::Refused(_) => at,
     }
-}
-
-// Feeds the records one by one, as a reader gives them, from a fresh handset, up to the first refusal. Whatever a record brings, and whatever the trace has
-// become, a subframe writes eight bytes or none by the handset's settings and number alone, so nothing is written outside.
-fn play(trace: &[u8], records: u16, start: Handset, out: &mut [u8]) -> Replayed
-    requires { Ready trace.now records start out.old }
-    ensures value { result ≡ ended_as (played start 0 (brought_in trace.now)) }
-    ensures out_after { out.new ≡ written (played start 0 (brought_in trace.now)).bytes out.old }
-{
-    let count = records as usize;
-    let mut h = start;
-    let mut i = reader::first_number(trace);
-    let mut at: usize = 0;
-    while i < count {
-        let x = reader::heard_at(trace, i);
-        let fed = handset::feed(h, x);
-        let answer = fed.answer;
-        let refusal = refusal_in(answer);
-        if refusal != 0 {
-            return Replayed {
-                refusal,
-                kind: STOPPED,
-                number: i as u16,
-                windows: (at / 8) as u16,
-            };
-        }
-        at = put_answer(out, at, h.next, answer);
-        h = fed.handset;
-        i = reader::number_after(trace, i);
-    }
-    Replayed {
-        refusal: 0,
-        kind: DONE,
-        number: 0,
-        windows: (at / 8) as u16,
+    Outcome {
+        windows,
+        end: Ok(()),
     }
 }
 
 // The replay of any bytes into any output.
 // The third promise follows from the other two; with it a caller may lend the windows that were written.
-pub fn replay(trace: &[u8], out: &mut [u8]) -> Replayed
-    ensures value { result ≡ replay_of trace.now (length out.old) }
+pub fn replay(trace: &[u8], out: &mut [u8]) -> Outcome
+    ensures value { replayed_by result ≡ replay_of trace.now (length out.old) }
     ensures out_after { out.new ≡ output_of trace.now out.old }
     ensures windows_in_bounds { 8 * result.windows ≤ length out.new }
 {
-    let refusal = start_refusal(trace, out.len());
-    if refusal != 0 {
-        return Replayed {
-            refusal,
-            kind: REFUSED,
-            number: 0,
+    match start(trace, out.len()) {
+        Ok(handset) => play(trace, trace::header_of(trace).records, handset, out),
+        Err(refusal) => Outcome {
             windows: 0,
-        };
+            end: Err(Stop::Refused(refusal)),
+        },
     }
-    let h = trace::header_of(trace);
-    let made = handset::make(trace::settings_of(trace));
-    let start = made.handset;
-    play(trace, h.records, start, out)
 }

@@ -1,5 +1,7 @@
 -- Every reply carries the resource of the second antenna port, whatever the settings and whatever was heard: document 02, U9.
 -- Assumes nothing.
+use Rattle.std.proofs.Common.{Result, Ok, Err, Option, Some, None}
+use Rattle.resource.specs.declared.Resource.{Resource}
 use Prim.Native.Nat.{ℕ}
 use mathlib.Core.List.{List}
 use mathlib.Core.Path.{◌≡◌, refl, subst}
@@ -9,18 +11,16 @@ use Rattle.frame.specs.declared.Settings.{Settings}
 use Rattle.frame.specs.Settings.{bundles}
 use Rattle.frame.specs.Table.{window_of}
 use Rattle.frame.proofs.Bools.{either}
-use Rattle.resource.specs.declared.Mapped.{Mapped}
-use Rattle.resource.specs.declared.Mapped.TheVariants as mapped
 use Rattle.resource.specs.Ports.{second_port}
 use Rattle.symbols.specs.declared.Symbol.{Symbol}
-use Rattle.symbols.specs.declared.Symbol.TheVariants as symbol
 use Rattle.symbols.specs.Selection.{symbol_of}
 use Rattle.heard.specs.declared.View.{View}
 use Rattle.fold.specs.declared.Seen.{Seen}
 use Rattle.fold.specs.Fold.{seen_of}
 use Rattle.reply.specs.declared.Answer.{Answer}
-use Rattle.reply.specs.declared.Answer.TheVariants.{Taken, NoWindow, Silent, Sent, Refused}
+use Rattle.reply.specs.declared.Answer.TheVariants.{Taken, NoWindow, Silent, Sent}
 use Rattle.reply.specs.declared.Reply.{Reply}
+use Rattle.reply.specs.declared.ReplyKind.{ReplyKind}
 use Rattle.reply.specs.Replies.{reply_on, miss_shown, lone_answer, window_state, bundled_answer, symbol_answer, multiplexed_answer, window_answer}
 
 -- A reply's second resource is that of the second port.
@@ -29,13 +29,12 @@ Carries s (Sent r) = r.second.0 ≡ second_port s r.resource.0
 Carries s Silent = Unit {0}
 Carries s Taken = Unit {0}
 Carries s NoWindow = Unit {0}
-Carries s (Refused k) = Unit {0}
 
 module _ (s : Settings) where
-  reply_carries : (kind : ℕ) (x : Mapped) (b0 b1 : ℕ) → Carries s (reply_on s kind x b0 b1)
+  reply_carries : (kind : ReplyKind) (x : Result Resource ℕ) (b0 b1 : ℕ) → Carries s (reply_on s kind x b0 b1)
   unfolding reply_on
-  reply_carries kind (mapped.At r) b0 b1 = refl
-  reply_carries kind (mapped.Refused k) b0 b1 = tt
+  reply_carries kind (Ok r) b0 b1 = refl
+  reply_carries kind (Err k) b0 b1 = tt
 
   bundled_carries : (n : ℕ) (seen : Seen) → Carries s (bundled_answer s n seen)
   unfolding bundled_answer lone_answer
@@ -43,10 +42,10 @@ module _ (s : Settings) where
       either (Carries s) (eqb seen.u 0) _ _ (either (Carries s) seen.scheduled _ _ (reply_carries _ _ _ _) tt)
       (either (Carries s) (miss_shown s seen) _ _ tt (reply_carries _ _ _ _))
 
-  symbol_carries : (n : ℕ) (view : ℕ → View) (ks : List ℕ) (y : Symbol) → Carries s (symbol_answer s n view ks y)
+  symbol_carries : (n : ℕ) (view : ℕ → View) (ks : List ℕ) (y : Option Symbol) → Carries s (symbol_answer s n view ks y)
   unfolding symbol_answer
-  symbol_carries n view ks (symbol.Sent i b0 b1) = reply_carries _ _ _ _
-  symbol_carries n view ks symbol.Silent = tt
+  symbol_carries n view ks (Some y) = reply_carries _ _ _ _
+  symbol_carries n view ks None = tt
 
   window_carries : (n : ℕ) (view : ℕ → View) → Carries s (window_answer s n view)
   unfolding window_answer multiplexed_answer

@@ -1,5 +1,6 @@
 -- A window in which every heard PDCCH has a resource is silent exactly for the causes that 01 and U1 have.
 -- Assumes nothing.
+use Rattle.std.proofs.Common.{Result, Ok, Err, Option, Some, None}
 use Prim.Native.Nat.{ℕ, suc, ◌<◌, ◌≤◌, suc-le-suc}
 use mathlib.Core.Bool.{Bool, true, false, false≢true}
 use mathlib.Core.List.{List, [], ◌∷◌}
@@ -17,16 +18,15 @@ use Rattle.frame.proofs.Accepted.{Accepted}
 use Rattle.frame.proofs.Lists.{entry}
 use Rattle.frame.proofs.Times.{order_size, order_below}
 use Rattle.frame.proofs.Windows.{multiplexed_size}
-use Rattle.resource.specs.declared.Mapped.{Mapped}
-use Rattle.resource.specs.declared.Mapped.TheVariants as mapped
 use Rattle.resource.specs.declared.Resource.{Resource}
 use Rattle.resource.specs.Calls.{size_of, resource_of}
 use Rattle.symbols.specs.declared.State.TheVariants.{Dtx}
 use Rattle.symbols.specs.declared.Symbol.{Symbol}
-use Rattle.symbols.specs.declared.Symbol.TheVariants as symbol
-use Rattle.symbols.specs.Selection.{symbol_of, AllDtx}
+use Rattle.symbols.specs.Selection.{symbol_of, AllDtx, symbol}
 use Rattle.symbols.proofs.Rows.{silent_exactly, index_heard}
 use Rattle.reply.specs.declared.Answer.TheVariants as answer
+use Rattle.reply.specs.declared.ReplyKind.{ReplyKind}
+use Rattle.reply.specs.Kinds.{kind_bundled, kind_multiplexed}
 use Rattle.heard.specs.declared.Control.{Control}
 use Rattle.fold.specs.declared.Seen.{Seen}
 use Rattle.heard.specs.declared.View.{View}
@@ -38,10 +38,10 @@ use Rattle.reply.specs.Silence.{HeardMapped, NoneOrMissed, SilentCause}
 use Rattle.reply.proofs.Multiplexing.{state_length}
 
 -- A reply that has a resource is sent.
-mapped_not_silent : (s : Settings) (kind : ℕ) (x : Mapped) (r : Resource) (b0 b1 : ℕ) → x ≡ mapped.At r → reply_on s kind x b0 b1 ≡ answer.Silent → ⊥
+mapped_not_silent : (s : Settings) (kind : ReplyKind) (x : Result Resource ℕ) (r : Resource) (b0 b1 : ℕ) → x ≡ Ok r → reply_on s kind x b0 b1 ≡ answer.Silent → ⊥
 unfolding reply_on
-mapped_not_silent s kind (mapped.At q) r b0 b1 e f = let z : ◌≡◌ {A = ℕ} 0 1 = cc in omega arith
-mapped_not_silent s kind (mapped.Refused k) r b0 b1 e f = let z : ◌≡◌ {A = ℕ} 0 1 = cc in omega arith
+mapped_not_silent s kind (Ok q) r b0 b1 e f = let z : ◌≡◌ {A = ℕ} 0 1 = cc in omega arith
+mapped_not_silent s kind (Err k) r b0 b1 e f = let z : ◌≡◌ {A = ℕ} 0 1 = cc in omega arith
 
 -- Position, first CCE and V of the fold are those of a heard PDCCH.
 module _ (view : ℕ → View) (ks : List ℕ) where
@@ -76,11 +76,11 @@ latest view c n =
 module _ (s : Settings) (n : ℕ) (view : ℕ → View) (all-mapped : HeardMapped s n view) where
   -- The bundled reply that is due goes out.
   bundled_sent : (seen : Seen) → (seen.u ≡ 0) ⊎ Latest view (window_of s.config n) seen → (seen.u ≡ 0 → ⊥)
-      → reply_on s 1 (resource_of s n seen.position seen.cce.0) (bit seen.first) (second_bit s seen) ≡ answer.Silent → ⊥
+      → reply_on s kind_bundled (resource_of s n seen.position seen.cce.0) (bit seen.first) (second_bit s seen) ≡ answer.Silent → ⊥
   bundled_sent seen (inl none) some e = some none
   bundled_sent seen (inr l) some e =
       let p = all-mapped seen.position l.control l.inside l.heard in
-      mapped_not_silent s 1 _ p.0 _ _ (rw l.cce p.1) e
+      mapped_not_silent s kind_bundled _ p.0 _ _ (rw l.cce p.1) e
 
   -- So does the reply of a lone scheduled block: without one there is nothing to send.
   lone_silent : (seen : Seen) → seen.u ≡ 0 → (lone_answer s seen ≡ answer.Silent) ↔ NoneOrMissed s seen
@@ -118,38 +118,38 @@ module _ (s : Settings) (n : ℕ) (view : ℕ → View) (all-mapped : HeardMappe
 
   -- The resource of a position that is not D.
   carrier_mapped : (m : ℕ) (x : View) → m < size_of s n → view (get_or (window_of s.config n) m 0) ≡ x → (state_of x ≡ Dtx → ⊥)
-      → (r : Resource) × (carrier_of s n m x ≡ mapped.At r)
+      → (r : Resource) × (carrier_of s n m x ≡ Ok r)
   unfolding state_of carrier_of
   carrier_mapped m Unheard inside e heard = absurd (heard refl)
   carrier_mapped m (Pdcch g) inside e heard = all-mapped m g inside e
   carrier_mapped m (Block b) inside e heard = (record { 0 = s.scheduled }, refl)
 
   -- The symbol of a state that is not all D goes out.
-  symbol_sent : (i b0 b1 : ℕ) → symbol_of (window_state view (window_of s.config n)) ≡ symbol.Sent i b0 b1
-      → symbol_answer s n view (window_of s.config n) (symbol.Sent i b0 b1) ≡ answer.Silent → ⊥
+  symbol_sent : (i b0 b1 : ℕ) → symbol_of (window_state view (window_of s.config n)) ≡ symbol i b0 b1
+      → symbol_answer s n view (window_of s.config n) (symbol i b0 b1) ≡ answer.Silent → ⊥
   unfolding symbol_answer window_state
   symbol_sent i b0 b1 e a =
       let ks : List ℕ = window_of s.config n in
       let h = index_heard (window_state view ks) i b0 b1 e in
       let inside : i < length ks = rw (state_length view ks) at h.0 in
       let p = carrier_mapped i (view (get_or ks i 0)) inside refl (λ d. h.1 (entry (λ (k : ℕ). state_of (view k)) ks i Dtx 0 inside ∙ d)) in
-      mapped_not_silent s 2 _ p.0 b0 b1 p.1 a
+      mapped_not_silent s kind_multiplexed _ p.0 b0 b1 p.1 a
 
   multiplexed_silent : 2 ≤ size_of s n → size_of s n ≤ 4
       → (multiplexed_answer s n view (window_of s.config n) ≡ answer.Silent) ↔ AllDtx (window_state view (window_of s.config n))
   unfolding multiplexed_answer symbol_answer
   multiplexed_silent least most = go (symbol_of (window_state view (window_of s.config n))) refl
     where
-      exactly : (symbol_of (window_state view (window_of s.config n)) ≡ symbol.Silent) ↔ AllDtx (window_state view (window_of s.config n))
+      exactly : (symbol_of (window_state view (window_of s.config n)) ≡ None) ↔ AllDtx (window_state view (window_of s.config n))
       exactly =
           let size = state_length view (window_of s.config n) in
           silent_exactly (window_state view (window_of s.config n)) (omega arith) (omega arith)
 
-      go : (y : Symbol) → symbol_of (window_state view (window_of s.config n)) ≡ y
+      go : (y : Option Symbol) → symbol_of (window_state view (window_of s.config n)) ≡ y
           → (multiplexed_answer s n view (window_of s.config n) ≡ answer.Silent) ↔ AllDtx (window_state view (window_of s.config n))
-      go symbol.Silent e = (λ a. exactly.0 e, λ d. rw e)
-      go (symbol.Sent i b0 b1) e = (
-        λ a. absurd (symbol_sent i b0 b1 e (rw e at a)),
+      go None e = (λ a. exactly.0 e, λ d. rw e)
+      go (Some y) e = (
+        λ a. absurd (symbol_sent y.index y.b0 y.b1 e (rw e at a)),
         λ d. let z : ◌≡◌ {A = ℕ} 0 1 = cc (e, exactly.1 d) in absurd (omega arith),
       )
 

@@ -1,9 +1,15 @@
--- The kinds of a reply as numbers.
+-- The kinds of a reply, and their numbers.
 -- Assumes nothing.
 use Rattle.std.specs.Prelude.{ℕ}
+use Rattle.reply.specs.declared.ReplyKind.{ReplyKind}
+use Rattle.reply.specs.declared.ReplyKind.TheVariants.{Bundled, Multiplexed}
 
-abbrev pub kind_bundled : ℕ
-kind_bundled = 1
+abbrev pub kind_bundled : ReplyKind
+kind_bundled = Bundled
 
-abbrev pub kind_multiplexed : ℕ
-kind_multiplexed = 2
+abbrev pub kind_multiplexed : ReplyKind
+kind_multiplexed = Multiplexed
+
+abbrev pub kind_number : ReplyKind → ℕ
+kind_number Bundled = 1
+kind_number Multiplexed = 2

@@ -1,11 +1,10 @@
 -- When a window's reply is silent: document 01, "The bundled reply" and "The multiplexed reply"; document 02, U1.
 -- handset/proofs/Silences.antt shows that a handset is silent for these causes and no other.
 -- Assumes nothing.
-use Rattle.std.specs.Prelude.{ℕ, ◌<◌, ◌≤◌, true, false, ◌⊎◌, ◌≡◌, get_or}
+use Rattle.std.specs.Prelude.{Ok, ℕ, ◌<◌, ◌≤◌, true, false, ◌⊎◌, ◌≡◌, get_or}
 use Rattle.frame.specs.declared.Settings.{Settings}
 use Rattle.frame.specs.Settings.{bundles}
 use Rattle.frame.specs.Table.{window_of}
-use Rattle.resource.specs.declared.Mapped.TheVariants as mapped
 use Rattle.resource.specs.declared.Resource.{Resource}
 use Rattle.resource.specs.Calls.{size_of, resource_of}
 use Rattle.symbols.specs.Selection.{AllDtx}
@@ -20,7 +19,7 @@ use Rattle.reply.specs.Replies.{miss_shown, window_state}
 abbrev pub HeardMapped : Settings → ℕ → (ℕ → View) → Type 0
 HeardMapped s n view =
     (m : ℕ) (g : Control) → m < size_of s n → view (get_or (window_of s.config n) m 0) ≡ Pdcch g
-    → (r : Resource) × (resource_of s n m g.cce.0 ≡ mapped.At r)
+    → (r : Resource) × (resource_of s n m g.cce.0 ≡ Ok r)
 
 -- "U = 0: silent", where no scheduled block was heard either; and "a miss is shown, and the product stays silent".
 abbrev pub NoneOrMissed : Settings → Seen → Type 0

@@ -6,11 +6,18 @@ mod answers;
 pub use answers::answer_in;
 use resource::Resource;
 
-// A reply: its kind, 1 bundled or 2 multiplexed, its PUCCH resource, that of the first antenna port, its two bits, the second 0 in a
-// one-bit reply, and the second port's resource, 0 where the handset has one port.
-#[derive(Clone, Copy)]
+// The kind of a reply, and its number.
+#[derive(Clone, Copy, Debug, PartialEq, Eq)]
+pub enum ReplyKind {
+    Bundled = 1,
+    Multiplexed = 2,
+}
+
+// A reply: its kind, its PUCCH resource, that of the first antenna port, its two bits, the second 0 in a one-bit reply, and the second
+// port's resource, 0 where the handset has one port.
+#[derive(Clone, Copy, Debug, PartialEq, Eq)]
 pub struct Reply {
-    pub kind: u16,
+    pub kind: ReplyKind,
     pub resource: Resource,
     pub b0: u16,
     pub b1: u16,
@@ -18,11 +25,10 @@ pub struct Reply {
 }
 
 // What a feed is answered (document 01, "The running handset").
-#[derive(Clone, Copy)]
+#[derive(Clone, Copy, Debug, PartialEq, Eq)]
 pub enum Answer {
     Taken,
     NoWindow,
     Silent,
     Sent(Reply),
-    Refused(u16),
 }

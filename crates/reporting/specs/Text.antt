@@ -1,10 +1,8 @@
 -- The text of the programs over a trace: a line for each window that a replay wrote, and one for a refusal.
 -- Assumes nothing.
-use Rattle.std.specs.Prelude.{ℕ, ◌+◌, ◌*◌, ◌/◌, cond, List, [], ◌∷◌, ◌++◌, eqb}
+use Rattle.std.specs.Prelude.{ℕ, ◌+◌, ◌*◌, ◌/◌, cond, List, [], ◌∷◌, ◌++◌, eqb, codes, decimal}
 use Rattle.counting.specs.Windows.{windows_before}
-use Rattle.line.specs.Ascii.{bytes}
-use Rattle.line.specs.Decimal.{decimal}
-use Rattle.reply.specs.Kinds.{kind_bundled}
+use Rattle.reply.specs.Kinds.{kind_bundled, kind_number}
 use Rattle.replaying.specs.Replay.{replay_stopped}
 use Rattle.trace.specs.Trace.{byte_at, number_at, settings_of}
 
@@ -13,18 +11,18 @@ unfoldable pub frame_of : ℕ → ℕ → ℕ
 frame_of c w = cond (eqb (windows_before c 10) 0) 0 (w / windows_before c 10)
 
 abbrev pub kind_text : ℕ → List ℕ
-kind_text kind = cond (eqb kind kind_bundled) (bytes "bundled") (bytes "multiplexed")
+kind_text kind = cond (eqb kind (kind_number kind_bundled)) (codes "bundled") (codes "multiplexed")
 
 -- What was sent: the kind, the resource and the two bits; nothing in a silent window.
 unfoldable pub sent_text : ℕ → ℕ → ℕ → ℕ → List ℕ
 sent_text kind resource b0 b1 =
-    cond (eqb kind 0) (bytes "silent")
-    (kind_text kind ++ (bytes ", resource " ++ decimal resource) ++ (bytes ", bits " ++ decimal b0) ++ (bytes " " ++ decimal b1))
+    cond (eqb kind 0) (codes "silent")
+    (kind_text kind ++ (codes ", resource " ++ decimal resource) ++ (codes ", bits " ++ decimal b0) ++ (codes " " ++ decimal b1))
 
 -- A window's line, its newline (10) included.
 unfoldable pub line_text : ℕ → ℕ → ℕ → ℕ → ℕ → ℕ → List ℕ
 line_text frame n kind resource b0 b1 =
-    (bytes "frame " ++ decimal frame) ++ (bytes " subframe " ++ decimal n) ++ bytes ": " ++ sent_text kind resource b0 b1 ++ 10 ∷ []
+    (codes "frame " ++ decimal frame) ++ (codes " subframe " ++ decimal n) ++ codes ": " ++ sent_text kind resource b0 b1 ++ 10 ∷ []
 
 -- The line of window w. Its eight bytes are n, kind, resource in two, b0, b1 and two zeros.
 unfoldable pub window_text : List ℕ → List ℕ → ℕ → List ℕ
@@ -37,4 +35,4 @@ window_text l out w =
 unfoldable pub refusal_text : ℕ → ℕ → ℕ → List ℕ
 refusal_text refusal kind number =
     cond (eqb refusal 0) []
-    ((bytes "refused " ++ decimal refusal) ++ cond (eqb kind replay_stopped) (bytes " at record " ++ decimal number) [] ++ 10 ∷ [])
+    ((codes "refused " ++ decimal refusal) ++ cond (eqb kind replay_stopped) (codes " at record " ++ decimal number) [] ++ 10 ∷ [])

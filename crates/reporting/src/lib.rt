@@ -3,20 +3,29 @@
 #![tactic(auto)]
 
 ghost use Rattle.std.specs.Prelude.{◌≡◌};
-ghost use Rattle.io.specs.Counts.{IsPrefixLen};
-ghost use Rattle.line.specs.Put.{paged, added};
+ghost use Rattle.line.specs.Line.{added};
+ghost use Rattle.replaying.specs.Ended.{stop_refusal, stop_kind, stop_record};
 ghost use Rattle.reporting.specs.Text.{frame_of, kind_text, sent_text, line_text, window_text, refusal_text};
 
-use line::{Line, empty, put, put_labelled, put_text};
+use line::Line;
+use replaying::Stop;
+use reply::ReplyKind;
 
-// The kinds of a window's bytes and of an answer that have words of their own.
+// The kind of a silent window in a window's bytes; a reply has its own. Any other number has a text too.
 const SILENT: u8 = 0;
 
-const BUNDLED: u8 = 1;
-
-const STOPPED: u16 = 2;
+// What a replay writes of a window: its uplink subframe, the kind of the reply, the resource and the two bits.
+#[derive(Clone, Copy)]
+struct Written {
+    n: u8,
+    kind: u8,
+    resource: u16,
+    b0: u8,
+    b1: u8,
+}
 
 // The frame of window w.
+#[tactic(auto, unfolding(crate::specs::Text::frame_of))]
 fn frame_of(config: u16, w: u16) -> u16
     ensures { result ≡ frame_of config w }
 {
@@ -27,72 +36,75 @@ fn frame_of(config: u16, w: u16) -> u16
     w / windows
 }
 
-// The line with the kind of a reply.
-fn put_kind(p: Line, kind: u8) -> Line
-    ensures { result ≡ added p (kind_text kind) }
+// The word for the kind of a reply.
+fn kind_text(kind: u8) -> &'static str
+    ensures { result.now ≡ kind_text kind }
 {
-    if kind == BUNDLED {
-        return put_text(p, b"bundled");
+    if kind == ReplyKind::Bundled as u8 {
+        "bundled"
+    } else {
+        "multiplexed"
     }
-    put_text(p, b"multiplexed")
 }
 
-// The line with what was sent in a window.
-fn put_sent(p: Line, kind: u8, resource: u16, b0: u8, b1: u8) -> Line
-    ensures { result ≡ added p (sent_text kind resource b0 b1) }
+// Puts what was sent in a window on the line.
+#[tactic(auto, using(line::proofs::Adding::added_append), unfolding(crate::specs::Text::sent_text))]
+fn push_sent(line: &mut Line, window: Written)
+    ensures { line.new ≡ added line.old (sent_text window.kind window.resource window.b0 window.b1) }
 {
-    if kind == SILENT {
-        return put_text(p, b"silent");
+    if window.kind == SILENT {
+        line.push_str("silent");
+        return;
     }
-    let sent = put_labelled(put_kind(p, kind), b", resource ", resource);
-    put_labelled(put_labelled(sent, b", bits ", b0 as u16), b" ", b1 as u16)
+    line.push_str(kind_text(window.kind));
+    line.push_labelled(", resource ", window.resource);
+    line.push_labelled(", bits ", window.b0 as u16);
+    line.push_labelled(" ", window.b1 as u16);
 }
 
 // A window's line, its newline included.
-fn line_of(frame: u16, n: u8, kind: u8, resource: u16, b0: u8, b1: u8) -> Line
-    ensures value { result ≡ paged (line_text frame n kind resource b0 b1) }
-    ensures prefix_len { IsPrefixLen result.size result.text }
+#[tactic(auto, using(line::proofs::Adding::added_append, crate::proofs::Lines::line_alone), unfolding(crate::specs::Text::line_text))]
+fn line_of(frame: u16, window: Written) -> Line
+    ensures { result ≡ line_text frame window.n window.kind window.resource window.b0 window.b1 }
 {
-    let subframe = put_labelled(
-        put_labelled(empty(), b"frame ", frame),
-        b" subframe ",
-        n as u16,
-    );
-    put(
-        put_sent(put_text(subframe, b": "), kind, resource, b0, b1),
-        b'\n',
-    )
+    let mut line = Line::new();
+    line.push_labelled("frame ", frame);
+    line.push_labelled(" subframe ", window.n as u16);
+    line.push_str(": ");
+    push_sent(&mut line, window);
+    line.push(b'\n');
+    line
 }
 
 // The line of window w of an output that a replay of the trace wrote.
-// The second promise follows from the first; with it a caller may lend `&text[..size]`.
+#[tactic(auto, unfolding(crate::specs::Text::window_text, trace::specs::Trace::number_at))]
 pub fn window_line(trace: &[u8], out: &[u8], w: u16) -> Line
-    ensures value { result ≡ paged (window_text trace.now out.now w) }
-    ensures prefix_len { IsPrefixLen result.size result.text }
+    ensures { result ≡ window_text trace.now out.now w }
 {
-    let s = trace::settings_of(trace);
-    let frame = frame_of(s.config, w);
     let at = 8 * w as usize;
-    let n = trace::byte_at(out, at);
-    let kind = trace::byte_at(out, at + 1);
-    let low = trace::byte_at(out, at + 2) as u16;
-    let high = trace::byte_at(out, at + 2 + 1) as u16;
-    let b0 = trace::byte_at(out, at + 4);
-    let b1 = trace::byte_at(out, at + 5);
-    line_of(frame, n, kind, low + 256 * high, b0, b1)
+    let window = Written {
+        n: trace::byte_at(out, at),
+        kind: trace::byte_at(out, at + 1),
+        resource: u16::from_le_bytes([trace::byte_at(out, at + 2), trace::byte_at(out, at + 3)]),
+        b0: trace::byte_at(out, at + 4),
+        b1: trace::byte_at(out, at + 5),
+    };
+    line_of(frame_of(trace::settings_of(trace).config, w), window)
 }
 
-// The line of a refusal, from an answer's refusal, kind and record, its newline included; no text where there is none.
-pub fn refusal_line(refusal: u16, kind: u16, number: u16) -> Line
-    ensures value { result ≡ paged (refusal_text refusal kind number) }
-    ensures prefix_len { IsPrefixLen result.size result.text }
+// The line of a refusal, its newline included.
+#[tactic(auto, using(line::proofs::Adding::added_append, crate::proofs::Lines::refused, crate::proofs::Lines::stopped))]
+pub fn refusal_line(stop: Stop) -> Line
+    ensures { result ≡ refusal_text (stop_refusal stop) (stop_kind stop) (stop_record stop) }
 {
-    if refusal == 0 {
-        return empty();
+    let mut line = Line::new();
+    match stop {
+        Stop::Refused(refusal) => line.push_labelled("refused ", refusal.into()),
+        Stop::AtRecord(refusal, number) => {
+            line.push_labelled("refused ", refusal.into());
+            line.push_labelled(" at record ", number);
+        }
     }
-    let refused = put_labelled(empty(), b"refused ", refusal);
-    if kind == STOPPED {
-        return put(put_labelled(refused, b" at record ", number), b'\n');
-    }
-    put(refused, b'\n')
+    line.push(b'\n');
+    line
 }

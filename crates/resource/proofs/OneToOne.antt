@@ -1,5 +1,6 @@
 -- The one-to-one law of the resource formula, of the map and inverse in a window of any size, and of the two calls.
 -- Assumes nothing.
+use Rattle.std.proofs.Common.{Result, Ok, Err}
 use Prim.Native.Nat.{ℕ, zero, suc, ◌+◌, ◌-◌, ◌*◌, ◌/◌, ◌%◌, ◌<◌, ◌≤◌}
 use mathlib.Core.Bool.{Bool, true, false, cond, ◌&&◌}
 use mathlib.Core.Path.{◌≡◌, refl, sym, ap, ◌∙◌, fun_ext}
@@ -9,14 +10,11 @@ use lib.Dec.{ltb}
 use borrow.Author.Tests.{lt-ltb, le-leb, ltb-true}
 use Rattle.frame.specs.declared.Settings.{Settings}
 use Rattle.frame.specs.Settings.{or_else, window_refusal}
+use Rattle.frame.specs.Refusals.{unless_refused}
 use Rattle.resource.specs.declared.Cce.{Cce}
 use Rattle.resource.specs.declared.Resource.{Resource}
-use Rattle.resource.specs.declared.Mapped.{Mapped}
-use Rattle.resource.specs.declared.Mapped.TheVariants as mapped
-use Rattle.resource.specs.declared.Inverted.{Inverted}
-use Rattle.resource.specs.declared.Inverted.TheVariants as inverted
 use Rattle.resource.specs.Formula.{edge, region_of, resource_number, region_back, position_back, cce_back}
-use Rattle.resource.specs.Calls.{mapped_as, pair_refusal, range_refusal, resource_in, inverse_in, size_of, resource_of, inverse_of}
+use Rattle.resource.specs.Calls.{pair_refusal, range_refusal, resource_in, inverse_in, size_of, resource_of, inverse_of}
 use Rattle.resource.specs.OneToOne.{Paired, OneToOne}
 use Rattle.resource.proofs.Edges.{In, edge_top, region_in, region_only}
 use Rattle.resource.proofs.Layers.{formula, There, there, Back, back}
@@ -26,15 +24,15 @@ positive : (a b : ℕ) {t : ℕ} → t < a * b → 0 < a
 positive zero b h = absurd (omega (arith, zero-mul b))
 positive (suc a) b h = omega arith
 
-same_resource : (a b : ℕ) → ◌≡◌ {A = Mapped} (mapped.At (record { 0 = a })) (mapped.At (record { 0 = b })) → a ≡ b
+same_resource : (a b : ℕ) → ◌≡◌ {A = Result Resource ℕ} (Ok (record { 0 = a })) (Ok (record { 0 = b })) → a ≡ b
 same_resource a b e =
     let f : ◌≡◌ {A = Resource} (record { 0 = a }) (record { 0 = b }) = cc in
     ap (λ (x : Resource). x.0) f
 
-same_pair : (m c m' c' : ℕ) → ◌≡◌ {A = Inverted} (inverted.At m (record { 0 = c })) (inverted.At m' (record { 0 = c' })) → (m ≡ m') × (c ≡ c')
+same_pair : (m c m' c' : ℕ) → ◌≡◌ {A = Result (ℕ × Cce) ℕ} (Ok (m, record { 0 = c })) (Ok (m', record { 0 = c' })) → (m ≡ m') × (c ≡ c')
 same_pair m c m' c' e =
-    let f : ◌≡◌ {A = Cce} (record { 0 = c }) (record { 0 = c' }) = cc in
-    (cc, ap (λ (x : Cce). x.0) f)
+    let f : ◌≡◌ {A = ℕ × Cce} (m, record { 0 = c }) (m', record { 0 = c' }) = cc in
+    (ap (λ (x : ℕ × Cce). x.0) f, ap (λ (x : ℕ × Cce). x.1.0) f)
 
 module _ (nrb n1 size : ℕ) where
   -- The formula in region p.
@@ -119,13 +117,13 @@ module _ (nrb n1 size : ℕ) where
       }
 
   -- Only a pair in range has a resource.
-  mapped_in_holds : (m c r : ℕ) → resource_in nrb n1 size m c ≡ mapped.At (record { 0 = r })
+  mapped_in_holds : (m c r : ℕ) → resource_in nrb n1 size m c ≡ Ok (record { 0 = r })
       → (m < size) × (c < edge nrb 4) × (resource_number nrb n1 size m c ≡ r)
   unfolding resource_in pair_refusal
   mapped_in_holds m c r e = go (ltb m size) (ltb c (edge nrb 4)) refl refl e
     where
       go : (a b : Bool) → ltb m size ≡ a → ltb c (edge nrb 4) ≡ b
-          → mapped_as (cond (a && b) 0 11) (resource_number nrb n1 size m c) ≡ mapped.At (record { 0 = r })
+          → unless_refused {T = Resource} (cond (a && b) 0 11) (record { 0 = (resource_number nrb n1 size m c) }) ≡ Ok (record { 0 = r })
           → (m < size) × (c < edge nrb 4) × (resource_number nrb n1 size m c ≡ r)
       go true true a b e = (ltb-true m size a, ltb-true c (edge nrb 4) b, same_resource _ _ e)
       go true false a b e = let z : ◌≡◌ {A = ℕ} 0 1 = cc in absurd (omega arith)
@@ -168,28 +166,28 @@ calls_one_to_one s n e =
     (one_to_one_holds s.nrb s.n1 (size_of s n))
 
 -- A call that gives a resource was not refused.
-not_refused : (w next r : ℕ) (x : Resource) → mapped_as (or_else w next) r ≡ mapped.At x → w ≡ 0
+not_refused : (w next r : ℕ) (x : Resource) → unless_refused {T = Resource} (or_else w next) (record { 0 = r }) ≡ Ok x → w ≡ 0
 not_refused zero next r x e = refl
 not_refused (suc w) next r x e = let z : ◌≡◌ {A = ℕ} 0 1 = cc in absurd (omega arith)
 
-pub call_accepted : (s : Settings) (n m c : ℕ) (x : Resource) → resource_of s n m c ≡ mapped.At x → window_refusal s n ≡ 0
+pub call_accepted : (s : Settings) (n m c : ℕ) (x : Resource) → resource_of s n m c ≡ Ok x → window_refusal s n ≡ 0
 unfolding resource_of
 call_accepted s n m c x e = not_refused (window_refusal s n) _ _ x e
 
 -- What refuses the settings or the subframe is what the inverse answers, whatever the resource.
-pub inverse_refused : (s : Settings) (n k : ℕ) → window_refusal s n ≡ suc k → (r : ℕ) → inverse_of s n r ≡ inverted.Refused (suc k)
+pub inverse_refused : (s : Settings) (n k : ℕ) → window_refusal s n ≡ suc k → (r : ℕ) → inverse_of s n r ≡ Err (suc k)
 unfolding inverse_of
 inverse_refused s n k e r = rw e
 
 -- The inverse gives back the pair whose resource the call gave.
-pub call_back : (s : Settings) (n m c r : ℕ) → resource_of s n m c ≡ mapped.At (record { 0 = r }) → inverse_of s n r ≡ inverted.At m (record { 0 = c })
+pub call_back : (s : Settings) (n m c r : ℕ) → resource_of s n m c ≡ Ok (record { 0 = r }) → inverse_of s n r ≡ Ok (m, (record { 0 = c }))
 call_back s n m c r e =
     let good : window_refusal s n ≡ 0 = call_accepted s n m c (record { 0 = r }) e in
     let f = mapped_in_holds s.nrb s.n1 (size_of s n) m c r (sym (resource_call s n good m c) ∙ e) in
     inverse_call s n good r ∙ rw f.2 at (paired s.nrb s.n1 (size_of s n) m c f.0 f.1).back
 
 -- A resource that the call gives lies in the window's range.
-pub resource_range : (s : Settings) (n : ℕ) → window_refusal s n ≡ 0 → (m c r : ℕ) → resource_of s n m c ≡ mapped.At (record { 0 = r })
+pub resource_range : (s : Settings) (n : ℕ) → window_refusal s n ≡ 0 → (m c r : ℕ) → resource_of s n m c ≡ Ok (record { 0 = r })
     → (s.n1 ≤ r) × (r < s.n1 + size_of s n * edge s.nrb 4)
 resource_range s n e m c r h =
     let f = mapped_in_holds s.nrb s.n1 (size_of s n) m c r (sym (resource_call s n e m c) ∙ h) in

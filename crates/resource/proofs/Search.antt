@@ -1,11 +1,13 @@
 -- The region search: the products that it compares fit, and where it ends it has the region of t / size, or none is left.
 -- Assumes nothing.
 use Prim.Native.Nat.{ℕ, ◌+◌, ◌*◌, ◌/◌, ◌<◌, ◌≤◌}
-use mathlib.Core.Path.{◌≡◌}
+use mathlib.Core.Path.{◌≡◌, subst}
 use native.Mathlib.Nat.{div-lt_iff_lt-mul, le-div_iff_mul-le, mul_comm, mul-le-mul, mul-le-mul_left}
 use native.Mathlib.Omega.{arith}
-use Rattle.resource.specs.Formula.{edge}
-use Rattle.resource.specs.Search.{Searched}
+use Rattle.std.proofs.Common.{Some, None}
+use Rattle.std.proofs.lemmas.Option.{same_Some}
+use Rattle.resource.specs.Formula.{edge, region_of}
+use Rattle.resource.specs.Search.{Held, Searched}
 use Rattle.resource.proofs.Edges.{edge_most, edge_top, region_only}
 
 pub product_most : (nrb size p high : ℕ) → nrb ≤ 110 → size ≤ 9 → p ≤ 3 → high ≡ edge nrb (p + 1) → size * high ≤ 1206
@@ -14,12 +16,12 @@ product_most nrb size p high narrow short h e =
 
 module _ (nrb size t p low high : ℕ) where
   -- no region is left
-  pub ended : p ≡ 4 → high ≡ edge nrb p → size * high ≤ t → Searched nrb size t (record { number = p; low = low; high = high })
-  ended last e h = record { above = λ _. rw (e, last) at h; held = λ other. absurd (other last) }
+  pub ended : p ≡ 4 → high ≡ edge nrb p → size * high ≤ t → Searched nrb size t None
+  ended last e h = record { above = λ _. rw (e, last) at h; held = λ r some. absurd (cc) }
 
   -- region p holds t / size
   pub found : 0 < size → p ≤ 3 → low ≡ edge nrb p → size * low ≤ t → high ≡ edge nrb (p + 1) → t < size * high
-      → Searched nrb size t (record { number = p; low = low; high = high })
+      → Searched nrb size t (Some (record { low = low; high = high }))
   found some h el from eh to =
       let lo : ℕ = edge nrb p in
       let hi : ℕ = edge nrb (p + 1) in
@@ -27,12 +29,11 @@ module _ (nrb size t p low high : ℕ) where
       let to : t < size * hi = rw eh at to in
       let least : lo ≤ t / size = (le-div_iff_mul-le {k = size} {x = lo} {y = t} some).1 (omega (arith, mul_comm lo size)) in
       let most : t / size < hi = (div-lt_iff_lt-mul {k = size} {x = t} {y = hi} some).1 (omega (arith, mul_comm hi size)) in
+      let number : p ≡ region_of nrb (t / size) = region_only nrb (t / size) p (record { region = h; low = least; high = most }) in
+      let held : Held nrb size t (record { low = low; high = high }) =
       record {
-        above = λ last. absurd (omega arith);
-        held = λ _. record {
-          below = omega (arith, mul-le-mul_left size (edge_top nrb p h));
-          number = region_only nrb (t / size) p (record { region = h; low = least; high = most });
-          low = el;
-          high = eh;
-        };
-      }
+        below = omega (arith, mul-le-mul_left size (edge_top nrb p h));
+        low = rw (← number) el;
+        high = rw (← number) eh;
+      } in
+      record { above = λ none. absurd (cc); held = λ r same. subst (Held nrb size t) (same_Some _ _ same) held }

@@ -1,5 +1,6 @@
 -- The resources of two antenna ports: specs/Ports.antt, proved.
 -- Assumes nothing.
+use Rattle.std.proofs.Common.{Ok}
 use Prim.Native.Nat.{ℕ, ◌+◌, ◌≤◌, ◌<◌}
 use mathlib.Core.Bool.{true, false}
 use mathlib.Core.Path.{◌≡◌}
@@ -9,7 +10,6 @@ use Rattle.frame.specs.declared.Settings.{Settings}
 use Rattle.frame.specs.Settings.{has_second_port}
 use Rattle.frame.proofs.Accepted.{answered}
 use Rattle.frame.proofs.Ports.{two_have_second, one_has_none}
-use Rattle.resource.specs.declared.Mapped.TheVariants as mapped
 use Rattle.resource.specs.Calls.{resource_of}
 use Rattle.resource.specs.Ports.{second_port, ports_of, SecondPort}
 use Rattle.resource.proofs.Counts.{window_resources}
@@ -34,7 +34,7 @@ port_none s r one = one_port_holds s r (one_has_none s one)
 
 module _ (s : Settings) (n m c : ℕ) where
   -- A resource that the call gives.
-  pub call_most : (r : ℕ) → resource_of s n m c ≡ mapped.At (record { 0 = r }) → r ≤ 3252
+  pub call_most : (r : ℕ) → resource_of s n m c ≡ Ok (record { 0 = r }) → r ≤ 3252
   call_most r there =
       let good = call_accepted s n m c (record { 0 = r }) there in
       omega (arith, (resource_range s n good m c r there).1, window_resources s n good, (answered s n good).0.n1)

@@ -1,9 +1,17 @@
 // The resources of a handset's two antenna ports (document 02, U9).
 ghost use Rattle.std.specs.Prelude.{◌≡◌};
+ghost use Rattle.frame.specs.Refusals.{numbered};
 ghost use Rattle.resource.specs.Ports.{second_port, ports_of};
 
-use crate::{Cce, Mapped, PortsMapped, Resource, resource_of};
-use frame::Settings;
+use crate::{Cce, Resource, resource_of};
+use frame::{Refusal, Settings};
+
+// A PDCCH's resource for each antenna port: the first port's, and the second port's, 0 where there is one port.
+#[derive(Clone, Copy, Debug, PartialEq, Eq)]
+pub struct OnPorts {
+    pub first: Resource,
+    pub second: Resource,
+}
 
 // The second port's resource, one above the first port's; 0 where there is one port. No settings that are accepted come near the last
 // number, which has none above it.
@@ -21,12 +29,11 @@ pub fn second_port(s: Settings, first: Resource) -> Resource
 }
 
 // The resources of the PDCCH at position m with first CCE c, in the window of uplink subframe n: that of each port.
-pub fn ports_of(s: Settings, n: u16, m: u16, c: Cce) -> PortsMapped
-    ensures { result ≡ ports_of s n m c.0 }
+#[tactic(auto, unfolding(crate::specs::Ports::ports_of))]
+pub fn ports_of(s: Settings, n: u16, m: u16, c: Cce) -> Result<OnPorts, Refusal>
+    ensures { numbered result ≡ ports_of s n m c.0 }
 {
-    let mapped = resource_of(s, n, m, c);
-    match mapped {
-        Mapped::At(first) => PortsMapped::At(first, second_port(s, first)),
-        Mapped::Refused(k) => PortsMapped::Refused(k),
-    }
+    let first = resource_of(s, n, m, c)?;
+    let second = second_port(s, first);
+    Ok(OnPorts { first, second })
 }

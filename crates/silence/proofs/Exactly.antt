@@ -1,6 +1,7 @@
 -- explain_of is what U11 asks for, and nothing else is. That a silence has the two causes alone is handset/proofs/Silences.antt; here
 -- U, V and the scheduled block of the window tell which of them it is, in a multiplexed window too.
 -- Assumes nothing.
+use Rattle.std.proofs.Common.{Option, Some, None, Result, Ok, Err}
 use Prim.Native.Nat.{ℕ, zero, suc, ◌-◌, ◌<◌, ◌≤◌, suc-le-suc}
 use mathlib.Core.Bool.{Bool, true, false, cond, not, ◌&&◌, false≢true}
 use mathlib.Core.List.{List, [], ◌∷◌}
@@ -33,7 +34,7 @@ use Rattle.heard.proofs.Valid.{valid}
 use Rattle.fold.specs.declared.Seen.{Seen}
 use Rattle.fold.specs.Fold.{unseen, step_of, seen_from, seen_of}
 use Rattle.reply.specs.declared.Answer.{Answer}
-use Rattle.reply.specs.declared.Answer.TheVariants.{Taken, NoWindow, Silent, Sent, Refused}
+use Rattle.reply.specs.declared.Answer.TheVariants.{Taken, NoWindow, Silent, Sent}
 use Rattle.reply.specs.Replies.{expected, miss_shown, state_of, window_state, window_answer}
 use Rattle.reply.specs.Silence.{NoneOrMissed}
 use Rattle.reply.proofs.Silences.{Latest, latest}
@@ -42,8 +43,8 @@ use Rattle.handset.specs.Feed.{answer_of, window_settings, next_answer, feed_ref
 use Rattle.handset.specs.Sound.{state_refusal}
 use Rattle.handset.proofs.Passing.{passed, remembered_valid}
 use Rattle.handset.proofs.Silences.{seen_valid, answer_silent}
-use Rattle.silence.specs.declared.Cause.TheVariants.{NotSilent, NothingHeard, MissShown}
-use Rattle.silence.specs.declared.Explained.{Explained}
+use Rattle.silence.specs.declared.Cause.TheVariants.{NothingHeard, MissShown}
+use Rattle.silence.specs.Cause.{Explained}
 use Rattle.silence.specs.Cause.{window_seen, silence_cause, cause_beside, explain_of}
 use Rattle.silence.specs.Exactly.{Explaining, Differ, IsDai, Explains, OnlyNothingSilent}
 
@@ -106,8 +107,8 @@ window_ranged h accepted = go (latest (view_ago h.past) h.settings.config h.next
         inr (rw l.dai (v.dai_least, v.dai_most))
 
 -- A silent feed was not refused, and its subframe has a window.
-silent_accepted : (k : ℕ) (h : Handset) (x : Heard) → (fed_as k h x).answer ≡ Silent → (k ≡ 0) × (next_answer h ≡ Silent)
-silent_accepted zero h x e = (refl, e)
+silent_accepted : (k : ℕ) (h : Handset) (x : Heard) → (fed_as k h x).answer ≡ (Ok Silent) → (k ≡ 0) × (next_answer h ≡ Silent)
+silent_accepted zero h x e = (refl, cc)
 silent_accepted (suc k) h x e = let z : ◌≡◌ {A = ℕ} 0 1 = cc in absurd (omega arith)
 
 silent_window : (s : Settings) (n : ℕ) (view : ℕ → View) → answer_of s n view ≡ Silent → 0 < length (window_of s.config n)
@@ -130,7 +131,7 @@ record Missed (h : Handset) : Type 0 where
 abbrev Unseen : Handset → Type 0
 Unseen h = ((window_seen h).u ≡ 0) × ((window_seen h).scheduled ≡ false)
 
-module _ (h : Handset) (x : Heard) (silent : (feed_of h x).answer ≡ Silent) where
+module _ (h : Handset) (x : Heard) (silent : (feed_of h x).answer ≡ (Ok Silent)) where
   two_causes : Unseen h ⊎ Missed h
   unfolding feed_of feed_refusal next_answer window_settings
   two_causes =
@@ -156,89 +157,84 @@ module _ (h : Handset) (x : Heard) (silent : (feed_of h x).answer ≡ Silent) wh
           inl (ap (λ (s : Seen). s.u) none, ap (λ (s : Seen). s.scheduled) none)
 
   -- The cause beside it is the window's.
-  silent_beside : (explain_of h x).cause ≡ silence_cause (window_seen h)
+  silent_beside : (explain_of h x).cause ≡ Some (silence_cause (window_seen h))
   unfolding explain_of cause_beside
   silent_beside = rw silent
 
-unseen_cause : (seen : Seen) → seen.u ≡ 0 → silence_cause seen ≡ NothingHeard
+unseen_cause : (seen : Seen) → seen.u ≡ 0 → Some (silence_cause seen) ≡ Some NothingHeard
 unfolding silence_cause
 unseen_cause seen e = rw (eq-eqb seen.u 0 e)
 
-counted_cause : (seen : Seen) → 1 ≤ seen.u → silence_cause seen ≡ MissShown seen.v (expected seen.u)
+counted_cause : (seen : Seen) → 1 ≤ seen.u → Some (silence_cause seen) ≡ Some (MissShown seen.v (expected seen.u))
 unfolding silence_cause
 counted_cause seen e = rw (ne_eqb seen.u 0 (λ z. omega (arith, z, e)))
 
 -- The three cases are apart.
-nothing_not_missed : (v e : ℕ) → NothingHeard ≡ MissShown v e → ⊥
+nothing_not_missed : (v e : ℕ) → (Some NothingHeard) ≡ Some (MissShown v e) → ⊥
 nothing_not_missed v e p = let z : ◌≡◌ {A = ℕ} 0 1 = cc in omega arith
 
-none_not_missed : (v e : ℕ) → NotSilent ≡ MissShown v e → ⊥
+none_not_missed : (v e : ℕ) → None ≡ Some (MissShown v e) → ⊥
 none_not_missed v e p = let z : ◌≡◌ {A = ℕ} 0 1 = cc in omega arith
 
-none_not_nothing : NotSilent ≡ NothingHeard → ⊥
+none_not_nothing : None ≡ (Some NothingHeard) → ⊥
 none_not_nothing p = let z : ◌≡◌ {A = ℕ} 0 1 = cc in omega arith
 
-same_values : (v e v' e' : ℕ) → MissShown v e ≡ MissShown v' e' → (v ≡ v') × (e ≡ e')
+same_values : (v e v' e' : ℕ) → Some (MissShown v e) ≡ Some (MissShown v' e') → (v ≡ v') × (e ≡ e')
 same_values v e v' e' p = (cc, cc)
 
 -- A silence has a cause, and nothing else has one.
-cause_told : (seen : Seen) → silence_cause seen ≡ NotSilent → ⊥
-unfolding silence_cause
-cause_told seen = go (eqb seen.u 0)
-  where
-    go : (b : Bool) → cond b NothingHeard (MissShown seen.v (expected seen.u)) ≡ NotSilent → ⊥
-    go true e = none_not_nothing (sym e)
-    go false e = none_not_missed _ _ (sym e)
+cause_told : (seen : Seen) → Some (silence_cause seen) ≡ None → ⊥
+cause_told seen e = let z : ◌≡◌ {A = ℕ} 0 1 = cc in omega arith
 
-beside_none : (a : Answer) (seen : Seen) → (a ≡ Silent → ⊥) → cause_beside a seen ≡ NotSilent
+beside_none : (a : Result Answer ℕ) (seen : Seen) → (a ≡ (Ok Silent) → ⊥) → cause_beside a seen ≡ None
 unfolding cause_beside
-beside_none Taken seen f = refl
-beside_none NoWindow seen f = refl
-beside_none Silent seen f = absurd (f refl)
-beside_none (Sent r) seen f = refl
-beside_none (Refused k) seen f = refl
+beside_none (Ok Taken) seen f = refl
+beside_none (Ok NoWindow) seen f = refl
+beside_none (Ok Silent) seen f = absurd (f refl)
+beside_none (Ok (Sent r)) seen f = refl
+beside_none (Err k) seen f = refl
 
-beside_silent : (a : Answer) (seen : Seen) (v e : ℕ) → cause_beside a seen ≡ MissShown v e → a ≡ Silent
+beside_silent : (a : Result Answer ℕ) (seen : Seen) (v e : ℕ) → cause_beside a seen ≡ Some (MissShown v e) → a ≡ Ok Silent
 unfolding cause_beside
-beside_silent Taken seen v e p = absurd (none_not_missed v e p)
-beside_silent NoWindow seen v e p = absurd (none_not_missed v e p)
-beside_silent Silent seen v e p = refl
-beside_silent (Sent r) seen v e p = absurd (none_not_missed v e p)
-beside_silent (Refused k) seen v e p = absurd (none_not_missed v e p)
+beside_silent (Ok Taken) seen v e p = absurd (none_not_missed v e p)
+beside_silent (Ok NoWindow) seen v e p = absurd (none_not_missed v e p)
+beside_silent (Ok Silent) seen v e p = refl
+beside_silent (Ok (Sent r)) seen v e p = absurd (none_not_missed v e p)
+beside_silent (Err k) seen v e p = absurd (none_not_missed v e p)
 
 module _ (h : Handset) (x : Heard) where
-  not_silent_holds : ((explain_of h x).cause ≡ NotSilent) ↔ ((feed_of h x).answer ≡ Silent → ⊥)
+  not_silent_holds : ((explain_of h x).cause ≡ None) ↔ ((feed_of h x).answer ≡ (Ok Silent) → ⊥)
   unfolding explain_of
   not_silent_holds = (
     λ e s. cause_told (window_seen h) (sym (silent_beside h x s) ∙ e),
     beside_none (feed_of h x).answer (window_seen h),
   )
 
-  module _ (silent : (feed_of h x).answer ≡ Silent) where
-    nothing_heard_holds : ((explain_of h x).cause ≡ NothingHeard) ↔ Unseen h
+  module _ (silent : (feed_of h x).answer ≡ (Ok Silent)) where
+    nothing_heard_holds : ((explain_of h x).cause ≡ (Some NothingHeard)) ↔ Unseen h
     nothing_heard_holds = (
       λ e. go (two_causes h x silent) e,
       λ u. silent_beside h x silent ∙ unseen_cause (window_seen h) u.0,
     )
       where
-        go : Unseen h ⊎ Missed h → (explain_of h x).cause ≡ NothingHeard → Unseen h
+        go : Unseen h ⊎ Missed h → (explain_of h x).cause ≡ (Some NothingHeard) → Unseen h
         go (inl u) e = u
         go (inr m) e =
             absurd (nothing_not_missed _ _ (sym e ∙ silent_beside h x silent ∙ counted_cause (window_seen h) m.counted))
 
-    miss_shown_holds : ((v e : ℕ) × ((explain_of h x).cause ≡ MissShown v e)) ↔ ((1 ≤ (window_seen h).u) × Differ h)
+    miss_shown_holds : ((v e : ℕ) × ((explain_of h x).cause ≡ Some (MissShown v e))) ↔ ((1 ≤ (window_seen h).u) × Differ h)
     miss_shown_holds = (
       λ p. go (two_causes h x silent) p.0 p.1 p.2,
       λ u. ((window_seen h).v, expected (window_seen h).u, silent_beside h x silent ∙ counted_cause (window_seen h) u.0),
     )
       where
-        go : Unseen h ⊎ Missed h → (v e : ℕ) → (explain_of h x).cause ≡ MissShown v e → (1 ≤ (window_seen h).u) × Differ h
+        go : Unseen h ⊎ Missed h → (v e : ℕ) → (explain_of h x).cause ≡ Some (MissShown v e) → (1 ≤ (window_seen h).u) × Differ h
         go (inl u) v e p = absurd (nothing_not_missed v e (sym (silent_beside h x silent ∙ unseen_cause (window_seen h) u.0) ∙ p))
         go (inr m) v e p = (m.counted, m.differ)
 
-  module _ (v e : ℕ) (shown : (explain_of h x).cause ≡ MissShown v e) where
+  module _ (v e : ℕ) (shown : (explain_of h x).cause ≡ Some (MissShown v e)) where
     -- a cause is told of a silence alone
-    pub was_silent : (feed_of h x).answer ≡ Silent
+    pub was_silent : (feed_of h x).answer ≡ Ok Silent
     unfolding explain_of
     was_silent = beside_silent (feed_of h x).answer (window_seen h) v e shown
 
@@ -303,27 +299,27 @@ only_nothing_silent h x silent =
 same_explained : (a b : Explained) → a.fed ≡ b.fed → a.cause ≡ b.cause → a ≡ b
 same_explained a b e f = rw (e, f)
 
-is_silent : (a : Answer) → (a ≡ Silent) ⊎ (a ≡ Silent → ⊥)
-is_silent Taken = inr (λ e. let z : ◌≡◌ {A = ℕ} 0 1 = cc in omega arith)
-is_silent NoWindow = inr (λ e. let z : ◌≡◌ {A = ℕ} 0 1 = cc in omega arith)
-is_silent Silent = inl refl
-is_silent (Sent r) = inr (λ e. let z : ◌≡◌ {A = ℕ} 0 1 = cc in omega arith)
-is_silent (Refused k) = inr (λ e. let z : ◌≡◌ {A = ℕ} 0 1 = cc in omega arith)
+is_silent : (a : Result Answer ℕ) → (a ≡ (Ok Silent)) ⊎ (a ≡ (Ok Silent) → ⊥)
+is_silent (Ok Taken) = inr (λ e. let z : ◌≡◌ {A = ℕ} 0 1 = cc in omega arith)
+is_silent (Ok NoWindow) = inr (λ e. let z : ◌≡◌ {A = ℕ} 0 1 = cc in omega arith)
+is_silent (Ok Silent) = inl refl
+is_silent (Ok (Sent r)) = inr (λ e. let z : ◌≡◌ {A = ℕ} 0 1 = cc in omega arith)
+is_silent (Err k) = inr (λ e. let z : ◌≡◌ {A = ℕ} 0 1 = cc in omega arith)
 
 pub only_explanation : (explain : Explaining) → Explains explain → (h : Handset) (x : Heard) → explain h x ≡ explain_of h x
 only_explanation explain other h x =
     same_explained (explain h x) (explain_of h x) (other.fed h x ∙ sym (explains.fed h x)) (go (is_silent (feed_of h x).answer))
   where
-    shown : (feed_of h x).answer ≡ Silent → Missed h → (explain h x).cause ≡ (explain_of h x).cause
+    shown : (feed_of h x).answer ≡ (Ok Silent) → Missed h → (explain h x).cause ≡ (explain_of h x).cause
     shown silent m =
         let p = (other.miss_shown h x silent).1 (m.counted, m.differ) in
         let q = other.values h x p.0 p.1 p.2 in
         p.2 ∙ rw (q.0, q.1) (sym (silent_beside h x silent ∙ counted_cause (window_seen h) m.counted))
 
-    told : (feed_of h x).answer ≡ Silent → Unseen h ⊎ Missed h → (explain h x).cause ≡ (explain_of h x).cause
+    told : (feed_of h x).answer ≡ (Ok Silent) → Unseen h ⊎ Missed h → (explain h x).cause ≡ (explain_of h x).cause
     told silent (inl u) = (other.nothing_heard h x silent).1 u ∙ sym ((nothing_heard_holds h x silent).1 u)
     told silent (inr m) = shown silent m
 
-    go : ((feed_of h x).answer ≡ Silent) ⊎ ((feed_of h x).answer ≡ Silent → ⊥) → (explain h x).cause ≡ (explain_of h x).cause
+    go : ((feed_of h x).answer ≡ (Ok Silent)) ⊎ ((feed_of h x).answer ≡ (Ok Silent) → ⊥) → (explain h x).cause ≡ (explain_of h x).cause
     go (inl silent) = told silent (two_causes h x silent)
     go (inr none) = (other.not_silent h x).1 none ∙ sym ((not_silent_holds h x).1 none)

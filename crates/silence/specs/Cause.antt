@@ -1,19 +1,18 @@
 -- The cause of a silence: document 02, U11. It stands beside the answer of a feed, which is as it was.
 -- Assumes nothing.
-use Rattle.std.specs.Prelude.{cond, eqb}
+use Rattle.std.specs.Prelude.{Option, Some, None, Result, Ok, Err, cond, eqb, ℕ}
 use Rattle.frame.specs.Table.{window_of}
 use Rattle.heard.specs.declared.Heard.{Heard}
 use Rattle.heard.specs.Memory.{view_ago}
 use Rattle.fold.specs.declared.Seen.{Seen}
 use Rattle.fold.specs.Fold.{seen_of}
 use Rattle.reply.specs.declared.Answer.{Answer}
-use Rattle.reply.specs.declared.Answer.TheVariants.{Taken, NoWindow, Silent, Sent, Refused}
+use Rattle.reply.specs.declared.Answer.TheVariants.{Taken, NoWindow, Silent, Sent}
 use Rattle.reply.specs.Replies.{expected}
 use Rattle.handset.specs.declared.Handset.{Handset}
-use Rattle.handset.specs.Feed.{feed_of}
+use Rattle.handset.specs.Feed.{Fed, feed_of}
 use Rattle.silence.specs.declared.Cause.{Cause}
-use Rattle.silence.specs.declared.Cause.TheVariants.{NotSilent, NothingHeard, MissShown}
-use Rattle.silence.specs.declared.Explained.{Explained}
+use Rattle.silence.specs.declared.Cause.TheVariants.{NothingHeard, MissShown}
 
 -- U, V and whether a scheduled block was heard, as 01 and U1 have them (fold/specs/Fold.antt), in the window of the subframe that the
 -- handset expects.
@@ -26,12 +25,17 @@ unfoldable pub silence_cause : Seen → Cause
 silence_cause seen = cond (eqb seen.u 0) NothingHeard (MissShown seen.v (expected seen.u))
 
 -- "Beside a silent answer give its cause"; beside any other there is none.
-unfoldable pub cause_beside : Answer → Seen → Cause
-cause_beside Taken seen = NotSilent
-cause_beside NoWindow seen = NotSilent
-cause_beside Silent seen = silence_cause seen
-cause_beside (Sent r) seen = NotSilent
-cause_beside (Refused k) seen = NotSilent
+unfoldable pub cause_beside : Result Answer ℕ → Seen → Option Cause
+cause_beside (Ok Taken) seen = None
+cause_beside (Ok NoWindow) seen = None
+cause_beside (Ok Silent) seen = Some (silence_cause seen)
+cause_beside (Ok (Sent r)) seen = None
+cause_beside (Err k) seen = None
+
+-- What a feed gives, and the cause beside its answer.
+pub record Explained : Type 0 where
+  pub fed : Fed
+  pub cause : Option Cause
 
 -- The feed, to the letter, with the cause beside its answer.
 unfoldable pub explain_of : Handset → Heard → Explained

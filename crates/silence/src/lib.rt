@@ -2,63 +2,55 @@
 #![tactic(auto)]
 
 ghost use Rattle.std.specs.Prelude.{◌≡◌};
-ghost use Rattle.silence.specs.Cause.{window_seen, silence_cause, cause_beside, explain_of};
+ghost use Rattle.frame.specs.Refusals.{numbered};
+ghost use Rattle.silence.specs.Cause.{silence_cause, explain_of};
 
 use fold::Seen;
-use handset::{Fed, Handset};
+use frame::Refusal;
+use handset::Handset;
 use heard::Heard;
 use reply::Answer;
 
-// Beside an answer that is not silent there is no cause. A silence's is that nothing was heard in the window, or that a miss is
-// shown, with V and the value expected.
-#[derive(Clone, Copy)]
+// The cause of a silence: nothing was heard in the window, or a miss is shown, with V and the value expected.
+#[derive(Clone, Copy, Debug, PartialEq, Eq)]
 pub enum Cause {
-    NotSilent,
     NothingHeard,
     MissShown(u16, u16),
 }
 
-// What the feed answers, with the handset after it, and the cause beside a silent answer.
-#[derive(Clone, Copy)]
+// What the feed answers, and the cause beside a silent answer.
+#[derive(Clone, Copy, Debug, PartialEq, Eq)]
 pub struct Explained {
-    pub fed: Fed,
-    pub cause: Cause,
+    pub answer: Result<Answer, Refusal>,
+    pub cause: Option<Cause>,
 }
 
 // The cause of a silence, from what the handset saw in the window.
-fn silence_cause(seen: Seen) -> Cause
+#[tactic(auto, unfolding(crate::specs::Cause::silence_cause, reply::specs::Replies::expected))]
+fn cause_of(seen: Seen) -> Cause
     ensures { result ≡ silence_cause seen }
 {
     if seen.u == 0 {
         return Cause::NothingHeard;
     }
-    let expected = (seen.u - 1) % 4 + 1;
-    Cause::MissShown(seen.v, expected)
+    Cause::MissShown(seen.v, (seen.u - 1) % 4 + 1)
 }
 
-// The cause beside what the handset answers at the subframe that it expects. Only a silence has the window looked at again.
-fn cause_beside(answer: Answer, h: Handset) -> Cause
-    ensures { result ≡ cause_beside answer (window_seen h) }
+// The feed, with the cause beside a silent answer. Only a silence has the window looked at again.
+#[tactic(auto, unfolding(crate::specs::Cause::explain_of, crate::specs::Cause::cause_beside))]
+pub fn explain(h: &mut Handset, x: Heard) -> Explained
+    ensures answer { numbered result.answer ≡ (explain_of h.old x).fed.answer }
+    ensures cause { result.cause ≡ (explain_of h.old x).cause }
+    ensures after { h.new ≡ (explain_of h.old x).fed.handset }
 {
-    match answer {
-        Answer::Taken => Cause::NotSilent,
-        Answer::NoWindow => Cause::NotSilent,
-        Answer::Silent => {
-            let s = h.settings;
-            let past = h.past;
-            silence_cause(fold::seen_in(past, s.config, h.next))
+    let before = *h;
+    let answer = h.feed(x);
+    let cause = match answer {
+        Ok(Answer::Silent) => {
+            let seen = fold::seen_in(&before.past, before.settings.config, before.next);
+            Some(cause_of(seen))
         }
-        Answer::Sent(_) => Cause::NotSilent,
-        Answer::Refused(_) => Cause::NotSilent,
-    }
-}
-
-// The feed, with the cause beside a silent answer.
-pub fn explain(h: Handset, x: Heard) -> Explained
-    ensures { result ≡ explain_of h x }
-{
-    let fed = handset::feed(h, x);
-    let answer = fed.answer;
-    let cause = cause_beside(answer, h);
-    Explained { fed, cause }
+        _ => None,
+    };
+    Explained { answer, cause }
 }

@@ -1,17 +1,11 @@
 -- What the lines of a block hold, for the numbers that the code has for them.
 -- Assumes nothing.
-use Prim.Native.Nat.{ℕ, zero, suc, ◌+◌, ◌*◌, ◌-◌, ◌/◌, ◌%◌, ◌≤◌}
-use mathlib.Core.List.{[], ◌++◌}
-use mathlib.Core.Path.{◌≡◌, refl}
+use Rattle.std.proofs.Common.{ℕ, zero, suc, ◌+◌, ◌*◌, ◌-◌, ◌/◌, ◌%◌, ◌≤◌, ◌≡◌, List, ◌++◌, refl, arith, add-one, append_assoc, codes}
 use native.Mathlib.Nat.{sub-zero, suc-sub-suc}
-use native.Mathlib.Numerals.{add-one}
-use native.Mathlib.Omega.{arith}
 use Rattle.line.proofs.Adding.{added_append}
-use Rattle.line.specs.Ascii.{bytes}
-use Rattle.line.specs.Put.{added}
-use Rattle.line.specs.declared.Line.{Line}
+use Rattle.line.specs.Line.{added}
 use Rattle.sizes.specs.Table.{block_size}
-use Rattle.size_text.specs.Text.{aligned, number_at, columns, above, block_line, unended_line}
+use Rattle.size_text.specs.Text.{aligned, number_at, columns, block_line, unended_line}
 
 -- A row that is not the heading's has sizes.
 pub size_at : (r n : ℕ) → (r ≡ 0 → ⊥) → block_size (r - 1) n ≡ number_at r n
@@ -20,16 +14,10 @@ size_at zero n h = absurd (h refl)
 size_at (suc i) n h = rw (suc-sub-suc, sub-zero)
 
 -- The first k columns of a row, then the next.
-pub added_column : (p : Line) (b r k : ℕ)
-    → added (added p (columns b r k)) (bytes "  " ++ aligned (number_at r (10 * b + k + 1))) ≡ added p (columns b r (k + 1))
+pub column_more : (line : List ℕ) (b r k : ℕ)
+    → added (added (added line (columns b r k)) (codes "  ")) (aligned (number_at r (10 * b + k + 1))) ≡ added line (columns b r (k + 1))
 unfolding columns
-added_column p b r k = rw (add-one k) (added_append p (columns b r k) (bytes "  " ++ aligned (number_at r (10 * b + k + 1))))
-
--- No title above a block that is not the first.
-pub above_other : (b : ℕ) → (b ≡ 0 → ⊥) → above b ≡ []
-unfolding above
-above_other zero h = absurd (h refl)
-above_other (suc b) h = refl
+column_more line b r k = rw (add-one k) (simp (added_append, append_assoc))
 
 -- A line of a block that is neither above it nor in its heading is a row.
 pub row_line : (b j : ℕ) → 3 ≤ j → block_line b j ≡ aligned (j - 3) ++ columns b (j - 2) 10

@@ -1,9 +1,8 @@
 -- The text that the program `tables` prints of Table 7.1.7.2.1-1 of TS 36.213: the sizes that `block_size` gives, in the blocks of the
 -- print, ten N_PRB to a block and a row for each I_TBS.
 -- Assumes nothing.
-use Rattle.std.specs.Prelude.{ℕ, zero, suc, ◌+◌, ◌*◌, ◌/◌, ◌%◌, cond, List, [], ◌∷◌, ◌++◌, ltb}
-use Rattle.line.specs.Ascii.{bytes}
-use Rattle.line.specs.Decimal.{decimal_digit}
+use Rattle.std.specs.Prelude.{ℕ, zero, suc, ◌+◌, ◌*◌, ◌/◌, ◌%◌, cond, List, [], ◌∷◌, ◌++◌, ltb, codes}
+use Rattle.line.specs.Line.{decimal_digit}
 use Rattle.sizes.specs.Table.{block_size}
 
 -- The digit that counts units of 10, 100 ..; a space (32) where the number is below the unit.
@@ -23,18 +22,18 @@ number_at (suc i) n = block_size i n
 -- The first k columns of row r in block b, which begins at N_PRB 10 b + 1.
 unfoldable pub columns : ℕ → ℕ → ℕ → List ℕ
 columns b r zero = []
-columns b r (suc k) = columns b r k ++ (bytes "  " ++ aligned (number_at r (10 * b + k + 1)))
+columns b r (suc k) = columns b r k ++ (codes "  " ++ aligned (number_at r (10 * b + k + 1)))
 
 -- The line above a block: the title above the first, an empty line above each other.
 unfoldable pub above : ℕ → List ℕ
-above zero = bytes "Table 7.1.7.2.1-1: Transport block size table (dimension 27x110)"
+above zero = codes "Table 7.1.7.2.1-1: Transport block size table (dimension 27x110)"
 above (suc b) = []
 
 -- Line j of block b: the line above it, the two lines of the heading, then I_TBS and its ten sizes for each I_TBS.
 unfoldable pub block_line : ℕ → ℕ → List ℕ
 block_line b zero = above b
-block_line b (suc zero) = bytes "I_TBS  N_PRB"
-block_line b (suc (suc zero)) = bytes "     " ++ columns b 0 10
+block_line b (suc zero) = codes "I_TBS  N_PRB"
+block_line b (suc (suc zero)) = codes "     " ++ columns b 0 10
 block_line b (suc (suc (suc i))) = aligned i ++ columns b (suc i) 10
 
 -- Line i of the text, without its newline: an empty line, then the blocks, 30 lines each.

@@ -1,34 +1,39 @@
 // The text of Table 7.1.7.2.1-1 that the program `tables` prints, line by line, from the sizes that `sizes::block_size` gives.
 #![tactic(auto)]
 
-ghost use Rattle.std.specs.Prelude.{◌<◌, ◌≡◌, []};
-ghost use Rattle.io.specs.Counts.{IsPrefixLen};
-ghost use Rattle.line.specs.Put.{paged, added};
+ghost use Rattle.std.specs.Prelude.{◌<◌, ◌≡◌};
+ghost use Rattle.line.specs.Line.{added};
 ghost use Rattle.size_text.specs.Text.{digit_or_space, aligned, number_at, columns, above, block_line, unended_line, size_line};
 
-use line::{Line, empty, put, put_text};
+use line::{Line, digit};
+
+// How many lines the text has.
+pub const LINES: u16 = 331;
 
 // The digit that counts units, in ASCII; a space where the number is below the unit.
 fn digit_or_space(unit: u32, x: u32) -> u8
     requires { 0 < unit }
     ensures { result ≡ digit_or_space unit x }
 {
-    if x < unit {
-        return b' ';
-    }
-    (48 + x / unit % 10) as u8
+    if x < unit { b' ' } else { digit(x / unit) }
 }
 
-// The line with a number in five characters, spaces before its digits; sizes are over 16 bits, and `line::put_number` takes no more.
-fn put_aligned(p: Line, x: u32) -> Line
-    ensures { result ≡ added p (aligned x) }
+// Puts a number on the line in five characters, spaces before its digits.
+#[tactic(auto, unfolding(crate::specs::Text::aligned))]
+fn push_aligned(line: &mut Line, x: u32)
+    ensures { line.new ≡ added line.old (aligned x) }
 {
-    let two = put(put(p, digit_or_space(10000, x)), digit_or_space(1000, x));
-    let four = put(put(two, digit_or_space(100, x)), digit_or_space(10, x));
-    put(four, (48 + x % 10) as u8)
+    line.extend_from_slice(&[
+        digit_or_space(10000, x),
+        digit_or_space(1000, x),
+        digit_or_space(100, x),
+        digit_or_space(10, x),
+        digit(x),
+    ]);
 }
 
 // The number that row r of a block has for N_PRB n: row 0 is the heading's.
+#[tactic(auto, using(crate::proofs::Rows::size_at), unfolding(crate::specs::Text::number_at))]
 fn number_at(r: u16, n: u16) -> u32
     ensures { result ≡ number_at r n }
 {
@@ -38,71 +43,68 @@ fn number_at(r: u16, n: u16) -> u32
     sizes::block_size(r - 1, n)
 }
 
-// The line with the ten columns of row r in block b.
-fn put_columns(p: Line, b: u16, r: u16) -> Line
+// Puts the ten columns of row r in block b on the line.
+#[tactic(auto, using(crate::proofs::Rows::column_more, line::proofs::Adding::added_none), unfolding(crate::specs::Text::columns))]
+fn push_columns(line: &mut Line, b: u16, r: u16)
     requires { b < 11 }
-    ensures { result ≡ added p (columns b r 10) }
+    ensures { line.new ≡ added line.old (columns b r 10) }
 {
-    let mut line = p;
-    let mut k: u16 = 0;
-    while k < 10 {
-        line = put_aligned(put_text(line, b"  "), number_at(r, 10 * b + k + 1));
-        k += 1;
+    for k in 0..10 {
+        line.push_str("  ");
+        push_aligned(line, number_at(r, 10 * b + k + 1));
     }
-    line
 }
 
-// The line above block b.
-#[tactic(auto, unfolding(crate::specs::Text::above, line::specs::Put::added))]
-fn line_above(b: u16) -> Line
-    ensures { result ≡ added (paged []) (above b) }
+// Puts the line above block b on the line.
+#[tactic(auto, using(line::proofs::Adding::added_none), unfolding(crate::specs::Text::above))]
+fn push_above(line: &mut Line, b: u16)
+    ensures { line.new ≡ added line.old (above b) }
 {
     if b == 0 {
-        return put_text(
-            empty(),
-            b"Table 7.1.7.2.1-1: Transport block size table (dimension 27x110)",
-        );
+        line.push_str("Table 7.1.7.2.1-1: Transport block size table (dimension 27x110)");
     }
-    empty()
 }
 
-// Line j of block b: the line above it, the two lines of the heading, then the rows.
-fn block_line(b: u16, j: u16) -> Line
+// Puts line j of block b on the line: the line above it, the two lines of the heading, then the rows.
+#[tactic(auto, using(line::proofs::Adding::added_append, crate::proofs::Rows::row_line), unfolding(crate::specs::Text::block_line))]
+fn push_block_line(line: &mut Line, b: u16, j: u16)
     requires { b < 11 }
-    ensures { result ≡ added (paged []) (block_line b j) }
+    ensures { line.new ≡ added line.old (block_line b j) }
 {
-    if j == 0 {
-        return line_above(b);
+    match j {
+        0 => push_above(line, b),
+        1 => line.push_str("I_TBS  N_PRB"),
+        2 => {
+            line.push_str("     ");
+            push_columns(line, b, 0);
+        }
+        _ => {
+            push_aligned(line, (j - 3) as u32);
+            push_columns(line, b, j - 2);
+        }
     }
-    if j == 1 {
-        return put_text(empty(), b"I_TBS  N_PRB");
-    }
-    if j == 2 {
-        return put_columns(put_text(empty(), b"     "), b, 0);
-    }
-    put_columns(put_aligned(empty(), (j - 3) as u32), b, j - 2)
 }
 
-// Line i of the 331 of the text, without its newline.
-fn unended(i: u16) -> Line
+// Puts line i of the text on the line, without its newline.
+#[tactic(auto, using(line::proofs::Adding::added_none, crate::proofs::Rows::in_block), unfolding(crate::specs::Text::unended_line))]
+fn push_unended(line: &mut Line, i: u16)
     requires { i < 331 }
-    ensures { result ≡ added (paged []) (unended_line i) }
+    ensures { line.new ≡ added line.old (unended_line i) }
 {
-    if i == 0 {
-        return empty();
+    if i != 0 {
+        push_block_line(line, (i - 1) / 30, (i - 1) % 30);
     }
-    block_line((i - 1) / 30, (i - 1) % 30)
 }
 
-// Line i of the text, from 0, its newline included; size 0 past the last line.
-// The second promise follows from the first; with it a caller may lend `&text[..size]`.
-#[tactic(auto, using(crate::proofs::Lines::past_last))]
+// Line i of the text, from 0, its newline included; no text past the last line.
+#[tactic(auto, using(crate::proofs::Lines::line_ended, crate::proofs::Lines::past_last))]
 pub fn size_line(i: u16) -> Line
-    ensures value { result ≡ paged (size_line i) }
-    ensures prefix_len { IsPrefixLen result.size result.text }
+    ensures { result ≡ size_line i }
 {
-    if 330 < i {
-        return empty();
+    let mut line = Line::new();
+    if i < LINES {
+        push_unended(&mut line, i);
+        line.push(b'\n');
     }
-    put(unended(i), b'\n')
+    line
 }

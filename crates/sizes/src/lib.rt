@@ -214,47 +214,45 @@ const SIZES: [u32; 2970] = [
     75376, 75376, 75376, 75376, 75376, 75376, 75376, 75376,
 ];
 
-// The whole table. A call writes all of it to the stack: make it once where several sizes are wanted, and lend it to `size_in`.
-pub fn table() -> [u32; 2970]
-    ensures { result ≡ flat }
+// The whole table, in the order of `SIZES`.
+#[tactic(auto, unfolding(crate::specs::Table::flat))]
+pub fn table() -> &'static [u32]
+    ensures { result.now ≡ flat }
 {
-    SIZES
+    &SIZES
 }
 
 // The size that a table has for I_TBS and N_PRB, in the order of `table`; 0 where there is no entry, so I_TBS over 26 and N_PRB 0 or
 // over 110. It speaks of whatever table is lent, so that it asks nothing of a caller.
-pub fn size_in(table: &[u32; 2970], itbs: u16, nprb: u16) -> u32
+#[tactic(auto, unfolding(crate::specs::Table::size_in))]
+pub fn size_in(table: &[u32], itbs: u16, nprb: u16) -> u32
     ensures { result ≡ size_in table.now itbs nprb }
 {
-    if 26 < itbs {
+    if 26 < itbs || !(1..=110).contains(&nprb) {
         return 0;
     }
-    if nprb < 1 {
-        return 0;
+    match table.get((110 * itbs + nprb - 1) as usize) {
+        Some(&size) => size,
+        None => 0,
     }
-    if 110 < nprb {
-        return 0;
-    }
-    table[(110 * itbs + nprb - 1) as usize]
 }
 
 // The size of Table 7.1.7.2.1-1 for I_TBS and N_PRB; 0 where the table has none.
+#[tactic(auto, using(crate::proofs::Sizes::size_in_flat))]
 pub fn block_size(itbs: u16, nprb: u16) -> u32
     ensures { result ≡ block_size itbs nprb }
 {
-    let sizes = table();
-    size_in(&sizes, itbs, nprb)
+    size_in(table(), itbs, nprb)
 }
 
 // The column N_PRB of the table for a block of that many PRBs, in a special subframe or not.
+#[tactic(auto, unfolding(crate::specs::Table::table_column))]
 pub fn column(nprb: u16, special: bool) -> u16
     ensures { result ≡ table_column nprb special }
 {
     if special {
-        if nprb < 2 {
-            return 1;
-        }
-        return (nprb as u32 * 3 / 4) as u16;
+        (nprb as u32 * 3 / 4).max(1) as u16
+    } else {
+        nprb
     }
-    nprb
 }

@@ -9,11 +9,10 @@ fn main(rt: HostRuntime) -> io::Result<()> {
     let mut input = [0u8; 65536];
     let n = reading::read_full(&mut rt.stdin(), &mut input)?;
     let mut out = [0u8; 65536];
-    let written = spelling::write(&input[..n], &mut out);
-    let size = written.size as usize;
-    rt.stdout().write_all(&out[..size])?;
-    let line = reporting::refusal_line(written.refusal, written.kind, written.number);
-    let length = line.size;
-    let text = line.text;
-    rt.stderr().write_all(&text[..length])
+    match spelling::write(&input[..n], &mut out) {
+        Ok(size) => rt.stdout().write_all(&out[..size as usize]),
+        Err(stop) => rt
+            .stderr()
+            .write_all(reporting::refusal_line(stop).as_bytes()),
+    }
 }

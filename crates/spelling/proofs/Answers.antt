@@ -1,39 +1,44 @@
 -- The answers of `stop_of` and `write`, from what was refused. Assumes nothing.
 use Prim.Native.Nat.{ℕ, zero, suc, ◌≤◌, ◌<◌}
 use mathlib.Core.List.{List}
-use mathlib.Core.Path.{◌≡◌, refl, sym, ap, subst, ◌∙◌}
+use mathlib.Core.Path.{◌≡◌, refl, ap, ◌∙◌}
 use native.Mathlib.Omega.{arith}
 use lib.ListN.{length, drop, length-append}
 use borrow.Author.Tests.{lt-ltb, le-ltb}
+use Rattle.std.proofs.Common.{Result, Ok, Err}
+use Rattle.std.specs.Result.{IfOk}
+use Rattle.frame.specs.declared.refusal.Refusal.{Refusal}
+use Rattle.handset.specs.declared.Handset.{Handset}
+use Rattle.frame.specs.declared.refusal.Refusal.TheVariants.{Output}
+use Rattle.frame.specs.Refusals.{number_of}
 use Rattle.frame.specs.Settings.{or_else}
+use Rattle.frame.proofs.Refused.{from_one}
+use Rattle.replaying.specs.declared.stop.Stop.{Stop as Ending}
+use Rattle.replaying.specs.declared.stop.Stop.TheVariants.{Refused, AtRecord}
 use Rattle.frame.proofs.Accepted.{neither}
 use Rattle.handset.specs.Make.{make_of}
-use Rattle.trace.specs.declared.Header.{Header}
 use Rattle.trace.specs.Trace.{header_of, settings_of, trace_refusal}
 use Rattle.replaying.specs.Replay.{brought_in, played, played_in, ended_as, replayed_as, written}
-use Rattle.spelling.specs.declared.Stop.{Stop}
-use Rattle.spelling.specs.declared.Written.{Written}
 use Rattle.spelling.specs.Spelling.{spelled_size, header_bytes, settings_bytes, spelling_of}
 use Rattle.spelling.specs.Writable.{Writable}
-use Rattle.spelling.specs.Writing.{stop_in, stop_of, room_refusal, write_of, spelled_into}
+use Rattle.spelling.specs.Writing.{stopped_by, written_by, stop_in, stop_of, room_refusal, write_of, spelled_into}
 use Rattle.spelling.proofs.Putting.{records_length}
+use Rattle.spelling.specs.OneSpelling.{Bytes}
 use Rattle.spelling.proofs.Size.{size_least_holds}
+use Rattle.spelling.proofs.Small.{file_small}
 
 module _ (l : List ℕ) where
   -- A refusal before any record, and none.
-  pub refused_before : (k : ℕ) → k ≡ or_else (trace_refusal l) (make_of (settings_of l)).refusal → (k ≡ 0 → ⊥)
-      → record { refusal = k; kind = 0; number = 0 } ≡ stop_of l
+  pub refused_before : (given : Result (Unit {0}) Ending) (r : Refusal) → given ≡ Err (Refused r)
+      → number_of r ≡ or_else (trace_refusal l) (make_of (settings_of l)).refusal → stopped_by given ≡ stop_of l
   unfolding stop_of
-  refused_before k e some = go k (or_else (trace_refusal l) (make_of (settings_of l)).refusal) e some
-    where
-      go : (k r : ℕ) → k ≡ r → (k ≡ 0 → ⊥) → record { refusal = k; kind = 0; number = 0 } ≡ stop_in (replayed_as r (played_in l))
-      go k zero e some = absurd (some e)
-      go k (suc r) e some = rw e
+  refused_before given r is e = let one = from_one r in rw (is, ← e, one.1)
 
-  pub none_before : 0 ≡ or_else (trace_refusal l) (make_of (settings_of l)).refusal
-      → stop_in (ended_as (played (make_of (settings_of l)).handset 0 (brought_in l))) ≡ stop_of l
+  pub none_before : (given : Result (Unit {0}) Ending) (h : Handset) → h ≡ (make_of (settings_of l)).handset
+      → 0 ≡ or_else (trace_refusal l) (make_of (settings_of l)).refusal → stopped_by given ≡ stop_in (ended_as (played h 0 (brought_in l)))
+      → stopped_by given ≡ stop_of l
   unfolding stop_of played_in
-  none_before e = rw (← e)
+  none_before given h made none fed = rw (← none, ← made) fed
 
   -- Where nothing stops, the trace and its settings are in order.
   pub nothing_before : (stop_of l).refusal ≡ 0 → (trace_refusal l ≡ 0) × ((make_of (settings_of l)).refusal ≡ 0)
@@ -51,47 +56,32 @@ spelling_length l = omega (arith, records_length l 0 (header_of l).records)
 
 module _ (l old : List ℕ) where
   -- An answer and an output that are right.
-  abbrev Right : Written → List ℕ → Type 0
-  Right r new = (r ≡ write_of l (length old)) × ((new ≡ spelled_into l old) × (r.size ≤ length new))
+  abbrev Right : Result ℕ Ending → List ℕ → Type 0
+  Right r new = (written_by r ≡ write_of l (length old)) × ((new ≡ spelled_into l old) × IfOk r (λ size. size ≤ length new))
 
   -- The trace, its settings or a record is refused.
-  pub stopped : (s : Stop) → s ≡ stop_of l → (s.refusal ≡ 0 → ⊥)
-      → Right (record { refusal = s.refusal; kind = s.kind; number = s.number; size = 0 }) old
+  pub stopped : (s : Ending) → stopped_by {T = ℕ} (Err s) ≡ stop_of l → Right (Err s) old
   unfolding write_of spelled_into
-  stopped s e some =
-      subst (λ (t : Stop). Right (record { refusal = t.refusal; kind = t.kind; number = t.number; size = 0 }) old) (sym e)
-      (go (stop_of l).refusal refl)
-    where
-      nothing : (stop_of l).refusal ≡ 0 → ⊥
-      nothing z = some (ap (λ (t : Stop). t.refusal) e ∙ z)
+  stopped (Refused r) e = let one = from_one r in rw (← e, one.1) (refl, (refl, tt))
+  stopped (AtRecord r i) e = let one = from_one r in rw (← e, one.1) (refl, (refl, tt))
 
-      go : (k : ℕ) → (stop_of l).refusal ≡ k
-          → Right (record { refusal = (stop_of l).refusal; kind = (stop_of l).kind; number = (stop_of l).number; size = 0 }) old
-      go zero z = absurd (nothing z)
-      go (suc k) z = rw z (refl, (refl, omega arith))
-
-  module _ (s : Stop) (asked : s ≡ stop_of l) (none : s.refusal ≡ 0) (h : Header) (read : h ≡ header_of l) where
-    free : (stop_of l).refusal ≡ 0
-    free = sym (ap (λ (t : Stop). t.refusal) asked) ∙ none
-
+  module _ (none : stopped_by {T = Unit {0}} (Ok tt) ≡ stop_of l) (records : ℕ) (read : records ≡ (header_of l).records) where
     -- The output is too small.
-    pub too_small : length old < spelled_size h.records → Right (record { refusal = 23; kind = 0; number = 0; size = 0 }) old
+    pub too_small : length old < spelled_size records → Right (Err (Refused Output)) old
     unfolding write_of spelled_into room_refusal
-    too_small p = rw (free, ← read, lt-ltb _ _ p) (refl, (refl, omega arith))
+    too_small p = rw (← none, ← read, lt-ltb _ _ p) (refl, (refl, tt))
 
     -- It is not.
-    module _ (room : spelled_size h.records ≤ length old) where
-      pub writable : h.size ≤ 65535 → Writable l h.records old
+    module _ (room : spelled_size records ≤ length old) where
+      pub writable : Bytes l → Writable l records old
       unfolding make_of
-      writable short =
-          let p = nothing_before l free in
-          let least : spelled_size h.records ≤ h.size = rw (← read) at (size_least_holds l p.0) in
-          record { trace = p.0; settings = p.1; all = rw read; short = omega arith; room = room }
+      writable bytes =
+          let p = nothing_before l (rw (← none)) in
+          record { trace = p.0; settings = p.1; all = read; short = omega (arith, size_least_holds l p.0, file_small l bytes, read); room = room }
 
-      pub written_out : (new : List ℕ) → new ≡ written (spelling_of l) old
-          → Right (record { refusal = 0; kind = 1; number = 0; size = spelled_size h.records }) new
+      pub written_out : (new : List ℕ) → new ≡ written (spelling_of l) old → Right (Ok (spelled_size records)) new
       unfolding write_of spelled_into room_refusal
       written_out new e =
           let size = ap length e ∙ length-append (spelling_of l) (drop (length (spelling_of l)) old) in
-          let own : length (spelling_of l) ≡ spelled_size h.records = rw read (spelling_length l) in
-          rw (free, ← read, le-ltb _ _ room) (refl, (e, omega (arith, size, own)))
+          let own : length (spelling_of l) ≡ spelled_size records = rw read (spelling_length l) in
+          rw (← none, ← read, le-ltb _ _ room) (refl, (e, omega (arith, size, own)))

@@ -1,56 +1,71 @@
--- The loop over the records without an output: what holds before record i, and what follows where it goes on, stops and ends; and the
--- refusals before it. Assumes nothing.
-use Prim.Native.Nat.{ℕ, suc, ◌+◌, ◌-◌, ◌≤◌, ◌<◌}
+-- The loop over the records without an output: what holds before a record, and what follows where it goes on, stops and ends.
+-- Assumes nothing.
+use Prim.Native.Nat.{ℕ, suc, ◌-◌}
 use mathlib.Core.List.{List, ◌∷◌}
-use mathlib.Core.Path.{◌≡◌, sym, subst}
+use mathlib.Core.Path.{◌≡◌}
 use native.Mathlib.Numerals.{add-one}
 use native.Mathlib.Omega.{arith}
-use borrow.Author.Tests.{ne_eqb}
-use Rattle.heard.specs.declared.Heard.{Heard}
+use lib.Dec.{eqb-suc-zero}
+use Rattle.std.proofs.Common.{Ok, Err}
+use Rattle.std.specs.declared.ops.Range.{Range}
+use Rattle.frame.proofs.Refused.{from_one}
+use Rattle.heard.specs.declared.Slot.{Slot}
+use Rattle.heard.specs.Memory.{heard_in}
+use Rattle.reply.specs.declared.Answer.{Answer}
 use Rattle.handset.specs.declared.Handset.{Handset}
 use Rattle.handset.specs.Feed.{feed_of}
-use Rattle.reader.specs.Reading.{heard_of}
-use Rattle.reader.specs.Record.{record_of}
 use Rattle.trace.specs.Trace.{header_of, trace_refusal}
-use Rattle.replaying.specs.Replay.{refusal_in, brought_from, brought_in, played, ended_as}
-use Rattle.replaying.proofs.Brought.{brought_next, stopped}
-use Rattle.spelling.specs.Writing.{stop_in}
+use Rattle.reader.specs.declared.Reader.{Reader}
+use Rattle.replaying.specs.declared.stop.Stop.{Stop as Ending}
+use Rattle.replaying.specs.declared.stop.Stop.TheVariants.{Refused, AtRecord}
+use Rattle.replaying.specs.Ended.{FeedsRecord}
+use Rattle.replaying.specs.Replay.{brought_from, brought_in, played, ended_as}
+use Rattle.replaying.proofs.Brought.{brought_next}
+use Rattle.replaying.proofs.Turns.{Before, Turn, starts}
+use Rattle.spelling.specs.Writing.{Stop, stop_in, stopped_by}
 
 module _ (l : List ℕ) (records : ℕ) (h₀ : Handset) where
-  -- Before record i: the feeds that are left stop where all would.
-  pub record Feeding (h : Handset) (i : ℕ) : Type 0 where
-    pub count : i ≤ records
-    pub left : stop_in (ended_as (played h i (brought_from l i (records - i)))) ≡ stop_in (ended_as (played h₀ 0 (brought_in l)))
+  -- Where all feeds stop.
+  abbrev whole : Stop
+  whole = stop_in (ended_as (played h₀ 0 (brought_in l)))
+
+  -- Before a record: the feeds that are left stop where all would.
+  pub record Feeding (h : Handset) (numbers : Range ℕ) (reader : Reader) : Type 0 where
+    pub before : Before l records numbers reader
+    pub left : stop_in (ended_as (played h numbers.start (brought_from l numbers.start (records - numbers.start)))) ≡ whole
 
   module _ (ready : (trace_refusal l ≡ 0) × (records ≡ (header_of l).records)) where
-    begins : Feeding h₀ 0
+    pub begins : (reader : Reader) → reader.trace.now ≡ l → reader.next ≡ 0 → Feeding h₀ (record { start = 0; end = records }) reader
     unfolding brought_in
-    begins =
+    begins reader same first =
         let all : records - 0 ≡ records = omega arith in
-        record { count = omega arith; left = rw (all, ready.1) }
+        record { before = starts l records ready.0 ready.1 reader same first; left = rw (all, ready.1) }
 
-    pub begins_at : (i : ℕ) → i ≡ 0 → Feeding h₀ i
-    begins_at i e = subst (λ (k : ℕ). Feeding h₀ k) (sym e) begins
+    module _ (h : Handset) (numbers : Range ℕ) (reader : Reader) (p : Feeding h numbers reader) where
+      abbrev i : ℕ
+      i = numbers.start
 
-    module _ (h : Handset) (i : ℕ) (p : Feeding h i) where
       -- No record is left.
-      pub ends : records ≤ i → record { refusal = 0; kind = 1; number = 0 } ≡ stop_in (ended_as (played h₀ 0 (brought_in l)))
+      pub ends : i ≡ records → stopped_by {T = Unit {0}} (Ok tt) ≡ whole
       unfolding played
-      ends h =
+      ends e =
           let none : records - i ≡ 0 = omega arith in
           rw none at p.left
 
-      module _ (inside : i < records) (x : Heard) (read : x ≡ heard_of (record_of l i)) where
-        one_more : brought_from l i (records - i) ≡ x ∷ brought_from l (suc i) (records - suc i)
-        one_more = brought_next l records ready.0 ready.1 i inside x read
+      module _ (next : Range ℕ) (number : ℕ) (t : Slot) (then : Reader) (this : Turn l records numbers next number t then) where
+        one_more : brought_from l i (records - i) ≡ heard_in t ∷ brought_from l (suc i) (records - suc i)
+        one_more = brought_next l records i this.inside t this.read
 
-        -- Record i is refused.
-        pub stops : (k : ℕ) → k ≡ refusal_in (feed_of h x).answer → (k ≡ 0 → ⊥)
-            → record { refusal = k; kind = 2; number = i } ≡ stop_in (ended_as (played h₀ 0 (brought_in l)))
+        -- The record is refused.
+        pub stops : (stop : Ending) → FeedsRecord number (Err stop) (feed_of h (heard_in t)).answer → stopped_by {T = Unit {0}} (Err stop) ≡ whole
         unfolding played
-        stops k e some = rw (one_more, ← e, stopped k i _ some, ne_eqb k 0 some) at p.left
+        stops (Refused k) f = absurd f
+        stops (AtRecord k j) f =
+            let one = from_one k in
+            rw (one.1, f.1, this.same) (rw (one_more, f.0, one.1, eqb-suc-zero one.0) at p.left)
 
         -- It is not.
-        pub goes_on : refusal_in (feed_of h x).answer ≡ 0 → Feeding (feed_of h x).handset (i + 1)
+        pub goes_on : (a : Answer) → FeedsRecord number (Ok a) (feed_of h (heard_in t)).answer → (h′ : Handset) → h′ ≡ (feed_of h (heard_in t)).handset
+            → Feeding h′ next then
         unfolding played
-        goes_on none = record { count = omega arith; left = rw add-one (rw (one_more, none) at p.left) }
+        goes_on a f h′ fed = rw fed (record { before = this.before; left = rw (this.on, add-one) (rw (one_more, f) at p.left) })

@@ -19,11 +19,10 @@ use Rattle.reader.specs.Record.{slot_at, used_in, record_slot}
 use Rattle.replaying.specs.Accepted.{AcceptedTrace}
 use Rattle.replaying.specs.Replay.{Played, played_in, output_needed, start_refusal, ended_as, replayed_as, replay_of, written, output_as, output_of}
 use Rattle.replaying.proofs.Accepting.{roomy}
-use Rattle.spelling.specs.declared.Written.{Written}
 use Rattle.spelling.specs.OneSpelling.{trace_writer, Writes, bytes_written, Spells, OneSpelling, LengthEnough, UsedExactly}
 use Rattle.spelling.specs.Spelling.{spelled_size, records_bytes, spelling_of}
 use Rattle.spelling.specs.Used.{SameTrace}
-use Rattle.spelling.specs.Writing.{stop_in, stop_of, room_refusal, written_as, stopped_or, write_of, spelled_into}
+use Rattle.spelling.specs.Writing.{Written, stop_in, stop_of, room_refusal, written_as, stopped_or, write_of, spelled_into}
 use Rattle.spelling.proofs.Answers.{nothing_before, spelling_length}
 use Rattle.spelling.proofs.ReadBack.{header_back, settings_back, record_back, trace_back, read_back, all_brought, played_back, spelled_again}
 use Rattle.spelling.proofs.Size.{size_least_holds, size_length}

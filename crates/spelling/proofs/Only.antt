@@ -16,9 +16,8 @@ use Rattle.trace.specs.Trace.{number_at, header_of, settings_at, settings_of, tr
 use Rattle.reader.specs.Record.{slot_at, record_slot}
 use Rattle.replaying.specs.Accepted.{AcceptedTrace}
 use Rattle.replaying.specs.Replay.{played_in, output_needed}
-use Rattle.spelling.specs.declared.Written.{Written}
 use Rattle.spelling.specs.OneSpelling.{Writer, trace_writer, Writes, bytes_written, Bytes, Spells, OneSpelling, OnlyWriter}
-use Rattle.spelling.specs.Writing.{write_of, spelled_into}
+use Rattle.spelling.specs.Writing.{Written, write_of, spelled_into}
 use Rattle.spelling.proofs.OneSpelling.{kinds, one_spelling}
 use Rattle.spelling.proofs.Using.{one_bare}
 

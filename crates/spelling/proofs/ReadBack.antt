@@ -1,4 +1,5 @@
 -- What is written reads back: the header, the settings, each record, and so what its replay brings. Assumes nothing.
+use Rattle.std.proofs.Common.{Some, Ok}
 use Prim.Native.Nat.{ℕ, zero, suc, ◌+◌, ◌-◌, ◌*◌, ◌/◌, ◌%◌, ◌≤◌, ◌<◌}
 use mathlib.Core.List.{List, ◌++◌}
 use mathlib.Core.Path.{◌≡◌, refl, sym, ap, subst, ◌∙◌}
@@ -16,7 +17,6 @@ use Rattle.trace.specs.declared.Header.{Header}
 use Rattle.trace.specs.Exactly.{PartsFit}
 use Rattle.trace.specs.Trace.{byte_at, number_at, header_of, settings_at, settings_of, parts_refusal, place_of, trace_refusal}
 use Rattle.trace.proofs.Exactly.{exactly}
-use Rattle.reader.specs.declared.Record.TheVariants.{At}
 use Rattle.reader.specs.Record.{slot_at, used_in, brought_by, record_slot, brought_at, record_of}
 use Rattle.reader.proofs.Given.{record_read_holds}
 use Rattle.replaying.specs.Replay.{brought_from, brought_in, played_in}
@@ -136,7 +136,7 @@ module _ (l : List ℕ) where
     read_same i h =
         let there : i < (header_of w).records = rw header_back h in
         let same : used_in (record_slot w i) ≡ used_in (record_slot l i) = ap used_in (record_back i h) ∙ used_again (record_slot l i) in
-        record_read_holds w trace_back i there ∙ ap At same ∙ sym (record_read_holds l good i h)
+        record_read_holds w trace_back i there ∙ ap (λ (t : Slot). Ok (Some t)) same ∙ sym (record_read_holds l good i h)
 
     end_same : (i : ℕ) → r ≤ i → record_of w i ≡ record_of l i
     unfolding record_of

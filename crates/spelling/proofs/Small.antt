@@ -13,7 +13,7 @@ use Rattle.reader.specs.Record.{slot_at, used_in, record_slot}
 use Rattle.replaying.specs.Accepted.{AcceptedTrace}
 use Rattle.spelling.specs.OneSpelling.{Bytes}
 use Rattle.spelling.specs.Spelling.{spelled_size, header_bytes, settings_bytes, slot_bytes, records_bytes, spelling_of}
-use Rattle.spelling.proofs.Putting.{special_small}
+use Rattle.spelling.proofs.Putting.{config_small, nrb_small, mode_small, blocks_small, special_small, prefix_small}
 use Rattle.spelling.proofs.Size.{size_least_holds}
 use Rattle.spelling.proofs.Using.{known_kind, used_small}
 
@@ -49,17 +49,9 @@ header_small records h =
 settings_small : (s : Settings) → settings_refusal s ≡ 0 → s.scheduled < 65536 → Small (settings_bytes s)
 unfolding settings_bytes
 settings_small s good h =
-    let a = accepted s good in
-    let n1 = number_small s.n1 (omega (arith, a.n1)) in (
-      omega (arith, a.config),
-      (
-        omega (arith, a.nrb_most),
-        (
-          omega (arith, a.mode),
-          (omega (arith, a.blocks_most), (omega (arith, special_small s good), (omega (arith, a.prefix), joined (number_bytes s.n1) (number_bytes s.scheduled) n1 (number_small s.scheduled h)))),
-        ),
-      ),
-    )
+    let n1 = number_small s.n1 (omega (arith, (accepted s good).n1)) in
+    let numbers = joined (number_bytes s.n1) (number_bytes s.scheduled) n1 (number_small s.scheduled h) in
+    (config_small s good, (nrb_small s good, (mode_small s good, (blocks_small s good, (special_small s good, (prefix_small s good, numbers))))))
 
 slot_small : (t : Slot) → t.cce < 256 → t.dai < 256 → Small (slot_bytes (used_in t))
 slot_small t cce dai =
@@ -75,7 +67,7 @@ module _ (l : List ℕ) (b : Bytes l) where
   records_small i zero = tt
   records_small i (suc count) = joined (slot_bytes (used_in (record_slot l i))) (records_bytes l (suc i) count) (record_small i) (records_small (suc i) count)
 
-  file_small : (header_of l).size < 65536
+  pub file_small : (header_of l).size < 65536
   unfolding header_of
   file_small = two_small l b 6
 

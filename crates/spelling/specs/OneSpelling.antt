@@ -7,9 +7,8 @@ use Rattle.trace.specs.Trace.{header_of}
 use Rattle.reader.specs.Record.{used_in, record_slot, record_of}
 use Rattle.replaying.specs.Accepted.{AcceptedTrace}
 use Rattle.replaying.specs.Replay.{brought_in, output_needed, replay_refused, replay_done, replay_of, output_of}
-use Rattle.spelling.specs.declared.Written.{Written}
 use Rattle.spelling.specs.Used.{SameRecord, SameTrace, RecordBare}
-use Rattle.spelling.specs.Writing.{write_of, spelled_into}
+use Rattle.spelling.specs.Writing.{Written, write_of, spelled_into}
 
 -- Anything that writes traces: its answer to a trace and an output's length, and the output's bytes afterwards.
 pub record Writer : Type 0 where

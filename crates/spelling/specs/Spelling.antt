@@ -3,8 +3,6 @@
 use Rattle.std.specs.Prelude.{ℕ, zero, suc, ◌+◌, ◌*◌, List, [], ◌∷◌, ◌++◌}
 use Rattle.frame.specs.declared.Settings.{Settings}
 use Rattle.heard.specs.declared.Slot.{Slot}
-use Rattle.reader.specs.declared.Record.{Record}
-use Rattle.reader.specs.declared.Record.TheVariants.{Refused, At, End}
 use Rattle.reader.specs.Record.{used_in, record_slot}
 use Rattle.trace.specs.Trace.{number_bytes, header_of, settings_of}
 
@@ -25,12 +23,6 @@ settings_bytes s =
 -- "kind .., first CCE, DAI, results".
 abbrev pub slot_bytes : Slot → List ℕ
 slot_bytes t = t.kind ∷ t.cce ∷ t.dai ∷ t.results ∷ []
-
--- The bytes of what a reader gives; nothing where it is no record.
-abbrev pub read_bytes : Record → List ℕ
-read_bytes (Refused k) = []
-read_bytes (At t) = slot_bytes t
-read_bytes End = []
 
 -- The records from record i on, `count` of them, with "every unused field or bit 0".
 abbrev pub records_bytes : List ℕ → ℕ → ℕ → List ℕ

@@ -1,14 +1,37 @@
 -- The call that writes a trace in its one spelling: its answer, and every byte of the output afterwards. Document 02, U4.
 -- Assumes nothing.
-use Rattle.std.specs.Prelude.{ℕ, zero, suc, cond, List, ltb, length}
+use Rattle.std.specs.Prelude.{Result, Ok, Err, ℕ, zero, suc, cond, List, ltb, length}
 use Rattle.frame.specs.Settings.{or_else}
 use Rattle.handset.specs.Make.{make_of}
 use Rattle.trace.specs.Trace.{header_of, settings_of, trace_refusal}
-use Rattle.replaying.specs.declared.Replayed.{Replayed}
-use Rattle.replaying.specs.Replay.{played_in, replay_refused, replay_done, replayed_as, output_as}
-use Rattle.spelling.specs.declared.Stop.{Stop}
-use Rattle.spelling.specs.declared.Written.{Written}
+use Rattle.replaying.specs.declared.stop.Stop.{Stop as Ending}
+use Rattle.replaying.specs.Ended.{end_refusal, end_kind, end_record}
+use Rattle.replaying.specs.Replay.{Replayed, played_in, replay_refused, replay_done, replayed_as, output_as}
 use Rattle.spelling.specs.Spelling.{spelled_size, spelling_of}
+
+-- What a trace is refused for, its output apart: the refusal, 0 for none; the kind; and the number of the record that is refused, from 0.
+pub record Stop : Type 0 where
+  pub refusal : ℕ
+  pub kind : ℕ
+  pub number : ℕ
+
+-- What writing answers: the same, and how many bytes were written.
+pub record Written : Type 0 where
+  pub refusal : ℕ
+  pub kind : ℕ
+  pub number : ℕ
+  pub size : ℕ
+
+-- What results of the code say in these numbers.
+abbrev pub stopped_by : {T : Type 0} → Result T Ending → Stop
+stopped_by r = record { refusal = end_refusal r; kind = end_kind r; number = end_record r }
+
+abbrev pub size_in : Result ℕ Ending → ℕ
+size_in (Ok size) = size
+size_in (Err stop) = 0
+
+abbrev pub written_by : Result ℕ Ending → Written
+written_by r = record { refusal = end_refusal r; kind = end_kind r; number = end_record r; size = size_in r }
 
 -- What stops a trace: of a replay's answer the refusal, its kind and the record. The kinds are those of a replay: refused, and by no
 -- record; done, where nothing stops; stopped at a record.

@@ -1,29 +1,25 @@
--- The code's form of what a reply is read as: a refusal, or the place.
+-- What a reply is read as, before its bits are looked at: a refusal, or the place.
 -- Assumes nothing.
-use Rattle.std.specs.Prelude.{ℕ, zero, suc, true, false, cond, ◌≡◌}
+use Rattle.std.specs.Prelude.{ℕ, cond, eqb, Option, Some, None, Result, Ok, Err}
 use Rattle.frame.specs.declared.Settings.{Settings}
+use Rattle.frame.specs.Refusals.{refused_or}
+use Rattle.frame.specs.Settings.{or_else, window_refusal}
+use Rattle.resource.specs.declared.Cce.{Cce}
+use Rattle.resource.specs.Calls.{inverse_of}
 use Rattle.station.specs.declared.Place.{Place}
-use Rattle.station.specs.declared.Place.TheVariants.{Block}
-use Rattle.station.specs.declared.Placed.{Placed}
-use Rattle.station.specs.declared.Reading.{Reading}
-use Rattle.station.specs.declared.Reading.TheVariants.{Refused}
-use Rattle.station.specs.Readings.{read_at}
+use Rattle.station.specs.declared.Place.TheVariants.{Pdcch, Block}
+use Rattle.station.specs.Readings.{told_refusal}
 
-abbrev pub not_placed : ℕ → Placed
-not_placed k = record { refused = true; refusal = k; place = Block 0 }
+-- the place of a dynamic resource
+abbrev pub pdcch_place : Result (ℕ × Cce) ℕ → Result Place ℕ
+pdcch_place (Ok (m, c)) = Ok (Pdcch m c)
+pdcch_place (Err k) = Err k
 
-abbrev pub placed_at : Place → Placed
-placed_at place = record { refused = false; refusal = 0; place = place }
+-- the scheduled block at the told position, or a dynamic resource's place
+abbrev pub place_on : Settings → ℕ → Option ℕ → ℕ → Result Place ℕ
+place_on s n None r = pdcch_place (inverse_of s n r)
+place_on s n (Some m) r = cond (eqb r s.scheduled) (Ok (Block m)) (pdcch_place (inverse_of s n r))
 
--- the block at position m, where neither settings nor subframe is refused
-abbrev pub block_placed : ℕ → ℕ → Placed
-block_placed zero m = placed_at (Block m)
-block_placed (suc k) m = not_placed (suc k)
-
--- the reading of what is placed, in a window of `size` positions
-abbrev pub read_placed : Settings → ℕ → Placed → ℕ → ℕ → Reading
-read_placed s size p b0 b1 = cond p.refused (Refused p.refusal) (read_at s size p.place b0 b1)
-
--- it is this one, whatever the bits
-abbrev pub Reads : Settings → ℕ → Placed → (ℕ → ℕ → Reading) → Type 0
-Reads s size p reading = (b0 b1 : ℕ) → read_placed s size p b0 b1 ≡ reading b0 b1
+-- the refusals that come first, or the place
+unfoldable pub place_of : Settings → ℕ → Option ℕ → ℕ → Result Place ℕ
+place_of s n told r = refused_or (or_else (window_refusal s n) (told_refusal s n told)) (place_on s n told r)

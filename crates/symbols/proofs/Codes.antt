@@ -1,20 +1,22 @@
--- States and symbols as numbers: a number gives n states, those of its remainder by 3^n; a state's number gives the state, and a
--- symbol's the symbol.
+-- States as numbers: a number gives n states, those of its remainder by 3^n; a state's number gives the state; and a list of the
+-- symbols of all states, read at a number, gives the symbol of its states.
 -- Assumes nothing.
-use Prim.Native.Nat.{ℕ, zero, suc, ◌+◌, ◌*◌, ◌/◌, ◌%◌, ◌^◌, ◌≤◌, ◌<◌}
-use mathlib.Core.List.{List, [], ◌∷◌}
+use Prim.Native.Nat.{ℕ, zero, suc, ◌+◌, ◌*◌, ◌/◌, ◌%◌, ◌^◌, ◌<◌}
+use mathlib.Core.List.{List, [], ◌∷◌, ◌++◌, map}
 use mathlib.Core.Path.{◌≡◌, refl, sym, ap, ap₂, ◌∙◌}
-use native.Mathlib.Nat.{pow-succ', one-le-pow, mod-lt, mod-eq_of_lt, mod-mod}
+use native.Mathlib.Nat.{zero-add, pow-succ', one-le-pow, mod-lt, mod-eq_of_lt, mod-mod}
 use native.Mathlib.Omega.{arith}
 use lib.Arith.{digits_lt, digits_div, digits_mod, mod-mul}
-use lib.ListN.{length}
+use lib.ListN.{length, get_or}
+use Rattle.std.proofs.Common.{Option, Some, None, slice_get}
+use Rattle.std.specs.List.{range_with_len}
+use Rattle.std.proofs.lemmas.List.FromFn.{get_or-map-range_with_len}
 use Rattle.symbols.specs.declared.State.{State}
 use Rattle.symbols.specs.declared.State.TheVariants.{Ack, Nack, Dtx}
 use Rattle.symbols.specs.declared.Symbol.{Symbol}
-use Rattle.symbols.specs.declared.Symbol.TheVariants.{Sent, Silent}
-use Rattle.symbols.specs.Coded.{state_digit, state_at, code_of, states_of, number_of}
+use Rattle.symbols.specs.Coded.{state_digit, state_at, code_of, states_of}
 use Rattle.symbols.specs.Selection.{symbol_of}
-use Rattle.symbols.proofs.Rows.{sent_size, index_heard, bits_small}
+use Rattle.symbols.proofs.States.{other_silent}
 
 pub states_length : (n code : ℕ) → length (states_of n code) ≡ n
 states_length zero code = refl
@@ -59,22 +61,29 @@ states_of_code (s ∷ ss) =
     let rest : code_of (s ∷ ss) % 3 ^ n ≡ code_of ss = digits_mod (state_digit s) (code_below ss) in
     ap₂ ◌∷◌ (ap state_at first ∙ digit_back s) (sym (states_mod n (code_of (s ∷ ss))) ∙ ap (states_of n) rest ∙ states_of_code ss)
 
--- The index and the bits in a symbol's number.
-pub number_parts : (i b0 b1 : ℕ) → b0 ≤ 1 → b1 ≤ 1
-    → ((i * 4 + b0 * 2 + b1) / 4 ≡ i) × ((i * 4 + b0 * 2 + b1) / 2 % 2 ≡ b0) × ((i * 4 + b0 * 2 + b1) % 2 ≡ b1)
-number_parts i b0 b1 first second = omega arith
+-- A list of the symbols of the states of a size, in the order of their numbers, but for the last, which is silent.
+abbrev pub Lists : List Symbol → ℕ → Type 0
+Lists ys size = map Some ys ++ (None ∷ []) ≡ map (λ (code : ℕ). symbol_of (states_of size code)) (range_with_len 0 (3 ^ size))
 
--- A number below 16 gives the symbol that is sent.
-pub sent_number : (ss : List State) (y : Symbol) → symbol_of ss ≡ y → number_of y < 16
-    → Sent (number_of y / 4) (number_of y / 2 % 2) (number_of y % 2) ≡ y
-sent_number ss (Sent i b0 b1) sent h =
-    let bits = bits_small ss i b0 b1 sent in
-    let parts = number_parts i b0 b1 bits.0 bits.1 in
-    rw (parts.0, parts.1, parts.2)
-sent_number ss Silent sent h = absurd (omega arith)
+last_silent : (ys : List Symbol) (k : ℕ) → get_or (map Some ys ++ (None ∷ [])) k None ≡ slice_get ys k
+last_silent [] zero = refl
+last_silent [] (suc k) = refl
+last_silent (y ∷ ys) zero = refl
+last_silent (y ∷ ys) (suc k) = last_silent ys k
 
--- A number from 16 up is that of silence.
-pub silent_number : (ss : List State) (y : Symbol) → symbol_of ss ≡ y → 16 ≤ number_of y → Silent ≡ y
-silent_number ss (Sent i b0 b1) sent h =
-    absurd (omega (arith, sent_size ss i b0 b1 sent, (index_heard ss i b0 b1 sent).0, bits_small ss i b0 b1 sent))
-silent_number ss Silent sent h = refl
+-- Read at the remainder of a state's number, it gives the state's symbol.
+pub listed : (size code : ℕ) (ys : List Symbol) (y : Option Symbol) → Lists ys size → y ≡ slice_get ys (code % 3 ^ size)
+    → y ≡ symbol_of (states_of size code)
+listed size code ys y lists read =
+    let k = code % 3 ^ size in
+    let below : k < 3 ^ size = mod-lt code (threes size) in
+    read
+    ∙ sym (last_silent ys k)
+    ∙ ap (λ (x : List (Option Symbol)). get_or x k None) lists
+    ∙ get_or-map-range_with_len (λ (c : ℕ). symbol_of (states_of size c)) 0 (3 ^ size) k k None below (zero-add k)
+    ∙ ap symbol_of (states_mod size code)
+
+-- Windows of other sizes are silent.
+pub others : (size code : ℕ) → (size ≡ 2 → ⊥) → (size ≡ 3 → ⊥) → (size ≡ 4 → ⊥) → None ≡ symbol_of (states_of size code)
+others size code two three four =
+    sym (other_silent (states_of size code) (rw states_length two) (rw states_length three) (rw states_length four))

@@ -2,4 +2,3 @@ pub mod Codes
 pub mod Reading
 pub mod Rows
 pub mod States
-pub mod Tables

@@ -9,11 +9,11 @@ use mathlib.Core.Path.{◌≡◌, refl}
 use lib.Dec.{T, eqb, leb, ltb, lit<, lit≤, eqb→eq}
 use lib.Ieee.Fits.{and_i, and_l, and_r}
 use lib.ListN.{length, get_or}
+use Rattle.std.proofs.Common.{Option, Some, None}
 use Rattle.symbols.specs.declared.State.{State}
 use Rattle.symbols.specs.declared.State.TheVariants.{Ack, Nack, Dtx}
 use Rattle.symbols.specs.declared.Symbol.{Symbol}
-use Rattle.symbols.specs.declared.Symbol.TheVariants.{Sent, Silent}
-use Rattle.symbols.specs.Selection.{table2, table3, table4, table_of, rows_fitting, symbol_of, AllDtx}
+use Rattle.symbols.specs.Selection.{symbol, table2, table3, table4, table_of, rows_fitting, symbol_of, AllDtx}
 use Rattle.symbols.proofs.States.{every_window, window_passes, every_sent, sent_passes}
 
 one_tested : T (every_window (λ t. eqb (rows_fitting t) 1))
@@ -47,13 +47,13 @@ dtx_all [] d = tt
 dtx_all (s ∷ ss) d = and_i (is_dtx s) (all_dtx ss) (rw d.0 tt) (dtx_all ss d.1)
 
 -- silent where the test passes, and only there
-abbrev silent_where : Bool → Symbol → Bool
-silent_where b (Sent i b0 b1) = not b
-silent_where b Silent = b
+abbrev silent_where : Bool → Option Symbol → Bool
+silent_where b (Some y) = not b
+silent_where b None = b
 
-silent_where_holds : (b : Bool) (x : Symbol) → T b → T (silent_where b x) → x ≡ Silent
-silent_where_holds true (Sent i b0 b1) h t = absurd t
-silent_where_holds true Silent h t = refl
+silent_where_holds : (b : Bool) (x : Option Symbol) → T b → T (silent_where b x) → x ≡ None
+silent_where_holds true (Some y) h t = absurd t
+silent_where_holds true None h t = refl
 silent_where_holds false x h t = absurd h
 
 silent_tested : T (every_window (λ t. silent_where (all_dtx t) (symbol_of t)))
@@ -61,7 +61,7 @@ unfolding every_window table2 table3 table4 table_of symbol_of
 silent_tested = tt
 
 -- Nothing is sent exactly where every position is D.
-pub silent_exactly : (ss : List State) → 2 ≤ length ss → length ss ≤ 4 → (symbol_of ss ≡ Silent) ↔ AllDtx ss
+pub silent_exactly : (ss : List State) → 2 ≤ length ss → length ss ≤ 4 → (symbol_of ss ≡ None) ↔ AllDtx ss
 silent_exactly ss low high =
     let t = window_passes _ silent_tested ss low high in
     (λ silent. all_dtx_holds ss (rw silent at t), λ d. silent_where_holds (all_dtx ss) (symbol_of ss) (dtx_all ss d) t)
@@ -71,7 +71,7 @@ unfolding every_window every_sent table2 table3 table4 table_of symbol_of
 size_tested = tt
 
 -- Only windows of 2 to 4 positions have symbols.
-pub sent_size : (ss : List State) (i b0 b1 : ℕ) → symbol_of ss ≡ Sent i b0 b1 → (2 ≤ length ss) × (length ss ≤ 4)
+pub sent_size : (ss : List State) (i b0 b1 : ℕ) → symbol_of ss ≡ symbol i b0 b1 → (2 ≤ length ss) × (length ss ≤ 4)
 sent_size ss i b0 b1 sent =
     let t = sent_passes _ size_tested ss i b0 b1 sent in
     (lit≤ (and_l (leb 2 (length ss)) (leb (length ss) 4) t), lit≤ (and_r (leb 2 (length ss)) (leb (length ss) 4) t))
@@ -81,7 +81,7 @@ unfolding every_window every_sent table2 table3 table4 table_of symbol_of
 index_tested = tt
 
 -- The index is a position of the window, and that position was heard.
-pub index_heard : (ss : List State) (i b0 b1 : ℕ) → symbol_of ss ≡ Sent i b0 b1 → (i < length ss) × (get_or ss i Dtx ≡ Dtx → ⊥)
+pub index_heard : (ss : List State) (i b0 b1 : ℕ) → symbol_of ss ≡ symbol i b0 b1 → (i < length ss) × (get_or ss i Dtx ≡ Dtx → ⊥)
 index_heard ss i b0 b1 sent =
     let t = sent_passes _ index_tested ss i b0 b1 sent in
     let heard = and_r (ltb i (length ss)) (not (is_dtx (get_or ss i Dtx))) t in
@@ -92,7 +92,7 @@ unfolding every_window every_sent table2 table3 table4 table_of symbol_of
 bits_tested = tt
 
 -- The bits are 0 or 1.
-pub bits_small : (ss : List State) (i b0 b1 : ℕ) → symbol_of ss ≡ Sent i b0 b1 → (b0 ≤ 1) × (b1 ≤ 1)
+pub bits_small : (ss : List State) (i b0 b1 : ℕ) → symbol_of ss ≡ symbol i b0 b1 → (b0 ≤ 1) × (b1 ≤ 1)
 bits_small ss i b0 b1 sent =
     let t = sent_passes _ bits_tested ss i b0 b1 sent in
     (lit≤ (and_l (leb b0 1) (leb b1 1) t), lit≤ (and_r (leb b0 1) (leb b1 1) t))

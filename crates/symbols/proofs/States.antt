@@ -12,12 +12,12 @@ use lib.Dec.{T}
 use lib.Ieee.Fits.{and_i, and_l, and_r}
 use lib.ListN.{length}
 use borrow.Author.Tests.{ne_eqb}
+use Rattle.std.proofs.Common.{Option, Some, None}
 use Rattle.symbols.specs.declared.State.{State}
 use Rattle.symbols.specs.declared.State.TheVariants.{Ack, Nack, Dtx}
 use Rattle.symbols.specs.declared.Symbol.{Symbol}
-use Rattle.symbols.specs.declared.Symbol.TheVariants.{Sent, Silent}
 use Rattle.symbols.specs.Delivered.{every_state}
-use Rattle.symbols.specs.Selection.{Row, table_of, said_in, symbol_of}
+use Rattle.symbols.specs.Selection.{Row, symbol, table_of, said_in, symbol_of}
 
 -- every state that starts with s
 abbrev starting : ℕ → (List State → Bool) → State → Bool
@@ -78,14 +78,14 @@ unfolding table_of
 no_table n two three four = rw (ne_eqb n 2 two, ne_eqb n 3 three, ne_eqb n 4 four)
 
 -- Their states are silent.
-pub other_silent : (ss : List State) → (length ss ≡ 2 → ⊥) → (length ss ≡ 3 → ⊥) → (length ss ≡ 4 → ⊥) → symbol_of ss ≡ Silent
+pub other_silent : (ss : List State) → (length ss ≡ 2 → ⊥) → (length ss ≡ 3 → ⊥) → (length ss ≡ 4 → ⊥) → symbol_of ss ≡ None
 unfolding symbol_of
 other_silent ss two three four = ap (λ (rs : List Row). said_in rs ss) (no_table (length ss) two three four)
 
 -- the test, of a state, the index, b0 and b1
-abbrev when_sent : (List State → ℕ → ℕ → ℕ → Bool) → List State → Symbol → Bool
-when_sent f t (Sent i b0 b1) = f t i b0 b1
-when_sent f t Silent = true
+abbrev when_sent : (List State → ℕ → ℕ → ℕ → Bool) → List State → Option Symbol → Bool
+when_sent f t (Some y) = f t y.index y.b0 y.b1
+when_sent f t None = true
 
 -- the test passes at every state of 2, 3 and 4 positions and what it sends
 unfoldable pub every_sent : (List State → ℕ → ℕ → ℕ → Bool) → Bool
@@ -93,7 +93,7 @@ every_sent f = every_window (λ t. when_sent f t (symbol_of t))
 
 -- What passes at every state of 2, 3 and 4 positions and what it sends passes wherever something is sent.
 pub sent_passes : (f : List State → ℕ → ℕ → ℕ → Bool) → T (every_sent f) → (ss : List State) (i b0 b1 : ℕ)
-    → symbol_of ss ≡ Sent i b0 b1 → T (f ss i b0 b1)
+    → symbol_of ss ≡ symbol i b0 b1 → T (f ss i b0 b1)
 unfolding every_sent
 sent_passes f t ss i b0 b1 sent =
     let all = passes (λ t. when_sent f t (symbol_of t)) t ss (λ two three four. rw (other_silent ss two three four) tt) in

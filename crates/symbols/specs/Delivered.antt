@@ -1,13 +1,10 @@
 -- What a symbol tells the station: document 01, "The station's reading". The set of positions that are A in every state whose
 -- symbol this is, as an intersection over all 3^M states; no table of sets.
 -- Assumes nothing.
-use Rattle.std.specs.Prelude.{ℕ, zero, suc, ◌+◌, ◌*◌, Bool, true, false, cond, not, ◌&&◌, ◌||◌, List, [], ◌∷◌, eqb, get_or}
-use Rattle.symbols.specs.declared.Delivery.{Delivery}
-use Rattle.symbols.specs.declared.Delivery.TheVariants.{Set, NoRow}
+use Rattle.std.specs.Prelude.{ℕ, zero, suc, ◌+◌, ◌*◌, Bool, true, false, cond, not, ◌&&◌, ◌||◌, List, [], ◌∷◌, Option, Some, None, eqb, get_or}
 use Rattle.symbols.specs.declared.State.{State}
 use Rattle.symbols.specs.declared.State.TheVariants.{Ack, Nack, Dtx}
 use Rattle.symbols.specs.declared.Symbol.{Symbol}
-use Rattle.symbols.specs.declared.Symbol.TheVariants.{Sent, Silent}
 use Rattle.symbols.specs.Selection.{symbol_of}
 
 -- The test passes for each of the 3^M states of M positions.
@@ -19,9 +16,9 @@ every_state (suc n) f =
     && every_state n (λ (t : List State). f (Dtx ∷ t))
 
 -- The state's symbol is (index i, b0 b1).
-abbrev pub is_symbol : Symbol → ℕ → ℕ → ℕ → Bool
-is_symbol (Sent j a0 a1) i b0 b1 = eqb j i && eqb a0 b0 && eqb a1 b1
-is_symbol Silent i b0 b1 = false
+abbrev pub is_symbol : Option Symbol → ℕ → ℕ → ℕ → Bool
+is_symbol (Some y) i b0 b1 = eqb y.index i && eqb y.b0 b0 && eqb y.b1 b1
+is_symbol None i b0 b1 = false
 
 -- The state is A.
 abbrev pub is_ack : State → Bool
@@ -46,6 +43,6 @@ set_of (suc n) f = cond (f zero) 1 0 + 2 * set_of n (λ (p : ℕ). f (suc p))
 unfoldable pub delivered_set : ℕ → ℕ → ℕ → ℕ → ℕ
 delivered_set size i b0 b1 = set_of size (delivered_at size i b0 b1)
 
--- What the station reads from a symbol: that set, or that the symbol is in no row.
-unfoldable pub delivery_of : ℕ → ℕ → ℕ → ℕ → Delivery
-delivery_of size i b0 b1 = cond (in_some_row size i b0 b1) (Set (delivered_set size i b0 b1)) NoRow
+-- What the station reads from a symbol: that set; nothing of a symbol that is in no row.
+unfoldable pub delivery_of : ℕ → ℕ → ℕ → ℕ → Option ℕ
+delivery_of size i b0 b1 = cond (in_some_row size i b0 b1) (Some (delivered_set size i b0 b1)) None

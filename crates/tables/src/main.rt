@@ -2,34 +2,15 @@
 // look up, the next three from the rows that the engine's lookups are proved equal to, the last from the sizes that are looked up.
 #![tactic(auto)]
 
-ghost use Rattle.std.specs.Prelude.{◌≤◌, length};
-
-use line::Line;
 use std::io;
 use std::io::Write;
 
-fn write_line(rt: &HostRuntime, line: Line) -> io::Result<()>
-    requires { line.size ≤ length line.text }
-{
-    let size = line.size;
-    let text = line.text;
-    rt.stdout().write_all(&text[..size])
-}
-
 fn main(rt: HostRuntime) -> io::Result<()> {
-    let mut i: u16 = 0;
-    let mut line = printing::table_line(0);
-    while 0 < line.size {
-        write_line(&rt, line)?;
-        i += 1;
-        line = printing::table_line(i);
+    for i in 0..printing::LINES {
+        rt.stdout().write_all(printing::table_line(i).as_bytes())?;
     }
-    let mut j: u16 = 0;
-    let mut row = size_text::size_line(0);
-    while 0 < row.size {
-        write_line(&rt, row)?;
-        j += 1;
-        row = size_text::size_line(j);
+    for i in 0..size_text::LINES {
+        rt.stdout().write_all(size_text::size_line(i).as_bytes())?;
     }
     Ok(())
 }

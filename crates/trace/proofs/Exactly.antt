@@ -1,5 +1,5 @@
 -- 21 and 22 are given exactly for their causes: specs/Exactly.antt, proved. Assumes nothing.
-use Prim.Native.Nat.{ℕ, zero, suc, ◌+◌, ◌-◌, ◌*◌, ◌≤◌, ◌<◌}
+use Prim.Native.Nat.{ℕ, ◌+◌, ◌-◌, ◌*◌, ◌≤◌, ◌<◌}
 use mathlib.Core.Bool.{Bool, true, false, cond, ◌&&◌, ◌||◌, or-true, false≢true}
 use mathlib.Core.List.{List}
 use mathlib.Core.Logic.{◌⊎◌, inl, inr, ◌↔◌}
@@ -13,29 +13,29 @@ use Rattle.frame.specs.Settings.{or_else}
 use Rattle.frame.proofs.Bools.{both, never_true}
 use Rattle.trace.specs.declared.Header.{Header}
 use Rattle.trace.specs.Exactly.{Apart, PartsFit, RightLength, KindsKnown, RefusedExactly}
-use Rattle.trace.specs.Trace.{byte_at, header_of, Part, header_part, settings_part, records_part, apart, within, settings_fit, records_fit, length_refusal, parts_refusal, place_of, kinds_known, trace_refusal}
-use Rattle.trace.proofs.Known.{kind_known}
+use Rattle.trace.specs.Trace.{header_of, Part, header_part, settings_part, records_part, apart, within, settings_fit, records_fit, length_refusal, parts_refusal, kinds_known, trace_refusal}
+use Rattle.trace.proofs.Known.{kind_known, all_known}
 
 -- A part that begins before its end.
 abbrev Some : Part → Type 0
-Some p = p.from < p.past
+Some p = p.start < p.end
 
 -- Tests of two parts that are not empty, and what they say of bytes.
 apart_so : (p q : Part) → apart p q ≡ true → Apart p q
-apart_so p q e i a b = go (leb p.past q.from) refl e
+apart_so p q e i a b = go (leb p.end q.start) refl e
   where
-    go : (t : Bool) → leb p.past q.from ≡ t → (t || leb q.past p.from) ≡ true → ⊥
-    go true t e = omega (arith, leb-true p.past q.from t, a.1, b.0)
-    go false t e = omega (arith, leb-true q.past p.from e, a.0, b.1)
+    go : (t : Bool) → leb p.end q.start ≡ t → (t || leb q.end p.start) ≡ true → ⊥
+    go true t e = omega (arith, leb-true p.end q.start t, a.1, b.0)
+    go false t e = omega (arith, leb-true q.end p.start e, a.0, b.1)
 
 so_apart : (p q : Part) → Some p → Some q → Apart p q → apart p q ≡ true
-so_apart p q a b h = go (dec_le p.past q.from) (dec_le q.past p.from) (dec_le p.from q.from)
+so_apart p q a b h = go (dec_le p.end q.start) (dec_le q.end p.start) (dec_le p.start q.start)
   where
-    go : Dec (p.past ≤ q.from) → Dec (q.past ≤ p.from) → Dec (p.from ≤ q.from) → apart p q ≡ true
+    go : Dec (p.end ≤ q.start) → Dec (q.end ≤ p.start) → Dec (p.start ≤ q.start) → apart p q ≡ true
     go (yes left) right order = rw (le-leb _ _ left)
-    go (no left) (yes right) order = rw (le-leb _ _ right) (or-true (leb p.past q.from))
-    go (no left) (no right) (yes order) = absurd (h q.from (order, omega arith) (omega arith, b))
-    go (no left) (no right) (no order) = absurd (h p.from (omega arith, a) (omega arith, omega arith))
+    go (no left) (yes right) order = rw (le-leb _ _ right) (or-true (leb p.end q.start))
+    go (no left) (no right) (yes order) = absurd (h q.start (order, omega arith) (omega arith, b))
+    go (no left) (no right) (no order) = absurd (h p.start (omega arith, a) (omega arith, omega arith))
 
 module _ (h : Header) (long : 8 ≤ h.size) where
   fit_so : settings_fit h ≡ true → records_fit h ≡ true → PartsFit h
@@ -123,12 +123,6 @@ one_met false b c = inr (inl refl)
 one_met true false c = inr (inr refl)
 one_met true true true = inl refl
 one_met true true false = inr (inr refl)
-
-all_known : (l : List ℕ) (first count : ℕ) → ((i : ℕ) → i < count → byte_at l (place_of first i) ≤ 3) → kinds_known l first count ≡ true
-unfolding kinds_known
-all_known l first zero h = refl
-all_known l first (suc count) h =
-    rw (le-leb _ _ (h count (omega arith))) (all_known l first count (λ i less. h i (omega arith)))
 
 pub exactly : (l : List ℕ) → RefusedExactly l
 unfolding trace_refusal parts_refusal length_refusal

@@ -1,32 +1,40 @@
 -- The kinds of the records of a trace that is not refused. Assumes nothing.
-use Prim.Native.Nat.{ℕ, zero, suc, ◌-◌, ◌<◌}
-use mathlib.Core.Bool.{true, ◌&&◌}
+use Prim.Native.Nat.{ℕ, ◌+◌, ◌≤◌, ◌<◌}
+use mathlib.Core.Bool.{Bool, true}
 use mathlib.Core.List.{List}
-use mathlib.Core.Logic.{⊎_elim}
 use mathlib.Core.Path.{◌≡◌}
-use native.Mathlib.Nat.{eq-or-lt_of_le, le_of_suc-le-suc}
 use native.Mathlib.Omega.{arith}
 use lib.Dec.{leb}
+use lib.ListN.{length}
+use borrow.Author.Tests.{le-leb}
+use Rattle.std.specs.List.{range_with_len}
+use Rattle.std.proofs.lemmas.List.Elements.{All-get_or, All-from_get_or}
+use Rattle.std.proofs.lemmas.List.FromFn.{length-range_with_len, get_or-range_with_len}
+use Rattle.std.proofs.lemmas.List.Sums.{AllPass-from_list_all, list_all-from_AllPass}
 use Rattle.frame.proofs.Accepted.{neither, held}
-use Rattle.frame.proofs.Bools.{both}
 use Rattle.trace.specs.Trace.{byte_at, header_of, parts_refusal, place_of, kinds_known, trace_refusal}
 
-module _ (l : List ℕ) (first : ℕ) where
-  -- The last record, and those before it.
-  pub one_fewer : (i : ℕ) → 0 < i → kinds_known l first i ≡ leb (byte_at l (place_of first (i - 1))) 3 && kinds_known l first (i - 1)
-  unfolding kinds_known
-  one_fewer zero h = absurd (omega arith)
-  one_fewer (suc i) h =
-      let same : suc i - 1 ≡ i = omega arith in
-      rw same
+-- All kinds are known exactly if each is.
+module _ (l : List ℕ) (first count : ℕ) where
+  known : ℕ → Bool
+  known i = leb (byte_at l (place_of first i)) 3
 
-  -- Where all kinds are known, each is.
-  pub kind_known : (count i : ℕ) → kinds_known l first count ≡ true → i < count → leb (byte_at l (place_of first i)) 3 ≡ true
-  unfolding kinds_known
-  kind_known zero i e h = absurd (omega arith)
-  kind_known (suc count) i e h =
-      let p = both (leb (byte_at l (place_of first count)) 3) (kinds_known l first count) e in
-      ⊎_elim (λ same. rw same p.0) (λ less. kind_known count i p.1 less) (eq-or-lt_of_le (le_of_suc-le-suc h))
+  same : (i : ℕ) → 0 + i ≡ i
+  same i = omega arith
+
+  pub kind_known : (i : ℕ) → kinds_known l first count ≡ true → i < count → leb (byte_at l (place_of first i)) 3 ≡ true
+  unfolding kinds_known known
+  kind_known i e h =
+      let inside : i < length (range_with_len 0 count) = rw (length-range_with_len 0 count) h in
+      let at = All-get_or (λ i. known i ≡ true) (range_with_len 0 count) i 0 inside (AllPass-from_list_all known (range_with_len 0 count) e) in
+      rw (get_or-range_with_len 0 count i 0 h, same i) at at
+
+  pub all_known : ((i : ℕ) → i < count → byte_at l (place_of first i) ≤ 3) → kinds_known l first count ≡ true
+  unfolding kinds_known known
+  all_known h = list_all-from_AllPass known (range_with_len 0 count)
+      (All-from_get_or (λ i. known i ≡ true) (range_with_len 0 count) 0 λ i inside.
+      let there : i < count = rw (length-range_with_len 0 count) at inside in
+      rw (get_or-range_with_len 0 count i 0 there, same i) (le-leb _ _ (h i there)))
 
 -- A trace that is not refused is in order in its parts, and has no unknown kind.
 pub in_order : (l : List ℕ) → trace_refusal l ≡ 0 → (i : ℕ) → i < (header_of l).records

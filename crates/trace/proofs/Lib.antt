@@ -1,3 +1,2 @@
 pub mod Exactly
-pub mod Fits
 pub mod Known

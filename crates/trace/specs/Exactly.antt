@@ -6,7 +6,7 @@ use Rattle.trace.specs.Trace.{byte_at, header_of, Part, header_part, settings_pa
 
 -- Byte i belongs to a part. No byte belongs to the records where there are none, wherever their offset says they begin.
 abbrev pub Holds : Part → ℕ → Type 0
-Holds p i = (p.from ≤ i) × (i < p.past)
+Holds p i = (p.start ≤ i) × (i < p.end)
 
 -- No byte belongs to both parts.
 abbrev pub Apart : Part → Part → Type 0

@@ -1,6 +1,8 @@
 -- A recorded drive, byte by byte: document 02, U3, whose sentences stand above the definitions. A trace is a list of bytes.
 -- Assumes nothing.
-use Rattle.std.specs.Prelude.{ℕ, zero, suc, ◌+◌, ◌*◌, ◌/◌, ◌%◌, Bool, true, cond, ◌&&◌, ◌||◌, List, [], ◌∷◌, eqb, leb, length, get_or}
+use Rattle.std.specs.Prelude.{ℕ, ◌+◌, ◌*◌, ◌/◌, ◌%◌, Bool, cond, ◌&&◌, ◌||◌, List, [], ◌∷◌, eqb, leb, length, get_or}
+use Rattle.std.specs.List.{list_all, range_with_len}
+use Rattle.std.specs.declared.ops.Range.{Range}
 use Rattle.frame.specs.declared.Settings.{Settings}
 use Rattle.frame.specs.Settings.{or_else}
 use Rattle.trace.specs.declared.Header.{Header}
@@ -42,26 +44,25 @@ unfoldable pub settings_of : List ℕ → Settings
 settings_of l = settings_at l (header_of l).settings
 
 -- A part of a trace: its first byte, and the one after its last.
-pub record Part : Type 0 where
-  pub from : ℕ
-  pub past : ℕ
+abbrev pub Part : Type 0
+Part = Range ℕ
 
 abbrev pub header_part : Part
-header_part = record { from = 0; past = 8 }
+header_part = record { start = 0; end = 8 }
 
 abbrev pub settings_part : Header → Part
-settings_part h = record { from = h.settings; past = h.settings + 10 }
+settings_part h = record { start = h.settings; end = h.settings + 10 }
 
 -- "A record takes four [bytes]".
 abbrev pub records_part : Header → Part
-records_part h = record { from = h.first; past = h.first + 4 * h.records }
+records_part h = record { start = h.first; end = h.first + 4 * h.records }
 
 -- No byte of one part is a byte of the other, and no byte of a part is past the trace's `size` bytes (specs/Exactly.antt).
 abbrev pub apart : Part → Part → Bool
-apart p q = leb p.past q.from || leb q.past p.from
+apart p q = leb p.end q.start || leb q.end p.start
 
 abbrev pub within : ℕ → Part → Bool
-within size p = leb p.past size
+within size p = leb p.end size
 
 unfoldable pub settings_fit : Header → Bool
 settings_fit h = within h.size (settings_part h) && apart header_part (settings_part h)
@@ -86,8 +87,7 @@ place_of first i = first + 4 * i
 
 -- The kinds of the first `count` records are 0 to 3.
 unfoldable pub kinds_known : List ℕ → ℕ → ℕ → Bool
-kinds_known l first zero = true
-kinds_known l first (suc i) = leb (byte_at l (place_of first i)) 3 && kinds_known l first i
+kinds_known l first count = list_all (λ i. leb (byte_at l (place_of first i)) 3) (range_with_len 0 count)
 
 -- "or a kind over 3"; in any record, before anything is made of the trace.
 unfoldable pub trace_refusal : List ℕ → ℕ

@@ -9,7 +9,5 @@ fn main(rt: HostRuntime) -> io::Result<()> {
     let mut input = [0u8; 3];
     let n = reading::read_full(&mut rt.stdin(), &mut input)?;
     let page = listing::page_for(&input[..n]);
-    let size = page.size;
-    let text = page.text;
-    rt.stdout().write_all(&text[..size])
+    rt.stdout().write_all(page.as_bytes())
 }

@@ -1,10 +1,6 @@
--- `replaying::play` meets its contract. The loop's invariant is `Playing`; the measure is the records left. Assumes nothing.
-use Prim.Native.Nat.{◌-◌}
+-- `replaying::play` meets its contract: the loop's invariant is `Playing`. Assumes nothing.
 use Rattle.replaying.proofs.Plays.{Playing}
 use Rattle.replaying.proofs.play.Given as goal
 
-abbrev pub invariant-loop-i : goal.invariant-loop-i
-invariant-loop-i l = Playing l.trace l.records l.initial.h l.initial.out l.out l.h l.i l.at
-
-abbrev pub decreases-loop-i : goal.decreases-loop-i
-decreases-loop-i l = l.records - l.i
+abbrev pub invariant-loop-number : goal.invariant-loop-number
+invariant-loop-number l = Playing l.trace l.records l.initial.handset l.initial.out l.out l.handset l.windows l.number-iterator.a l.number-iterator.b

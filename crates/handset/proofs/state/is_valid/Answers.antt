@@ -26,9 +26,9 @@ module _ (s : Settings) (n : ℕ) (t : Slot) where
       ≡ slot_valid s n t
   same some c ec cce below short eh set es down ed = rw (below, ec, eh, es, ed) (sym (valid_together s n t ∙ rw (ne_eqb t.kind 0 some)))
 
-pub returns-then-t-eq0 : goal.returns-then-t-eq0
-returns-then-t-eq0 c = nothing _ _ _ c.if-t-eq0.true
+pub returns-then-t : goal.returns-then-t
+returns-then-t c = nothing _ _ _ c.if-t.true
 
 pub returns : goal.returns
-returns c = same _ _ _ c.if-t-eq0.false _ c.new-cce.ensures _ c.is_cce.ensures _ c.is_too_short.ensures
+returns c = same _ _ _ c.if-t.false _ c.new-cce.ensures _ c.is_cce.ensures _ c.is_too_short.ensures
     _ c.has_scheduled.ensures _ c.is_downlink.ensures

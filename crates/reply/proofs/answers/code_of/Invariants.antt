@@ -1,14 +1,9 @@
--- `reply::answers::code_of` meets its contract. The loop's invariant: the number is that of the first m positions' state.
--- The measure is the positions left. Assumes nothing.
-use Prim.Native.Nat.{◌-◌, ◌≤◌}
+-- `reply::answers::code_of` meets its contract. The loop's invariant: the number is that of the first positions' state.
+-- Assumes nothing.
 use mathlib.Core.Path.{◌≡◌}
-use Rattle.frame.specs.Table.{window_of}
 use Rattle.heard.specs.Memory.{view_ago}
 use Rattle.reply.proofs.Multiplexing.{code_to}
 use Rattle.reply.proofs.answers.code_of.Given as goal
 
-abbrev pub invariant-loop-m : goal.invariant-loop-m
-invariant-loop-m l = (l.m ≤ l.size) × (l.code ≡ code_to (view_ago l.past) l.m (window_of l.config l.n))
-
-abbrev pub decreases-loop-m : goal.decreases-loop-m
-decreases-loop-m l = l.size - l.m
+abbrev pub invariant-loop-k : goal.invariant-loop-k
+invariant-loop-k l = l.code ≡ code_to (view_ago l.past) l.k-index l.k-items

@@ -1,26 +1,24 @@
--- `spelling::bytes::put_records` meets its contract. The loop's invariant is `Putting`; the measure is the records left. Assumes nothing.
-use Prim.Native.Nat.{◌+◌}
-use mathlib.Core.Path.{◌≡◌, ◌∙◌}
-use native.Mathlib.Omega.{arith}
-use Rattle.reader.proofs.Given.{next_number}
-use Rattle.spelling.proofs.Records.{begins_at, room, goes_on, ends}
+-- `spelling::bytes::put_records` meets its contract: a record is written, or none is left. Assumes nothing.
+use Rattle.std.proofs.Common.{Bor, List, ℕ, ◌≡◌, ◌+◌, ◌*◌, ◌-◌, ap, ◌∙◌, arith}
+use Rattle.replaying.proofs.Putting.{part_put}
+use Rattle.replaying.proofs.Turns.{turn, done}
+use Rattle.spelling.proofs.Records.{begins, ends, goes_on}
 use Rattle.spelling.proofs.bytes.put_records.Goals as goal
 
-pub loop-i-init : goal.loop-i-init
-loop-i-init c = begins_at _ _ _ _ c.first_number-i.ensures
+pub loop-number-init : goal.loop-number-init
+loop-number-init c =
+    rw (c.into_iter-number-iterator.ensures.into_iter_gives, c.zip-number-items.ensures.first, c.zip-number-items.ensures.second)
+    (begins _ _ _ c.requires c.new.result (ap (λ (b : Bor (List ℕ)). b.now) c.new.ensures.0) c.new.ensures.1)
 
-pub put_record-requires : goal.put_record-requires
-put_record-requires c = room _ _ _ c.requires _ _ c.loop-i.invariant c.loop-i-test.true
-
-pub loop-i-smaller : goal.loop-i-smaller
-loop-i-smaller c =
-    let after : c.number_after-i.result ≡ c.loop-i.i + 1 = c.number_after-i.ensures ∙ next_number _ (omega arith) in
-    rw after (omega arith)
-
-pub loop-i-preserved : goal.loop-i-preserved
-loop-i-preserved c =
-    let after : c.number_after-i.result ≡ c.loop-i.i + 1 = c.number_after-i.ensures ∙ next_number _ (omega arith) in
-    rw after (goes_on _ _ _ c.requires _ _ c.loop-i.invariant c.loop-i-test.true _ c.read_at.ensures _ c.put_record.ensures)
+pub loop-number-preserved : goal.loop-number-preserved
+loop-number-preserved c =
+    let p = c.loop-number.invariant in
+    let this = turn _ _ c.requires.trace c.requires.all _ _ p.before _ _ _ _ c.in-Some.ensures.steps in
+    let written = c.copy_from_slice.ensures.after ∙ c.slot_bytes.ensures in
+    let four : 4 ≡ 18 + 4 * c.in-Some.number + 4 - (18 + 4 * c.in-Some.number) = omega arith in
+    goes_on _ _ _ c.requires _ _ _ p _ _ _ _ this _ (rw written (part_put _ _ _ _ four))
 
 pub returns : goal.returns
-returns c = ends _ _ _ c.requires _ _ c.loop-i.invariant c.loop-i-test.false
+returns c =
+    let p = c.loop-number.invariant in
+    ends _ _ _ c.requires _ _ _ p (done _ _ c.requires.trace c.requires.all _ _ p.before c.in-None.ensures.steps)

@@ -1,10 +1,6 @@
--- `spelling::bytes::put_records` meets its contract. The loop's invariant is `Putting`; the measure is the records left. Assumes nothing.
-use Prim.Native.Nat.{◌-◌}
+-- `spelling::bytes::put_records` meets its contract: the loop's invariant is `Putting`. Assumes nothing.
 use Rattle.spelling.proofs.Records.{Putting}
 use Rattle.spelling.proofs.bytes.put_records.Given as goal
 
-abbrev pub invariant-loop-i : goal.invariant-loop-i
-invariant-loop-i l = Putting l.trace l.records l.initial.out l.out l.i
-
-abbrev pub decreases-loop-i : goal.decreases-loop-i
-decreases-loop-i l = l.records - l.i
+abbrev pub invariant-loop-number : goal.invariant-loop-number
+invariant-loop-number l = Putting l.trace l.records l.initial.out l.out l.number-iterator.a l.number-iterator.b

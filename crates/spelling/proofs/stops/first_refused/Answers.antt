@@ -1,30 +1,29 @@
--- `spelling::stops::first_refused` meets its contract. The loop's invariant is `Feeding`; the measure is the records left. Assumes nothing.
-use Prim.Native.Nat.{◌+◌}
-use mathlib.Core.Path.{◌≡◌, sym, ap, ◌∙◌}
-use native.Mathlib.Omega.{arith}
-use Rattle.handset.specs.declared.Fed.{Fed}
-use Rattle.reader.proofs.Given.{next_number}
-use Rattle.replaying.specs.Replay.{refusal_in}
-use Rattle.spelling.proofs.Feeding.{begins_at, stops, goes_on, ends}
+-- `spelling::stops::first_refused` meets its contract: a record is taken up, or refused, or none is left. Assumes nothing.
+use Rattle.std.proofs.Common.{Bor, List, ℕ, ap}
+use Rattle.std.proofs.lemmas.Result.{err_from_is_err_and}
+use Rattle.replaying.proofs.Turns.{turn, done}
+use Rattle.spelling.proofs.Feeding.{begins, ends, stops, goes_on}
 use Rattle.spelling.proofs.stops.first_refused.Goals as goal
 
-pub loop-i-init : goal.loop-i-init
-loop-i-init c = begins_at _ _ _ c.requires _ c.first_number-i.ensures
+pub loop-number-init : goal.loop-number-init
+loop-number-init c =
+    rw (c.into_iter-number-iterator.ensures.into_iter_gives, c.zip-number-items.ensures.first, c.zip-number-items.ensures.second)
+    (begins _ _ _ c.requires c.new.result (ap (λ (b : Bor (List ℕ)). b.now) c.new.ensures.0) c.new.ensures.1)
 
-pub returns-then-refusal-ne0 : goal.returns-then-refusal-ne0
-returns-then-refusal-ne0 c = stops _ _ _ c.requires _ _ c.loop-i.invariant c.loop-i-test.true _ c.heard_at-x.ensures _
-    (c.refusal_in-refusal.ensures ∙ ap (λ (f : Fed). refusal_in f.answer) c.feed-fed.ensures) c.if-refusal-ne0.true
+pub loop-number-preserved : goal.loop-number-preserved
+loop-number-preserved c =
+    let p = c.loop-number.invariant in
+    let this = turn _ _ c.requires.0 c.requires.1 _ _ p.before _ _ _ _ c.in-Some.ensures.steps in
+    goes_on _ _ _ c.requires _ _ _ p _ _ _ _ this _ c.in_ok-feed_record.ensures.answer _ c.feed_record.ensures.after
 
-pub loop-i-smaller : goal.loop-i-smaller
-loop-i-smaller c =
-    let after : c.number_after-i.result ≡ c.loop-i.i + 1 = c.number_after-i.ensures ∙ next_number _ (omega arith) in
-    rw after (omega arith)
-
-pub loop-i-preserved : goal.loop-i-preserved
-loop-i-preserved c =
-    let after : c.number_after-i.result ≡ c.loop-i.i + 1 = c.number_after-i.ensures ∙ next_number _ (omega arith) in
-    let none = sym (c.refusal_in-refusal.ensures ∙ ap (λ (f : Fed). refusal_in f.answer) c.feed-fed.ensures) ∙ c.if-refusal-ne0.false in
-    rw (after, c.feed-fed.ensures) (goes_on _ _ _ c.requires _ _ c.loop-i.invariant c.loop-i-test.true _ c.heard_at-x.ensures none)
+pub returns-in_err-feed_record : goal.returns-in_err-feed_record
+returns-in_err-feed_record c =
+    let p = c.loop-number.invariant in
+    let this = turn _ _ c.requires.0 c.requires.1 _ _ p.before _ _ _ _ c.in-Some.ensures.steps in
+    let given = err_from_is_err_and c.from_residual.result c.from_residual.ensures.1 in
+    rw (given.1, given.2) (stops _ _ _ c.requires _ _ _ p _ _ _ _ this _ c.in_err-feed_record.ensures.answer)
 
 pub returns : goal.returns
-returns c = ends _ _ _ c.requires _ _ c.loop-i.invariant c.loop-i-test.false
+returns c =
+    let p = c.loop-number.invariant in
+    ends _ _ _ c.requires _ _ _ p (done _ _ c.requires.0 c.requires.1 _ _ p.before c.in-None.ensures.steps)

@@ -1,7 +1,0 @@
--- `feedback::feedback_claims` meets its contract. Assumes nothing.
-use mathlib.Core.Path.{ap, ◌∙◌}
-use Rattle.numbers.specs.Answers.{claims_answer}
-use Rattle.feedback.proofs.feedback_claims.Goals as goal
-
-pub returns : goal.returns
-returns c = record { value = c.claims_numbers.ensures ∙ ap claims_answer c.claims_of.ensures.value; scratch_after = c.claims_of.ensures.scratch_after }

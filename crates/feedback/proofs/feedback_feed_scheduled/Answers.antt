@@ -1,7 +1,0 @@
--- `feedback::feedback_feed_scheduled` meets its contract. Assumes nothing.
-use mathlib.Core.Path.{ap, ◌∙◌}
-use Rattle.numbers.specs.Answers.{fed_answer}
-use Rattle.feedback.proofs.feedback_feed_scheduled.Goals as goal
-
-pub returns : goal.returns
-returns c = c.fed_numbers.ensures ∙ ap fed_answer c.feed.ensures
