@@ -225,14 +225,14 @@
  * account, which go in by value) and without the answer, which lies where its caller
  * puts it:
  *
- *             feedback_window         192
+ *             feedback_window         128
  *             feedback_answered       64
- *             feedback_resource       128
- *             feedback_inverse        128
+ *             feedback_resource       64
+ *             feedback_inverse        64
  *             feedback_reading        512
  *             feedback_confirmed      1280
- *             feedback_claims         192
- *             feedback_claims_bits    192
+ *             feedback_claims         128
+ *             feedback_claims_bits    128
  *             feedback_open_account   64
  *             feedback_credit         1024
  *             feedback_make           128

@@ -3,14 +3,12 @@
 use Prim.Native.Nat.{ℕ, ◌≤◌}
 use mathlib.Core.Bool.{cond}
 use mathlib.Core.List.{List, [], ◌∷◌}
-use mathlib.Core.Logic.{⊎_elim}
 use mathlib.Core.Path.{◌≡◌, refl, sym, ◌∙◌}
 use native.Mathlib.Decide.{ℕ_discrete}
 use native.Mathlib.Nat.{zero-add, add-zero}
 use native.Mathlib.Omega.{arith}
 use lib.Dec.{eqb, lit≤}
 use borrow.Author.Tests.{eq-eqb, ne_eqb}
-use Rattle.std.proofs.Common.{Result, Ok, Err}
 use Rattle.account.specs.declared.Account.{Account}
 use Rattle.account.specs.Account.{account_refusal, open_of, add_of}
 use Rattle.account.specs.Credits.{Answer, Booked, after, credited_in, OverAnyList}
@@ -22,19 +20,13 @@ pub refused_booked : (a : Account) (r : Answer) → (r.refusal ≡ 0 → ⊥) �
 refused_booked a r h same = record { leaves = λ _. same; adds = λ e. absurd (h e) }
 
 pub added_booked : (a : Account) (octets : ℕ) (r : Answer)
-    → ((b : Account) → add_of a octets ≡ Ok b → (r.refusal ≡ 0) × (r.octets ≡ octets) × (r.account ≡ b))
-    → ((k : ℕ) → add_of a octets ≡ Err k → (r.refusal ≡ k) × (r.account ≡ a))
+    → r.refusal ≡ (add_of a octets).refusal → r.account ≡ (add_of a octets).account → (r.refusal ≡ 0 → r.octets ≡ octets)
     → Booked a r
-added_booked a octets r given refused = go (add_of a octets) refl
-  where
-    go : (sum : Result Account ℕ) → add_of a octets ≡ sum → Booked a r
-    go (Ok b) e =
-        let f = given b e in
-        record { leaves = λ h. absurd (h f.0); adds = λ _. rw (f.1, f.2) e }
-    go (Err k) e =
-        let f = refused k e in
-        let some : k ≡ 0 → ⊥ = ⊎_elim (λ g. omega arith) (λ g. omega arith) (accounts.only_these a octets k e) in
-        record { leaves = λ _. f.1; adds = λ z. absurd (some (sym f.0 ∙ z)) }
+added_booked a octets r refusal account counted =
+    record {
+      leaves = λ h. account ∙ accounts.nothing a octets λ e. h (refusal ∙ e);
+      adds = λ e. rw (counted e) (sym refusal ∙ e, account);
+    }
 
 -- No octets are added to an account that stays as it is.
 still : (a : Account) → account_refusal a ≡ 0 → a.octets ≤ 1000000000000 → Grown a 0 a
@@ -48,7 +40,7 @@ module _ {C : Type 0} (credit : C → Account → Answer) (booked : (c : C) (a :
       go : Dec ((credit c a).refusal ≡ 0) → Grown a (cond (eqb (credit c a).refusal 0) (credit c a).octets 0) (credit c a).account
       go (yes e) =
           let f = (booked c a).adds e in
-          rw (eq-eqb (credit c a).refusal 0 e) (accounts.grown a (credit c a).octets (credit c a).account f)
+          rw (eq-eqb (credit c a).refusal 0 e, f.1) (accounts.grown a (credit c a).octets f.0)
       go (no n) = rw (ne_eqb (credit c a).refusal 0 n, (booked c a).leaves n) (still a h le)
 
   all : (cs : List C) (a : Account) → account_refusal a ≡ 0 → a.octets ≤ 1000000000000

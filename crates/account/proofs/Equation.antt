@@ -4,11 +4,12 @@ use Prim.Native.Nat.{ℕ, ◌*◌, ◌<◌, ◌≤◌}
 use mathlib.Core.Bool.{Bool, true, false, cond}
 use mathlib.Core.Logic.{◌⊎◌, inl, inr, ⊎_elim}
 use mathlib.Core.Path.{◌≡◌, refl, sym, ◌∙◌}
+use native.Mathlib.Decide.{dec_lt}
 use native.Mathlib.Nat.{zero-mul, div-add-mod, mod-lt}
 use native.Mathlib.Omega.{arith}
 use lib.Dec.{lit<}
 use borrow.Author.Tests.{ltb-false, leb-false, eqb-true, not-false, lt-ltb, le-ltb, lt-leb, eq-eqb}
-use Rattle.frame.proofs.Bools.{neither_test}
+use Rattle.std.proofs.lemmas.Bool.{or_parts}
 use Rattle.account.specs.declared.Account.{Account}
 use Rattle.account.specs.Account.{balanced, out_of_order, account_refusal, open_of, account_at}
 use Rattle.account.specs.Laws.{InOrder}
@@ -23,8 +24,8 @@ module _ (a : Account) where
   pub in_order : account_refusal a ≡ 0 → InOrder a
   unfolding account_refusal out_of_order balanced
   in_order e =
-      let f = neither_test _ _ (not_chosen (out_of_order a) e) in
-      let g = neither_test _ _ f.0 in
+      let f = or_parts _ _ (not_chosen (out_of_order a) e) in
+      let g = or_parts _ _ f.0 in
       record { price = ltb-false _ _ g.0; carry = leb-false _ _ g.1; equation = eqb-true _ _ (not-false _ f.1) }
 
   pub taken : InOrder a → account_refusal a ≡ 0
@@ -67,6 +68,14 @@ opened price h = (
 pub unopened : (price : ℕ) → 1000000 < price → ((open_of price).refusal ≡ 25) × (account_refusal (open_of price).account ≡ 25)
 unfolding open_of
 unopened price h = (rw (lt-ltb 1000000 price h), not_in_order (open_of price).account λ k. omega (arith, k.price))
+
+-- A new account is refused exactly where its price is.
+pub new_refused : (price : ℕ) → account_refusal (open_of price).account ≡ (open_of price).refusal
+new_refused price = go (dec_lt 1000000 price)
+  where
+    go : Dec (1000000 < price) → account_refusal (open_of price).account ≡ (open_of price).refusal
+    go (yes over) = let f = unopened price over in f.1 ∙ sym f.0
+    go (no fits) = let f = opened price (omega arith) in f.1 ∙ sym f.0
 
 -- What the code tests: the price, and the account against the one at its price and octets.
 module _ (a : Account) where

@@ -1,26 +1,15 @@
 -- 26 after 25, the account after octets are added, and all laws of one account together.
 -- Assumes nothing.
-use Prim.Native.Nat.{ℕ, zero, suc, ◌+◌, ◌<◌, ◌≤◌}
+use Prim.Native.Nat.{ℕ, ◌+◌, ◌<◌, ◌≤◌}
 use mathlib.Core.Logic.{◌⊎◌, inl, inr, ⊎_elim}
 use mathlib.Core.Path.{◌≡◌, refl, sym, ◌∙◌}
 use native.Mathlib.Decide.{dec_lt}
 use native.Mathlib.Omega.{arith}
-use borrow.Author.Tests.{lt-ltb, le-ltb}
-use Rattle.std.proofs.Common.{Ok, Err}
-use Rattle.frame.specs.Refusals.{unless_refused}
+use borrow.Author.Tests.{lt-ltb, le-ltb, eq-eqb, ne_eqb}
 use Rattle.account.specs.declared.Account.{Account}
 use Rattle.account.specs.Account.{account_refusal, account_at, add_refusal, add_of}
 use Rattle.account.specs.Laws.{Grown, Accounts}
 use Rattle.account.proofs.Equation.{in_order, taken, one_or_none, not_in_order, only, some, opened, unopened}
-
--- An answer has its refusal, or its value where there is none.
-value_back : {T : Type 0} (r : ℕ) (x y : T) → unless_refused r x ≡ Ok y → (r ≡ 0) × (y ≡ x)
-value_back zero x y e = (refl, cc)
-value_back (suc r) x y e = absurd (cc)
-
-refusal_back : {T : Type 0} (r k : ℕ) (x : T) → unless_refused r x ≡ Err k → (r ≡ k) × (k ≡ 0 → ⊥)
-refusal_back zero k x e = absurd (cc)
-refusal_back (suc r) k x e = (cc, λ z. absurd (cc))
 
 module _ (a : Account) (octets : ℕ) where
   -- 25 is met before 26 is looked at; else 26 is met exactly where the total passes the bound.
@@ -56,36 +45,29 @@ module _ (a : Account) (octets : ℕ) where
       (λ h. absurd (omega (arith, off h)))
       (one_or_none a)
 
-  -- The answer from its refusal, and back.
-  pub given : add_refusal a octets ≡ 0 → add_of a octets ≡ Ok (account_at a.price (a.octets + octets))
+  pub nothing : (add_refusal a octets ≡ 0 → ⊥) → (add_of a octets).account ≡ a
   unfolding add_of
-  given e = rw e
+  nothing h = rw (ne_eqb (add_refusal a octets) 0 h)
 
-  pub refused : (k : ℕ) → add_refusal a octets ≡ suc k → add_of a octets ≡ Err (suc k)
+  pub added : add_refusal a octets ≡ 0 → (add_of a octets).account ≡ account_at a.price (a.octets + octets)
   unfolding add_of
-  refused k e = rw e
+  added e = rw (eq-eqb (add_refusal a octets) 0 e)
 
-  pub given_back : (b : Account) → add_of a octets ≡ Ok b → (add_refusal a octets ≡ 0) × (b ≡ account_at a.price (a.octets + octets))
-  unfolding add_of
-  given_back b e = value_back (add_refusal a octets) _ b e
+  pub only_these : (add_refusal a octets ≡ 0 → ⊥) → (add_refusal a octets ≡ 25) ⊎ (add_refusal a octets ≡ 26)
+  only_these not =
+      ⊎_elim
+      (λ h. ⊎_elim (λ f. absurd (not f.0)) (λ f. inr f.0) (total (add_refusal a octets) refl h))
+      (λ h. inl (off h))
+      (one_or_none a)
 
-  pub refused_back : (k : ℕ) → add_of a octets ≡ Err k → (add_refusal a octets ≡ k) × (k ≡ 0 → ⊥)
-  unfolding add_of
-  refused_back k e = refusal_back (add_refusal a octets) k _ e
-
-  pub only_these : (k : ℕ) → add_of a octets ≡ Err k → (k ≡ 25) ⊎ (k ≡ 26)
-  only_these k e =
-      let f = refused_back k e in
-      ⊎_elim (λ h. ⊎_elim (λ g. absurd (f.1 g.0)) (λ g. inr g.0) (total k f.0 h)) (λ h. inl (sym f.0 ∙ off h)) (one_or_none a)
-
-  pub grown : (b : Account) → add_of a octets ≡ Ok b → Grown a octets b
+  pub grown : add_refusal a octets ≡ 0 → Grown a octets (add_of a octets).account
   unfolding account_at
-  grown b e =
-      let f = given_back b e in
-      let g = accepted f.0 in
-      rw f.1 (record { accepted = some a.price (a.octets + octets) g.0; octets = refl; most = g.1; price = refl })
+  grown e =
+      let f = accepted e in
+      rw (added e) (record { accepted = some a.price (a.octets + octets) f.0; octets = refl; most = f.1; price = refl })
 
 pub accounts : Accounts
+unfolding add_of
 accounts =
     record {
       accepted = λ a. (in_order a, taken a);
@@ -94,12 +76,10 @@ accounts =
       some = some;
       opened = opened;
       unopened = unopened;
-      first = λ a o. (λ e. ⊎_elim (λ h. absurd (never25 a o h (refused_back a o 25 e).0)) (λ h. h) (one_or_none a), λ h. refused a o 24 (off a o h));
-      never25 = λ a o h e. never25 a o h (refused_back a o 25 e).0;
-      over = λ a o h. (
-        λ e. ⊎_elim (λ f. absurd (omega (arith, f.0))) (λ f. f.1) (total a o 26 (refused_back a o 26 e).0 h),
-        λ lt. refused a o 25 (past a o h lt),
-      );
+      first = λ a o. (λ e. ⊎_elim (λ h. absurd (never25 a o h e)) (λ h. h) (one_or_none a), off a o);
+      never25 = never25;
+      over = λ a o h. (λ e. ⊎_elim (λ f. absurd (omega (arith, f.0))) (λ f. f.1) (total a o 26 e h), past a o h);
       only_these = only_these;
+      nothing = nothing;
       grown = grown;
     }

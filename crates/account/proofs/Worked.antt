@@ -4,22 +4,17 @@ use Prim.Native.Nat.{ℕ}
 use mathlib.Core.List.{List, [], ◌∷◌}
 use mathlib.Core.Path.{◌≡◌, refl}
 use lib.Dec.{lit≤}
-use Rattle.std.proofs.Common.{Result, Ok, Err}
 use Rattle.account.specs.declared.Account.{Account}
 use Rattle.account.specs.Account.{balanced, out_of_order, account_refusal, open_of, account_at, add_refusal, add_of}
 use Rattle.account.specs.Credits.{Answer, Booked, after, credited_in, Charged}
 use Rattle.account.proofs.Credits.{added_booked, over_any_list}
 
 -- A call that asks for octets to be added, refused or not.
-abbrev answered : ℕ → Account → Result Account ℕ → Answer
-answered octets a (Ok b) = record { refusal = 0; octets = octets; account = b }
-answered octets a (Err k) = record { refusal = k; octets = octets; account = a }
-
 abbrev pub adding : ℕ → Account → Answer
-adding octets a = answered octets a (add_of a octets)
+adding octets a = record { refusal = (add_of a octets).refusal; octets = octets; account = (add_of a octets).account }
 
 pub adding_booked : (octets : ℕ) (a : Account) → Booked a (adding octets a)
-adding_booked octets a = added_booked a octets (adding octets a) (λ b e. rw e (refl, refl, refl)) (λ k e. rw e (refl, refl))
+adding_booked octets a = added_booked a octets (adding octets a) refl refl λ _. refl
 
 abbrev pub account_of : ℕ → ℕ → ℕ → ℕ → Account
 account_of octets charged price carry = record { octets = octets; charged = charged; price = price; carry = carry }
@@ -33,9 +28,9 @@ pub record OnNumbers : Type 0 where
   pub wide : (account_refusal (account_of 18446744073709551615 18446744073709551615 1000000 0) ≡ 0)
       × (account_refusal (account_of 9223372036854775808 0 2 0) ≡ 25)
   -- 1,000,000,000,000 octets are not passed by as many; an account beyond them is refused even for no octets, and 25 comes first
-  pub bound : (add_of (account_at 7 999999999999) 1 ≡ Ok (account_of 1000000000000 7000000 7 0))
-      × (add_of (account_at 7 999999999999) 2 ≡ Err 26)
-  pub beyond : (add_of (account_at 0 1000000000001) 0 ≡ Err 26) × (add_of (account_of 1000000000001 1 0 0) 0 ≡ Err 25)
+  pub bound : (add_of (account_at 7 999999999999) 1 ≡ record { refusal = 0; account = account_of 1000000000000 7000000 7 0 })
+      × (add_of (account_at 7 999999999999) 2 ≡ record { refusal = 26; account = account_of 999999999999 6999999 7 999993 })
+  pub beyond : ((add_of (account_at 0 1000000000001) 0).refusal ≡ 26) × ((add_of (account_of 1000000000001 1 0 0) 0).refusal ≡ 25)
 
 pub on_numbers : OnNumbers
 unfolding balanced out_of_order account_refusal account_at add_refusal add_of
@@ -56,7 +51,7 @@ three = 3 ∷ 1000000000000 ∷ 5 ∷ []
 -- At 300,000 smallest coins per million octets the 8 octets credited cost 2 and 400,000 millionths.
 pub record OnAList : Type 0 where
   pub new : open_of 300000 ≡ record { refusal = 0; account = account_of 0 0 300000 0 }
-  pub refused : add_of (account_of 3 0 300000 900000) 1000000000000 ≡ Err 26
+  pub refused : add_of (account_of 3 0 300000 900000) 1000000000000 ≡ record { refusal = 26; account = account_of 3 0 300000 900000 }
   pub end : after adding (open_of 300000).account three ≡ account_of 8 2 300000 400000
   pub credited : credited_in adding (open_of 300000).account three ≡ 8
   -- the law, on this list

@@ -1,10 +1,8 @@
 -- The account and its refusals: document 02, U10.
 -- Assumes nothing.
-use Rattle.std.specs.Prelude.{ℕ, ◌+◌, ◌*◌, ◌/◌, ◌%◌, Bool, cond, not, ◌||◌, ltb, leb, eqb, Result}
-use Rattle.frame.specs.Refusals.{unless_refused}
+use Rattle.std.specs.Prelude.{ℕ, ◌+◌, ◌*◌, ◌/◌, ◌%◌, Bool, cond, not, ◌||◌, ltb, leb, eqb}
 use Rattle.frame.specs.Settings.{or_else}
 use Rattle.account.specs.declared.Account.{Account}
-use Rattle.account.specs.declared.Opened.{Opened}
 
 -- "octets × price = 1,000,000 × charged + carry".
 unfoldable pub balanced : Account → Bool
@@ -19,8 +17,13 @@ out_of_order a = ltb 1000000 a.price || leb 1000000 a.carry || not (balanced a)
 unfoldable pub account_refusal : Account → ℕ
 account_refusal a = cond (out_of_order a) 25 0
 
--- A new account has no octets, nothing charged and nothing left over. 25 is "a price, out of range"; the account beside it has that price, so
--- that 25 is met by it too.
+-- What is opened: the refusal, 0 for none, and the account.
+pub record Opened : Type 0 where
+  pub refusal : ℕ
+  pub account : Account
+
+-- A new account has no octets, nothing charged and nothing left over. 25 is "a price, out of range"; the account beside it has that
+-- price, so that 25 is met by it too.
 unfoldable pub open_of : ℕ → Opened
 open_of price =
     record { refusal = cond (ltb 1000000 price) 25 0; account = record { octets = 0; charged = 0; price = price; carry = 0 } }
@@ -34,6 +37,15 @@ account_at price octets =
 unfoldable pub add_refusal : Account → ℕ → ℕ
 add_refusal a octets = or_else (account_refusal a) (cond (ltb 1000000000000 (a.octets + octets)) 26 0)
 
--- Octets added to an account; where there is a refusal there is no other account, "with nothing credited".
-unfoldable pub add_of : Account → ℕ → Result Account ℕ
-add_of a octets = unless_refused (add_refusal a octets) (account_at a.price (a.octets + octets))
+-- What adding octets gives: the refusal, 0 for none, and the account.
+pub record Added : Type 0 where
+  pub refusal : ℕ
+  pub account : Account
+
+-- Octets added to an account; "with nothing credited" where there is a refusal.
+unfoldable pub add_of : Account → ℕ → Added
+add_of a octets =
+    record {
+      refusal = add_refusal a octets;
+      account = cond (eqb (add_refusal a octets) 0) (account_at a.price (a.octets + octets)) a;
+    }

@@ -1,7 +1,7 @@
 -- Any list of credits from a new account: document 02, U10. It is said once for calls of any kind C and for any function that answers
 -- them, so that what credits a reading (the crate `credit`) has to show what one call does to an account, and no more.
 -- Assumes nothing.
-use Rattle.std.specs.Prelude.{ℕ, ◌+◌, ◌*◌, ◌<◌, ◌≤◌, cond, List, [], ◌∷◌, ◌≡◌, eqb, Ok}
+use Rattle.std.specs.Prelude.{ℕ, ◌+◌, ◌*◌, ◌<◌, ◌≤◌, cond, List, [], ◌∷◌, ◌≡◌, eqb}
 use Rattle.account.specs.declared.Account.{Account}
 use Rattle.account.specs.Account.{open_of, add_of}
 
@@ -14,7 +14,7 @@ pub record Answer : Type 0 where
 -- One call on the account `a`: a refusal leaves it as it was; else the octets that are answered are added to it.
 pub record Booked (a : Account) (r : Answer) : Type 0 where
   pub leaves : (r.refusal ≡ 0 → ⊥) → r.account ≡ a
-  pub adds : r.refusal ≡ 0 → add_of a r.octets ≡ Ok r.account
+  pub adds : r.refusal ≡ 0 → ((add_of a r.octets).refusal ≡ 0) × (r.account ≡ (add_of a r.octets).account)
 
 module _ {C : Type 0} (credit : C → Account → Answer) where
   -- The account after the calls, each on the account that the one before it left.

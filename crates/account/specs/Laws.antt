@@ -1,6 +1,6 @@
 -- What document 02, U10, says of one account: when 25 and 26 are met, and what a call that neither refuses leaves.
 -- Assumes nothing.
-use Rattle.std.specs.Prelude.{ℕ, ◌+◌, ◌*◌, ◌<◌, ◌≤◌, ◌⊎◌, ◌↔◌, ◌≡◌, Ok, Err}
+use Rattle.std.specs.Prelude.{ℕ, ◌+◌, ◌*◌, ◌<◌, ◌≤◌, ◌⊎◌, ◌↔◌, ◌≡◌}
 use Rattle.account.specs.declared.Account.{Account}
 use Rattle.account.specs.Account.{account_refusal, open_of, account_at, add_of}
 
@@ -28,10 +28,11 @@ pub record Accounts : Type 0 where
   pub opened : (price : ℕ) → price ≤ 1000000 → ((open_of price).refusal ≡ 0) × (account_refusal (open_of price).account ≡ 0)
   pub unopened : (price : ℕ) → 1000000 < price → ((open_of price).refusal ≡ 25) × (account_refusal (open_of price).account ≡ 25)
   -- 25 comes first, and is not met by an account in order
-  pub first : (a : Account) (octets : ℕ) → (add_of a octets ≡ Err 25) ↔ (account_refusal a ≡ 25)
-  pub never25 : (a : Account) (octets : ℕ) → account_refusal a ≡ 0 → add_of a octets ≡ Err 25 → ⊥
+  pub first : (a : Account) (octets : ℕ) → ((add_of a octets).refusal ≡ 25) ↔ (account_refusal a ≡ 25)
+  pub never25 : (a : Account) (octets : ℕ) → account_refusal a ≡ 0 → (add_of a octets).refusal ≡ 25 → ⊥
   -- 26 is met exactly where the total would pass 1,000,000,000,000 octets
-  pub over : (a : Account) (octets : ℕ) → account_refusal a ≡ 0 → (add_of a octets ≡ Err 26) ↔ (1000000000000 < a.octets + octets)
-  -- no other refusal is met, and where none is the octets are added
-  pub only_these : (a : Account) (octets k : ℕ) → add_of a octets ≡ Err k → (k ≡ 25) ⊎ (k ≡ 26)
-  pub grown : (a : Account) (octets : ℕ) (b : Account) → add_of a octets ≡ Ok b → Grown a octets b
+  pub over : (a : Account) (octets : ℕ) → account_refusal a ≡ 0 → ((add_of a octets).refusal ≡ 26) ↔ (1000000000000 < a.octets + octets)
+  -- no other refusal is met, a refusal credits nothing, and else the octets are added
+  pub only_these : (a : Account) (octets : ℕ) → ((add_of a octets).refusal ≡ 0 → ⊥) → ((add_of a octets).refusal ≡ 25) ⊎ ((add_of a octets).refusal ≡ 26)
+  pub nothing : (a : Account) (octets : ℕ) → ((add_of a octets).refusal ≡ 0 → ⊥) → (add_of a octets).account ≡ a
+  pub grown : (a : Account) (octets : ℕ) → (add_of a octets).refusal ≡ 0 → Grown a octets (add_of a octets).account

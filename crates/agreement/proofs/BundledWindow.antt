@@ -1,7 +1,6 @@
 -- One bundled window, from what was sent and heard in it alone: demand 3's sentences on a window that 01 bundles.
 -- Assumes nothing.
-use Rattle.std.proofs.Common.{Result, Ok, Err}
-use Rattle.resource.specs.declared.Resource.{Resource}
+use Rattle.std.proofs.Common.{Some, Result, Ok}
 use Prim.Native.Nat.{ℕ, ◌+◌, ◌-◌, ◌%◌, ◌<◌, ◌≤◌}
 use mathlib.Core.Bool.{Bool, true, false, cond, not, ◌&&◌, and-true, false≢true}
 use mathlib.Core.List.{List, map}
@@ -33,10 +32,10 @@ use Rattle.reply.specs.declared.Reply.{Reply}
 use Rattle.reply.specs.Kinds.{kind_bundled}
 use Rattle.fold.specs.declared.Seen.{Seen}
 use Rattle.heard.specs.declared.View.{View}
-use Rattle.fold.specs.Fold.{unseen, step_of, seen_of}
+use Rattle.fold.specs.Fold.{expected, unseen, step_of, seen_of}
 use Rattle.heard.specs.Heard.{is_block, view_of}
 use Rattle.heard.specs.Memory.{bit}
-use Rattle.reply.specs.Replies.{reply_on, expected, miss_shown, second_bit, lone_answer, bundled_answer}
+use Rattle.reply.specs.Replies.{reply_on, miss_shown, second_bit, lone_answer, bundled_answer}
 use Rattle.reply.proofs.Answered.{second_small}
 use Rattle.station.specs.declared.Place.{Place}
 use Rattle.station.specs.declared.Place.TheVariants as place
@@ -197,7 +196,7 @@ module _ (set : Settings) (n : ℕ) (good : window_refusal set n ≡ 0) (ok : Ac
   -- the answer to a lone scheduled block
   lone : any_of is_pdcch es ≡ false → any_of is_block es ≡ true
       → bundled_answer set n seen
-      ≡ answer.Sent (record { kind = kind_bundled; resource = record { 0 = set.scheduled }; b0 = bit seen.first; b1 = second_bit set seen; second = record { 0 = second_port set set.scheduled } })
+      ≡ answer.Sent (record { kind = kind_bundled; resource = record { 0 = set.scheduled }; b0 = bit seen.first; b1 = second_bit set seen; second = second_port set set.scheduled })
   unfolding bundled_answer lone_answer reply_on
   lone none some = rw (eq-eqb seen.u 0 (u_is ∙ none_counted es none), block_is ∙ some)
 
@@ -275,7 +274,7 @@ module _ (set : Settings) (n : ℕ) (good : window_refusal set n ≡ 0) (ok : Ac
   -- it goes on the resource of the last heard PDCCH
   goes_on : (m c r : ℕ) → seen.position ≡ m → seen.cce.0 ≡ c → resource_of set n m c ≡ Ok (record { 0 = r })
       → reply_on set kind_bundled (resource_of set n seen.position seen.cce.0) (bit seen.first) (second_bit set seen)
-      ≡ answer.Sent (record { kind = kind_bundled; resource = record { 0 = r }; b0 = bit seen.first; b1 = second_bit set seen; second = record { 0 = second_port set r } })
+      ≡ answer.Sent (record { kind = kind_bundled; resource = record { 0 = r }; b0 = bit seen.first; b1 = second_bit set seen; second = second_port set r })
   unfolding reply_on
   goes_on m c r em ec there = rw (em, ec, there)
 
@@ -287,7 +286,7 @@ module _ (set : Settings) (n : ℕ) (good : window_refusal set n ≡ 0) (ok : Ac
   -- the reply that is due, on a resource: what it says beside what it is read as
   module _ (r : ℕ) where
     sent : Reply
-    sent = record { kind = kind_bundled; resource = record { 0 = r }; b0 = bit seen.first; b1 = second_bit set seen; second = record { 0 = second_port set r } }
+    sent = record { kind = kind_bundled; resource = record { 0 = r }; b0 = bit seen.first; b1 = second_bit set seen; second = second_port set r }
 
     abbrev Right : Type 0
     Right = BundledReply set (resource_of set n) read (window_of set.config n) es sent
@@ -300,7 +299,7 @@ module _ (set : Settings) (n : ℕ) (good : window_refusal set n ≡ 0) (ok : Ac
         → (m : ℕ) × (m < size_of set n) × (get_or (window_of set.config n) m 0 ≡ k)
         × (r ≡ set.scheduled)
         × (read r (bit seen.first) (second_bit set seen) ≡ Ok (reading.Bundled (place.Block m) (bit seen.first) (second_bit set seen))))
-        → (set.ports ≡ 2 → second_port set r ≡ r + 1)
+        → (set.ports ≡ 2 → second_port set r ≡ Some (record { 0 = r + 1 }))
         → Right
     unfolding sent
     says is_read alone above =

@@ -3,7 +3,8 @@
 -- speaks only for PDCCHs that were received (confirmation/proofs/Received.antt), and an ACK says that each decoded its block. A reply
 -- to a lone scheduled block is read as that block, which was heard.
 -- Assumes nothing.
-use Rattle.std.proofs.Common.{Result, Ok, Err}
+use Rattle.std.proofs.Common.{Result, Ok}
+use Rattle.std.proofs.lemmas.Bool.{and_parts}
 use Rattle.resource.specs.declared.Resource.{Resource}
 use Prim.Native.Nat.{ℕ, suc, ◌-◌, ◌/◌, ◌%◌, ◌^◌, ◌<◌, ◌≤◌, suc-le-suc}
 use mathlib.Core.Bool.{Bool, true, false, cond, ◌&&◌, ◌||◌, false≢true}
@@ -20,7 +21,6 @@ use Rattle.frame.specs.declared.Settings.{Settings}
 use Rattle.frame.specs.Order.{member, times_of}
 use Rattle.frame.specs.Settings.{settings_refusal}
 use Rattle.frame.proofs.Accepted.{accepted}
-use Rattle.frame.proofs.Bools.{both}
 use Rattle.frame.proofs.Lists as lists
 use Rattle.frame.proofs.Times.{in_time_order}
 use Rattle.symbols.specs.declared.State.{State}
@@ -282,8 +282,8 @@ module _ (set : Settings) (good : settings_refusal set ≡ 0) (sent : ℕ → Se
         → (holds_for (window_at set s) S named (get_or (window_at set s) m 0) ≡ true) × (acknowledged (S (get_or (window_at set s) m 0)) block r.b0 r.b1 ≡ true)
     acked named m block e =
         let k : ℕ = get_or (window_at set s) m 0 in
-        let p = both (named_sent (window_at set s) S named && holds_for (window_at set s) S named k) (acknowledged (S k) block r.b0 r.b1) e in
-        ((both (named_sent (window_at set s) S named) (holds_for (window_at set s) S named k) p.0).1, p.1)
+        let p = and_parts (named_sent (window_at set s) S named && holds_for (window_at set s) S named k) (acknowledged (S k) block r.b0 r.b1) e in
+        ((and_parts (named_sent (window_at set s) S named) (holds_for (window_at set s) S named k) p.0).1, p.1)
 
     pub bundled_confirmed : (m block : ℕ) (resource : ℕ → ℕ → Result Resource ℕ) (read : ℕ → ℕ → ℕ → Result Reading ℕ) (a : Result Answer ℕ)
         → Bundled set resource read (window_at set s) (map (entry S H) ts) a → a ≡ Ok (answer.Sent r)
@@ -348,7 +348,7 @@ module _ (set : Settings) (good : settings_refusal set ≡ 0) (sent : ℕ → Se
         let k : ℕ = get_or (window_at set s) m 0 in
         let p = carried (window_at set s) S (read r.resource.0 r.b0 r.b1) m block e in
         let says : says_ack (window_at set s) S (Ok (reading.Multiplexed reply.named reply.delivered)) m block ≡ true = rw reply.is_read at p.2 in
-        let bit = eqb-true (reply.delivered / 2 ^ m % 2) 1 (both (named_sent (window_at set s) S reply.named) (eqb (reply.delivered / 2 ^ m % 2) 1) says).1 in
+        let bit = eqb-true (reply.delivered / 2 ^ m % 2) 1 (and_parts (named_sent (window_at set s) S reply.named) (eqb (reply.delivered / 2 ^ m % 2) 1) says).1 in
         let d = delivered_ack m resource read a window is p.0 bit in
         let same = sent_heard (S k) (H k) d.0 (brings k) in
         decoded_block_holds (H k) block (rw same p.1) (rw same (sent_blocks k)) (λ two zero. d.1) (λ two other. d.2) (λ one. inl d.1)

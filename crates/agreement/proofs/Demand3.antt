@@ -1,6 +1,6 @@
 -- Demand 3 of the engine of this repository: specs/Demand3.antt, proved.
 -- Assumes nothing.
-use Rattle.std.proofs.Common.{Result, Ok, Err, Option, Some, None}
+use Rattle.std.proofs.Common.{Result, Err, Option, Some, None}
 use Prim.Native.Nat.{ℕ, zero, suc, ◌+◌, ◌%◌, ◌<◌}
 use mathlib.Core.Bool.{Bool, true, false, cond}
 use mathlib.Core.List.{List, [], ◌∷◌}

@@ -9,8 +9,8 @@ use mathlib.Core.Logic.{inl, inr, ◌↔◌}
 use mathlib.Core.Path.{◌≡◌, refl, sym, ap, ◌∙◌}
 use native.Mathlib.Omega.{arith}
 use lib.ListN.{length}
+use Rattle.std.proofs.lemmas.Bool.{and_parts}
 use Rattle.frame.specs.Order.{position_of}
-use Rattle.frame.proofs.Bools.{both}
 use Rattle.confirmation.specs.declared.Send.{Send}
 use Rattle.confirmation.specs.Sent.{is_pdcch as is_sent_pdcch, dai_of}
 use Rattle.heard.specs.declared.Heard.{Heard}
@@ -168,7 +168,7 @@ module _ (ks : List ℕ) where
         let join = joined seen (position_of k ks) x in (
           λ e.
               let p = rest.0 e in
-              let q = both (field seen) (decoded x) (sym join ∙ p.0) in
+              let q = and_parts (field seen) (decoded x) (sym join ∙ p.0) in
               (q.0, (q.1, p.1)),
           λ p. rest.1 (join ∙ rw (p.0, p.1.0), p.1.1),
         )

@@ -1,7 +1,7 @@
 -- No reader could credit more in a window of a run (document 02, U7): its state is one of those that limit/specs/Rules.antt counts,
 -- since a feed brings nothing where nothing was sent.
 -- Assumes nothing.
-use Rattle.std.proofs.Common.{Result, Ok, Err}
+use Rattle.std.proofs.Common.{Result}
 use Rattle.resource.specs.declared.Resource.{Resource}
 use Prim.Native.Nat.{ℕ, ◌/◌, ◌%◌, ◌^◌, ◌<◌}
 use mathlib.Core.Bool.{true, false, false≢true}

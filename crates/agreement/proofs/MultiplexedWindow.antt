@@ -1,6 +1,7 @@
 -- One multiplexed window, from what was heard in it alone: demand 3's sentences on a window that 01 multiplexes.
 -- Assumes nothing.
-use Rattle.std.proofs.Common.{Result, Ok, Err, Option, Some, None}
+use Rattle.std.proofs.Common.{Result, Ok, Option, Some, None}
+use Rattle.std.proofs.lemmas.Bool.{false_from_ne_true, or_parts}
 use Rattle.resource.specs.declared.Resource.{Resource}
 use Prim.Native.Nat.{ℕ, ◌/◌, ◌%◌, ◌^◌, ◌<◌, ◌≤◌}
 use mathlib.Core.Bool.{Bool, true, false, cond, ◌&&◌, false≢true}
@@ -16,7 +17,6 @@ use Rattle.frame.specs.Order.{times_of}
 use Rattle.frame.specs.Settings.{has_second_port, bundles, window_refusal}
 use Rattle.frame.specs.Table.{window_of}
 use Rattle.frame.proofs.Accepted.{answered as accepted-window}
-use Rattle.frame.proofs.Bools.{neither_test, never_true}
 use Rattle.frame.proofs.Lists as lists
 use Rattle.frame.proofs.Windows.{window_k}
 use Rattle.resource.specs.Calls.{size_of, resource_of}
@@ -191,7 +191,7 @@ module _ (set : Settings) (n : ℕ) (good : window_refusal set n ≡ 0) (mode : 
   goes_on : (i b0 b1 r : ℕ) (x : Heard) → F (get_or (window_of set.config n) i 0) ≡ view_of x
       → carrier_of set n i (view_of x) ≡ Ok (record { 0 = r })
       → symbol_answer set n F (window_of set.config n) (symbol i b0 b1)
-      ≡ answer.Sent (record { kind = kind_multiplexed; resource = record { 0 = r }; b0 = b0; b1 = b1; second = record { 0 = second_port set r } })
+      ≡ answer.Sent (record { kind = kind_multiplexed; resource = record { 0 = r }; b0 = b0; b1 = b1; second = second_port set r })
   unfolding symbol_answer reply_on
   goes_on i b0 b1 r x seen there = rw (seen, there)
 
@@ -214,8 +214,8 @@ module _ (set : Settings) (n : ℕ) (good : window_refusal set n ≡ 0) (mode : 
   unfolding bundles
   no_second =
       let ok = (accepted-window set n good).0 in
-      let other = eqb-false set.mode 0 (neither_test (eqb set.mode 0) (eqb (size_of set n) 1) mode).0 in
-      never_true (has_second_port set) (λ two. (ok.two_ports two).0 (omega (arith, other, ok.mode)))
+      let other = eqb-false set.mode 0 (or_parts (eqb set.mode 0) (eqb (size_of set n) 1) mode).0 in
+      false_from_ne_true (has_second_port set) (λ two. (ok.two_ports two).0 (omega (arith, other, ok.mode)))
 
   -- the reply of a symbol
   sent : (i b0 b1 : ℕ) → symbol_of states ≡ symbol i b0 b1
@@ -228,7 +228,7 @@ module _ (set : Settings) (n : ℕ) (good : window_refusal set n ≡ 0) (mode : 
       let b = window_k set.config n i inside in
       let heard : is_heard (H k) ≡ true = was_heard (is_heard (H k)) refl (λ u. h.1 (state_at_holds i inside ∙ unheard_dtx (H k) u)) in
       let c : Carried i (H k) = carried i inside (H k) refl heard in (
-        record { kind = kind_multiplexed; resource = record { 0 = c.resource }; b0 = b0; b1 = b1; second = record { 0 = second_port set c.resource } },
+        record { kind = kind_multiplexed; resource = record { 0 = c.resource }; b0 = b0; b1 = b1; second = second_port set c.resource },
         goes_on i b0 b1 c.resource (H k) (view k (omega arith) (omega arith)) c.seen_on,
         record {
           kind = refl;

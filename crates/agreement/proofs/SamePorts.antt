@@ -1,7 +1,7 @@
 -- Document 02, U9, moved nothing for a handset of one antenna port: its settings and changes of mode are refused as before, and it has no
 -- second resource. That its claims are checked as before is `OnePort` of claims/specs/OnPorts.antt.
 -- Assumes nothing.
-use Rattle.std.proofs.Common.{Result, Ok, Err}
+use Rattle.std.proofs.Common.{None, Result, Ok, Err}
 use Rattle.resource.specs.declared.ports.OnPorts.{OnPorts}
 use Rattle.resource.specs.declared.Resource.{Resource}
 use Prim.Native.Nat.{ℕ}
@@ -21,7 +21,7 @@ use Rattle.reply.proofs.Ports.{second_carried}
 
 -- The resource call's answer with no second resource.
 abbrev first_alone : Result Resource ℕ → Result OnPorts ℕ
-first_alone (Ok r) = Ok (record { first = r; second = (record { 0 = 0 }) })
+first_alone (Ok r) = Ok (record { first = r; second = None })
 first_alone (Err k) = Err k
 
 pub record SamePorts (s : Settings) : Type 0 where
@@ -32,7 +32,7 @@ pub record SamePorts (s : Settings) : Type 0 where
   pub change : (m : ℕ) → new_mode_refusal (in_mode s m) ≡ mode_refusal (in_mode s m)
   -- the resource call, and the answer of every window, whatever was heard in it
   pub resource : (n m c : ℕ) → ports_of s n m c ≡ first_alone (resource_of s n m c)
-  pub reply : (n : ℕ) (view : ℕ → View) (r : Reply) → window_answer s n view ≡ Sent r → r.second.0 ≡ 0
+  pub reply : (n : ℕ) (view : ℕ → View) (r : Reply) → window_answer s n view ≡ Sent r → r.second ≡ None
 
 module _ (s : Settings) (one : s.ports ≡ 1) where
   first_alone_holds : (x : Result Resource ℕ) → on_ports s x ≡ first_alone x

@@ -1,7 +1,7 @@
 -- Document 02, U1, moved nothing for a station that sends grants alone: what it added to demand 3 is empty in the runs of such a
 -- station.
 -- Assumes nothing.
-use Rattle.std.proofs.Common.{Option, Some, None, Result, Ok, Err}
+use Rattle.std.proofs.Common.{None, Result, Ok}
 use Rattle.resource.specs.declared.Resource.{Resource}
 use Prim.Native.Nat.{ℕ, zero, suc, ◌-◌, ◌%◌}
 use mathlib.Core.Bool.{Bool, true, false, cond, false≢true}

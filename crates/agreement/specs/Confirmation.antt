@@ -1,7 +1,7 @@
 -- What a scheduler may conclude from a reading, in every run of demand 3: what include/feedback.h says at feedback_reading. And that no
 -- cleverer reading could conclude more from a multiplexed reply: document 02, U7.
 -- Assumes nothing.
-use Rattle.std.specs.Prelude.{Result, Ok, Err, ℕ, ◌/◌, ◌%◌, ◌^◌, ◌<◌, Bool, true, false, cond, ◌&&◌, List, ◌≡◌, eqb, ltb, length, get_or}
+use Rattle.std.specs.Prelude.{Result, Ok, ℕ, ◌/◌, ◌%◌, ◌^◌, ◌<◌, Bool, true, false, cond, ◌&&◌, List, ◌≡◌, eqb, ltb, length, get_or}
 use Rattle.frame.specs.declared.Settings.{Settings}
 use Rattle.frame.specs.Settings.{settings_refusal}
 use Rattle.resource.specs.declared.Cce.{Cce}

@@ -1,7 +1,7 @@
 -- Demand 3, whole, as a statement about an engine: its make, feed, change of mode, resource, inverse and reading as functions. Document
 -- 00, demand 3, document 01, "The runs of demand 3", and document 02, U1, U8 and U9: each field quotes the sentence that it states.
--- proofs/Demand3.antt proves it of the definitions that the promises of the code are equations with: make_of (handset::make), feed_of
--- (handset::feed), change_of (handset::change_mode), resource_of and inverse_of (resource::resource_of and inverse_of), read_of
+-- proofs/Demand3.antt proves it of the definitions that the promises of the code are equations with: make_of (Handset::new), feed_of
+-- (Handset::feed), change_of (Handset::change_mode), resource_of and inverse_of (resource::resource_of and inverse_of), read_of
 -- (station::read).
 -- Assumes nothing.
 use Rattle.std.specs.Prelude.{Option, Some, None, Result, Ok, Err, ℕ, ◌%◌, ◌<◌, true, false, List, [], ◌⊎◌, ◌↔◌, ◌≡◌, length, get_or, take}

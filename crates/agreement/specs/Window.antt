@@ -1,7 +1,7 @@
 -- What demand 3 says of one window whose uplink subframe was fed: document 00, demand 3, and document 01, "The runs of demand 3";
 -- document 02, U1 and U9.
 -- Assumes nothing.
-use Rattle.std.specs.Prelude.{Result, Ok, Err, ℕ, ◌+◌, ◌/◌, ◌%◌, ◌^◌, ◌<◌, ◌≤◌, Bool, true, false, cond, not, ◌&&◌, ◌||◌, List, [], ◌∷◌, map, ◌⊎◌, ◌↔◌, ◌≡◌, eqb, length, get_or}
+use Rattle.std.specs.Prelude.{Some, None, Result, Ok, ℕ, ◌+◌, ◌/◌, ◌%◌, ◌^◌, ◌<◌, ◌≤◌, Bool, true, false, cond, not, ◌&&◌, ◌||◌, List, [], ◌∷◌, map, ◌⊎◌, ◌↔◌, ◌≡◌, eqb, length, get_or}
 use Rattle.resource.specs.declared.Resource.{Resource}
 use Rattle.frame.specs.declared.Settings.{Settings}
 use Rattle.frame.specs.Order.{times_of}
@@ -112,9 +112,9 @@ SentExactly a Due Right =
     × (((r : Reply) → a ≡ Ok (answer.Sent r) → ⊥) → a ≡ (Ok answer.Silent))
 
 -- U9: "replies carry both": with two antenna ports the second port's resource is one above the first's, on which the reply is read; with
--- one port there is none, and its number is 0.
+-- one port there is none.
 abbrev pub CarriesBoth : Settings → Reply → Type 0
-CarriesBoth set r = (set.ports ≡ 2 → r.second.0 ≡ r.resource.0 + 1) × (set.ports ≡ 1 → r.second.0 ≡ 0)
+CarriesBoth set r = (set.ports ≡ 2 → r.second ≡ Some (record { 0 = r.resource.0 + 1 })) × (set.ports ≡ 1 → r.second ≡ None)
 
 -- "If 01 bundles it": `set` are the settings in the window's own mode, `ks` is K as printed, `es` the window's subframes in time order;
 -- `resource` is the resource call and `read` the station's reading, with the same settings and n = s mod 10, told the position of the
@@ -179,7 +179,7 @@ pub record MultiplexedReply (set : Settings) (resource : ℕ → ℕ → Result 
       → (delivered / 2 ^ p % 2 ≡ 1) ↔ ((ss : List State) → length ss ≡ length ks → symbol_of ss ≡ symbol index r.b0 r.b1 → get_or ss p Dtx ≡ Ack)
   pub no_other : delivered < 2 ^ length ks
   -- U9: two ports have no mode 1, so that there is no second resource
-  pub one_port : r.second.0 ≡ 0
+  pub one_port : r.second ≡ None
 
 abbrev pub Multiplexed : Settings → (ℕ → ℕ → Result Resource ℕ) → (ℕ → ℕ → ℕ → Result Reading ℕ) → List ℕ → (ℕ → Heard) → List Entry → Result Answer ℕ → Type 0
 Multiplexed set resource read ks heard es a =

@@ -1,6 +1,6 @@
 -- What is charged was decoded (specs/Billing.antt), of the engine of this repository and its crediting call.
 -- Assumes nothing.
-use Rattle.std.proofs.Common.{Result, Ok, Err}
+use Rattle.std.proofs.Common.{Result}
 use Prim.Native.Nat.{ℕ, zero, suc, ◌+◌, ◌-◌, ◌*◌, ◌%◌, ◌<◌, ◌≤◌}
 use mathlib.Core.Bool.{Bool, true, false, cond}
 use mathlib.Core.List.{List, [], ◌∷◌}
@@ -12,14 +12,14 @@ use native.Mathlib.Omega.{arith}
 use lib.Dec.{eqb}
 use lib.ListN.{length, take}
 use borrow.Author.Tests.{le-leb, lt-leb, le-ltb}
-use Rattle.std.proofs.Common.{Ok}
+use Rattle.std.proofs.lemmas.Bool.{and_parts}
 use Rattle.frame.specs.declared.Settings.{Settings}
 use Rattle.frame.specs.Distance.{before}
 use Rattle.frame.specs.Order.{member, position_of}
+use Rattle.frame.specs.Refusals.{refused_or, number_in}
 use Rattle.frame.specs.Settings.{or_else, settings_refusal}
 use Rattle.frame.specs.Table.{window_of}
 use Rattle.frame.proofs.Accepted.{accepted}
-use Rattle.frame.proofs.Bools.{both}
 use Rattle.frame.proofs.Causes.{window_accepted}
 use Rattle.frame.proofs.Windows.{position_window}
 use Rattle.heard.specs.declared.Heard.{Heard}
@@ -27,19 +27,17 @@ use Rattle.heard.specs.declared.Heard.TheVariants.{Nothing}
 use Rattle.heard.specs.Heard.{heard_refusal}
 use Rattle.reply.specs.declared.Answer.{Answer}
 use Rattle.station.specs.declared.Reading.{Reading}
-use Rattle.station.specs.Readings.{read_as}
 use Rattle.confirmation.specs.declared.Send.{Send}
 use Rattle.confirmation.specs.Sent.{as_heard}
 use Rattle.confirming.specs.declared.SentWindow.{SentWindow}
-use Rattle.confirming.specs.Blocks.{reading_refusal}
 use Rattle.confirming.specs.Records.{sent_in}
 use Rattle.confirming.specs.Refusals.{blocks_sent, sent_refusal, call_refusal}
 use Rattle.account.specs.declared.Account.{Account}
-use Rattle.account.specs.Account.{account_refusal, open_of, account_at, add_refusal, add_of}
+use Rattle.account.specs.Account.{account_refusal, open_of, add_refusal, add_of}
 use Rattle.account.specs.Credits.{Booked, credited_in, from_new}
 use Rattle.account.proofs.Credits.{over_any_list}
 use Rattle.account.proofs.Equation.{one_or_none}
-use Rattle.account.proofs.Totals.{accounts, within, given}
+use Rattle.account.proofs.Totals.{accounts, past, within, added}
 use Rattle.credit.specs.Credit.{own_bit, credited, bad_records, sizes_refusal, prior_refusal, sum_below, octets_at, octets_where, credited_octets, added_of, credit_by, credit_reading, credit_of}
 use Rattle.agreement.specs.Confirmation.{reading_at}
 use Rattle.agreement.specs.Demand3.{Engine, feedback_engine, fed_at, reading_in, HoldsAfter}
@@ -164,26 +162,26 @@ module _ (b : Billable feedback_engine) where
   answer = (fed_at feedback_engine b.set b.items b.replied.item b.replied.brought).answer
 
   bundled_read_holds : Bundled own (feedback_engine.resource own n) (reading_in feedback_engine own b.sent b.s) K (in_time sent H K) answer
-      → reading_refusal read ≡ 0
+      → number_in read ≡ 0
   bundled_read_holds window =
-      ⊎_elim (λ l. ap reading_refusal l.is_read) (λ l. ap reading_refusal l.is_read)
+      ⊎_elim (λ l. ap number_in l.is_read) (λ l. ap number_in l.is_read)
       (last_read own good b.sent schedule b.s H brought b.r (feedback_engine.resource own n) (reading_in feedback_engine own b.sent b.s) _ window b.replied.answered)
 
-  pub never_refused : reading_refusal read ≡ 0
+  pub never_refused : number_in read ≡ 0
   never_refused = go (ℕ_discrete own.mode 0) (ℕ_discrete (length K) 1)
     where
-      go : Dec (own.mode ≡ 0) → Dec (length K ≡ 1) → reading_refusal read ≡ 0
+      go : Dec (own.mode ≡ 0) → Dec (length K ≡ 1) → number_in read ≡ 0
       go (yes mode) size =
           bundled_read_holds (holds.bundled b.replied.item b.s b.replied.brought b.replied.subframe windowed (inl mode))
       go (no mode) (yes size) =
           bundled_read_holds (holds.bundled b.replied.item b.s b.replied.brought b.replied.subframe windowed (inr size))
       go (no mode) (no size) =
-          ap reading_refusal
+          ap number_in
           ((holds.multiplexed b.replied.item b.s b.replied.brought b.replied.subframe windowed (omega (arith, (accepted own good).mode)) size
           ).1 b.r b.replied.answered).is_read
 
   -- So the call reads what the station reads, unless a size or the account is off.
-  reads : (a : Account) → credit_reading own n b.w b.r.resource.0 b.r.b0 b.r.b1 a ≡ read_as (off b a) read
+  reads : (a : Account) → credit_reading own n b.w b.r.resource.0 b.r.b0 b.r.b1 a ≡ refused_or (off b a) read
   unfolding credit_reading prior_refusal
   reads a = rw (none_called, same_told set.config n recorded sent same)
 
@@ -206,7 +204,7 @@ module _ (b : Billable feedback_engine) where
   unfolding credited
   decoded_there_holds m block e =
       scheduler_may_conclude.confirmed_decoded b.set b.sent b.items b.s b.r b.replied m block
-      (both _ (own_bit read block) e).0
+      (and_parts _ (own_bit read block) e).0
 
   no_more : octets_there b (credited_there b) ≤ octets_there b (decoded_there b)
   no_more = where_most set.config n b.w (credited_there b) (decoded_there b) decoded_there_holds
@@ -250,9 +248,9 @@ module _ (b : Billable feedback_engine) where
         left = λ _. (refl, refl);
       }
 
-  bill_added : (a more : Account) → off b a ≡ 0 → a.octets + owed ≤ 1000000000000 → add_of a owed ≡ Ok more
-      → Bill b a (record { refusal = 0; octets = owed; account = more })
-  bill_added a more e fits sum =
+  bill_added : (a : Account) → off b a ≡ 0 → a.octets + owed ≤ 1000000000000 → (add_of a owed).refusal ≡ 0
+      → Bill b a (record { refusal = 0; octets = owed; account = (add_of a owed).account })
+  bill_added a e fits none =
       record {
         twenty_five = (λ five. absurd (omega arith), λ some. absurd (some e));
         twenty_six = (λ six. absurd (omega arith), λ over. absurd (omega (arith, over.1)));
@@ -260,26 +258,28 @@ module _ (b : Billable feedback_engine) where
         octets = λ _. refl;
         decoded = decoded_there_holds;
         most = no_more;
-        grown = λ _. accounts.grown a owed more sum;
+        grown = λ _. accounts.grown a owed none;
         left = λ refused. absurd (refused refl);
       }
 
   bill : (a : Account) → Bill b a (credit_at b credit_of a)
+  unfolding add_of
   bill a = go (off_or_not a) (dec_lt 1000000000000 (a.octets + owed))
     where
       go : (off b a ≡ 0) ⊎ (off b a ≡ 25) → Dec (1000000000000 < a.octets + owed) → Bill b a (credit_at b credit_of a)
       go (inr e) total = rw (refused_answer a 24 e) (bill_off a e)
       go (inl e) (yes over) =
-          rw (accepted_answer a e, (accounts.over a owed (account_fine b a e)).1 over) (bill_over a e over)
+          rw (accepted_answer a e, past a owed (account_fine b a e) over) (bill_over a e over)
       go (inl e) (no fits) =
-          let sum = given a owed (within a owed (account_fine b a e) (omega arith)) in
-          rw (accepted_answer a e, sum) (bill_added a _ e (omega arith) sum)
+          let zero = within a owed (account_fine b a e) (omega arith) in
+          rw (accepted_answer a e, zero) (rw zero at (bill_added a e (omega arith) zero))
 
 -- Over any list: of every call of which this is said of each.
 module _ {e : Engine} (credit : Crediting) (each : (b : Billable e) (a : Account) → Bill b a (credit_at b credit a)) where
   -- One that is not refused adds its octets to an account that was not off.
   booked : (b : Billable e) (a : Account) → Booked a (answered credit b a)
-  booked b a = record { leaves = λ h. ((each b a).left h).1; adds = made }
+  unfolding add_of
+  booked b a = record { leaves = λ h. ((each b a).left h).1; adds = λ h. (fits h, made h) }
     where
       fine : (credit_at b credit a).refusal ≡ 0 → Dec (off b a ≡ 0) → account_refusal a ≡ 0
       fine h (yes none) = account_fine b a none
@@ -290,13 +290,10 @@ module _ {e : Engine} (credit : Crediting) (each : (b : Billable e) (a : Account
           let g = (each b a).grown h in
           within a (credit_at b credit a).octets (fine h (ℕ_discrete (off b a) 0)) (omega (arith, g.octets, g.most))
 
-      made : (credit_at b credit a).refusal ≡ 0 → add_of a (credit_at b credit a).octets ≡ Ok (credit_at b credit a).account
+      made : (credit_at b credit a).refusal ≡ 0 → (credit_at b credit a).account ≡ (add_of a (credit_at b credit a).octets).account
       made h =
           let g = (each b a).grown h in
-          let same : (credit_at b credit a).account ≡ account_at a.price (a.octets + (credit_at b credit a).octets) =
-          accounts.only (credit_at b credit a).account g.accepted ∙ rw (g.price, g.octets)
-          in
-          given a (credit_at b credit a).octets (fits h) ∙ rw same
+          accounts.only (credit_at b credit a).account g.accepted ∙ rw (g.price, g.octets) (sym (added a (credit_at b credit a).octets (fits h)))
 
   credited_most : (bs : List (Billable e)) (a : Account) → credited_in (answered credit) a bs ≤ decoded_in bs
   credited_most [] a = omega arith

@@ -1,7 +1,7 @@
 -- The verdict of feedback_confirmed in the runs of demand 3 (specs/Verdict.antt): a truthful station is not refused, and each block that is
 -- called confirmed was decoded.
 -- Assumes nothing.
-use Rattle.std.proofs.Common.{Result, Ok, Err}
+use Rattle.std.proofs.Common.{Result}
 use Prim.Native.Nat.{ℕ}
 use mathlib.Core.Path.{◌≡◌, ◌∙◌}
 use Rattle.station.specs.declared.Reading.{Reading}

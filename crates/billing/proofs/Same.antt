@@ -1,7 +1,7 @@
 -- What a crediting call asks of what was sent it asks at the k of the window alone: two stations that sent the same there are told,
 -- credited and refused alike.
 -- Assumes nothing.
-use Rattle.std.proofs.Common.{Result, Ok, Err}
+use Rattle.std.proofs.Common.{Result}
 use Prim.Native.Nat.{ℕ, ◌+◌, ◌≤◌}
 use mathlib.Core.Bool.{Bool, true, false, cond, not, ◌&&◌, false≢true, or-true}
 use mathlib.Core.List.{List, [], ◌∷◌, map}
@@ -10,10 +10,10 @@ use native.Mathlib.Omega.{arith}
 use lib.Dec.{T, eqb}
 use lib.Ieee.Fits.{and_l, and_r}
 use borrow.Author.Tests.{eq-eqb}
+use Rattle.std.proofs.lemmas.Bool.{false_from_ne_true}
 use Rattle.frame.specs.declared.Settings.{Settings}
 use Rattle.frame.specs.Order.{member}
 use Rattle.frame.specs.Table.{table, window_of}
-use Rattle.frame.proofs.Bools.{never_true}
 use Rattle.frame.proofs.Windows.{every_row, window_passes}
 use Rattle.station.specs.declared.Reading.{Reading}
 use Rattle.confirmation.specs.declared.Send.{Send}
@@ -64,7 +64,7 @@ module _ (f : ℕ → Send) where
 
       alone : is_block (f k) ≡ true → (j : ℕ) → member j ks ≡ true → is_block (f j) ≡ false
       alone e j m =
-          never_true (is_block (f j))
+          false_from_ne_true (is_block (f j))
           (λ x.
           let here : k ≡ j = one k j (rw (eq-eqb k k refl)) (tail j m) e x in
           not_member (member k ks) (and_l (not (member k ks)) (once ks) t) (rw here m))

@@ -3,7 +3,7 @@
 -- a block has 193 octets, in a special subframe, whose column is 7, 137; with N_PRB 1 the octets of I_TBS 0, 1, 2, .. are 2, 3, 4, 5, 7,
 -- 9.
 -- Assumes nothing.
-use Rattle.std.proofs.Common.{Result, Ok, Err}
+use Rattle.std.proofs.Common.{None, Ok}
 use Prim.Native.Nat.{ℕ}
 use mathlib.Core.List.{List, [], ◌∷◌, map}
 use mathlib.Core.Path.{◌≡◌, refl, sym, ap, ◌∙◌}
@@ -91,7 +91,7 @@ billable run worked i s r at subframe answered says =
     }
 
 abbrev pub reply_of : ℕ → ℕ → ℕ → ℕ → Reply
-reply_of kind r b0 b1 = record { kind = kind_of kind; resource = record { 0 = r }; b0 = b0; b1 = b1; second = record { 0 = 0 } }
+reply_of kind r b0 b1 = record { kind = kind_of kind; resource = record { 0 = r }; b0 = b0; b1 = b1; second = None }
 
 -- The definitions that a crediting call computes with.
 unfoldable pub crediting : Unit {0}

@@ -34,6 +34,7 @@ use native.Mathlib.Omega.{arith}
 use lib.Dec.{eqb, leb, ltb}
 use lib.ListN.{length, get_or}
 use Rattle.frame.specs.Order.{times_of}
+use Rattle.frame.specs.Refusals.{number_in}
 use Rattle.frame.specs.Table.{window_of}
 use Rattle.station.specs.declared.Place.TheVariants as place
 use Rattle.station.specs.declared.Reading.{Reading}
@@ -42,7 +43,6 @@ use Rattle.station.specs.Readings.{read_of}
 use Rattle.confirmation.specs.declared.Send.{Send}
 use Rattle.confirmation.specs.Confirmed.{named_sent, sent_up_to, acknowledged, confirmed}
 use Rattle.confirmation.specs.Sent.{is_pdcch, is_sent, blocks_of}
-use Rattle.confirming.specs.Blocks.{reading_refusal}
 use Rattle.confirming.specs.Records.{nothing_sent, send_of, sent_in}
 use Rattle.account.specs.declared.Account.{Account}
 use Rattle.account.specs.Account.{account_at}
@@ -130,7 +130,7 @@ abbrev by_rule : Rule → Crediting
 by_rule rule s n w r b0 b1 a =
     let ks : List ℕ = window_of s.config n in
     let read : Result Reading ℕ = credit_reading s n w r b0 b1 a in
-    refused_or (reading_refusal read) a (added_of a (octets_where s.config n w (rule ks (sent_in ks w) read)))
+    refused_or (number_in read) a (added_of a (octets_where s.config n w (rule ks (sent_in ks w) read)))
 
 pub right_rule : by_rule credited ≡ credit_of
 unfolding credit_of credit_by credited_octets

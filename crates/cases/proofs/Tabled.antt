@@ -10,9 +10,9 @@ use Rattle.resource.specs.Formula.{edge, region_of, resource_number}
 use Rattle.resource.specs.Ports.{second_port, ports_of}
 use Rattle.claims.specs.Bits.{bit_room_of}
 use Rattle.claims.specs.Claims.{resources_of, room_of, is_bad, first_bad, clashes, first_clash, scratch_refusal, checked_on, checked_with}
-use Rattle.fold.specs.Fold.{step_of, seen_from, seen_of}
+use Rattle.fold.specs.Fold.{expected, step_of, seen_from, seen_of}
 use Rattle.heard.specs.Heard.{view_of}
-use Rattle.reply.specs.Replies.{expected, miss_shown, bundled_answer, window_answer}
+use Rattle.reply.specs.Replies.{miss_shown, bundled_answer, window_answer}
 use Rattle.cases.specs.Tabled.{Tabled}
 
 pub tabled : Tabled

@@ -44,9 +44,12 @@ subframe_position x n (k ∷ ks) = cond (eqb (before n k) x) zero (suc (subframe
 abbrev pub at : ℕ → Result Resource ℕ
 at r = Ok (record { 0 = r })
 
--- the first port's resource, and the second port's, 0 where there is none
+-- the resource of a sole port, and those of the first and the second port
+abbrev pub on_port : ℕ → Result OnPorts ℕ
+on_port r = Ok (record { first = (record { 0 = r }); second = None })
+
 abbrev pub on_ports : ℕ → ℕ → Result OnPorts ℕ
-on_ports r second = Ok (record { first = (record { 0 = r }); second = (record { 0 = second }) })
+on_ports r second = Ok (record { first = (record { 0 = r }); second = Some (record { 0 = second }) })
 
 -- the claims (0,10) and (1,0), each m × 256 + first CCE
 abbrev pub two_claims : List ℕ
@@ -92,4 +95,4 @@ pub record Tabled : Type 0 where
   pub ports10 : ports_of (two_ports 1) 2 1 0 ≡ on_ports 21 22
   pub ports_room : (room_of (two_ports 1) 2 ≡ 123) × (bit_room_of (two_ports 1) 2 ≡ 16)
   pub ports_clash : (checked_of (two_ports 1) 2 two_claims 123 ≡ Ok (Some 1)) × (bit_checked_of (two_ports 1) 2 two_claims 16 ≡ Ok (Some 1))
-  pub one_port : (ports_of (cell 1) 2 0 10 ≡ on_ports 20 0) × (checked_of (cell 1) 2 two_claims 122 ≡ Ok None)
+  pub one_port : (ports_of (cell 1) 2 0 10 ≡ on_port 20) × (checked_of (cell 1) 2 two_claims 122 ≡ Ok None)

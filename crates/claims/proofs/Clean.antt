@@ -12,8 +12,8 @@ use native.Mathlib.Omega.{arith}
 use lib.Dec.{ltb}
 use lib.ListN.{length, get_or}
 use borrow.Author.Tests.{le-ltb, ltb-false}
+use Rattle.std.proofs.lemmas.Bool.{false_from_ne_true, or_parts}
 use Rattle.frame.specs.declared.Settings.{Settings}
-use Rattle.frame.proofs.Bools.{neither_test, never_true}
 use Rattle.claims.specs.Claims.{is_bad, first_bad, clashes, earlier, first_clash, scratch_refusal, refused_or, checked_on, checked_with}
 use Rattle.claims.specs.Clean.{AllClean}
 use Rattle.claims.proofs.First.{first_none, first_bad_holds, first_clash_holds}
@@ -24,7 +24,7 @@ module _ (s : Settings) (n : ℕ) (claims : List ℕ) (x : ℕ) where
   pub none_earlier : (e : ℕ) → earlier s n claims e x ≡ false → (i : ℕ) → i < e → clashes s n (get_or claims i 0) x ≡ false
   none_earlier zero h i b = absurd (omega arith)
   none_earlier (suc e) h i b =
-      let f = neither_test (clashes s n (get_or claims e 0) x) (earlier s n claims e x) h in
+      let f = or_parts (clashes s n (get_or claims e 0) x) (earlier s n claims e x) h in
       ⊎_elim (λ last. rw last f.0) (λ less. none_earlier e f.1 i less) (eq-or-lt_of_le (le_of_suc-le-suc b))
 
   pub earlier_none : (e : ℕ) → ((i : ℕ) → i < e → clashes s n (get_or claims i 0) x ≡ false) → earlier s n claims e x ≡ false
@@ -59,7 +59,7 @@ module _ (s : Settings) (n : ℕ) (claims : List ℕ) (room lent : ℕ) where
   clean_from a =
       let bad = first_none (λ (i : ℕ). is_bad s n (get_or claims i 0)) (length claims) (length claims) a.good (le_refl _) (le_refl _) in
       let clash = first_none (λ (i : ℕ). earlier s n claims i (get_or claims i 0)) (length claims) (length claims)
-      (λ j h. earlier_none s n claims (get_or claims j 0) j λ i b. never_true _ λ e.
+      (λ j h. earlier_none s n claims (get_or claims j 0) j λ i b. false_from_ne_true _ λ e.
       let f = (share_exactly s n (get_or claims i 0) (get_or claims j 0)).0 e in
       a.apart i j b h f.0 f.1 f.2)
       (le_refl _) (le_refl _) in

@@ -1,6 +1,6 @@
 -- What document 02, U9, says of claims, proved: specs/OnPorts.antt.
 -- Assumes nothing.
-use Rattle.std.proofs.Common.{Result, Ok, Err}
+use Rattle.std.proofs.Common.{Option, Some, None, Result, Ok, Err}
 use Rattle.resource.specs.declared.ports.OnPorts.{OnPorts as BothPorts}
 use Rattle.resource.specs.declared.Resource.{Resource}
 use Prim.Native.Nat.{ℕ, zero, suc, ◌+◌, ◌-◌, ◌/◌, ◌<◌, ◌≤◌}
@@ -13,6 +13,7 @@ use native.Mathlib.Omega.{arith}
 use lib.Dec.{eqb, ltb}
 use lib.ListN.{length, get_or, take, drop}
 use borrow.Author.Tests.{eq-eqb, eqb-true, ltb-false}
+use Rattle.std.proofs.lemmas.Bool.{or_cases}
 use Rattle.frame.specs.declared.Settings.{Settings}
 use Rattle.frame.specs.Order.{member}
 use Rattle.frame.specs.Settings.{or_else, has_second_port, window_refusal}
@@ -31,7 +32,7 @@ use Rattle.claims.proofs.Front as front
 use Rattle.claims.proofs.First.{first_only_holds, first_bad_holds, first_clash_holds}
 use Rattle.claims.proofs.Counts.{resources_most}
 use Rattle.claims.proofs.Marked.{either_first}
-use Rattle.claims.proofs.Share.{one_of, one_resource, takes_to, takes_from, share_exactly, equal_exactly, apart_exactly}
+use Rattle.claims.proofs.Share.{one_resource, takes_to, takes_from, share_exactly, equal_exactly, apart_exactly}
 
 -- A number is among the first i + 1 of a list where it is the last of them or among the others.
 member_next : (c : ℕ) (l : List ℕ) (i : ℕ) → i < length l → member c (take (suc i) l) ≡ (eqb (get_or l i 0) c || member c (take i l))
@@ -47,7 +48,7 @@ module _ (s : Settings) (n : ℕ) (claims : List ℕ) where
       ⊎_elim
       (λ here. (e, omega arith, takes_to s n (get_or claims e 0) (t + s.n1) here))
       (λ before. let f = marked_to e t before in (f.0, omega (arith, f.1), f.2))
-      (one_of (takes s (claimed s n (get_or claims e 0)) (t + s.n1)) (marked s n claims e t) h)
+      (or_cases (takes s (claimed s n (get_or claims e 0)) (t + s.n1)) (marked s n claims e t) h)
 
   marked_from : (e t i : ℕ) → i < e → HasOnPort s n (get_or claims i 0) (t + s.n1) → marked s n claims e t ≡ true
   marked_from zero t i h has = absurd (not-suc-le-zero h)
@@ -65,27 +66,34 @@ module _ (s : Settings) (n a : ℕ) where
   abbrev c : ℕ
   c = claim_cce a
 
-  abbrev numbers : Result BothPorts ℕ → ℕ × ℕ
-  numbers (Ok both) = (both.first.0, both.second.0)
-  numbers (Err k) = (0, 0)
+  abbrev numbers : Result BothPorts ℕ → ℕ × Option Resource
+  numbers (Ok both) = (both.first.0, both.second)
+  numbers (Err k) = (0, None)
 
-  given_exactly : (p q : ℕ) → ports_of s n m c ≡ Ok (record { first = (record { 0 = p }); second = (record { 0 = q }) })
-      → (r : ℕ) → HasOnPort s n a r ↔ ((r ≡ p) ⊎ ((s.ports ≡ 2) × (r ≡ q)))
+  abbrev above_first : ℕ → Option Resource
+  above_first x = Some (record { 0 = x + 1 })
+
+  abbrev number : Option Resource → ℕ
+  number None = 0
+  number (Some x) = x.0
+
+  given_exactly : (p : ℕ) (q : Option Resource) → ports_of s n m c ≡ Ok (record { first = (record { 0 = p }); second = q })
+      → (r : ℕ) → HasOnPort s n a r ↔ ((r ≡ p) ⊎ ((s.ports ≡ 2) × (q ≡ Some (record { 0 = r }))))
   unfolding ports_of
   given_exactly p q e r = go (claimed s n a) refl e
     where
-      go : (x : Result Resource ℕ) → claimed s n a ≡ x → on_ports s x ≡ Ok (record { first = (record { 0 = p }); second = (record { 0 = q }) }) → HasOnPort s n a r ↔ ((r ≡ p) ⊎ ((s.ports ≡ 2) × (r ≡ q)))
+      go : (x : Result Resource ℕ) → claimed s n a ≡ x → on_ports s x ≡ Ok (record { first = (record { 0 = p }); second = q }) → HasOnPort s n a r ↔ ((r ≡ p) ⊎ ((s.ports ≡ 2) × (q ≡ Some (record { 0 = r }))))
       go (Ok x) there e =
           let f : (x.0 ≡ p) × (second_port s x.0 ≡ q) = (ap (λ (y : Result BothPorts ℕ). (numbers y).0) e, ap (λ (y : Result BothPorts ℕ). (numbers y).1) e) in
-          let above : s.ports ≡ 2 → second_port s x.0 ≡ x.0 + 1 = λ two. port_above s x.0 two (omega (arith, call_most s n m c x.0 there)) in (
+          let above : s.ports ≡ 2 → second_port s x.0 ≡ above_first x.0 = λ two. port_above s x.0 two (omega (arith, call_most s n m c x.0 there)) in (
             ⊎_elim
                 (λ has. inl (one_resource s n a r x.0 has there ∙ f.0))
                 (λ on.
                 let first : on.1 ≡ x.0 = one_resource s n a on.1 x.0 on.2 there in
-                inr (on.0, on.3 ∙ ap (λ (k : ℕ). k + 1) first ∙ sym (above on.0) ∙ f.1)),
+                inr (on.0, sym f.1 ∙ above on.0 ∙ ap (λ (k : ℕ). Some (record { 0 = k })) (sym (on.3 ∙ ap (λ (k : ℕ). k + 1) first)))),
             ⊎_elim
                 (λ e. inl (rw (e ∙ sym f.0) there))
-                (λ on. inr (on.0, x.0, there, on.1 ∙ sym f.1 ∙ above on.0)),
+                (λ on. inr (on.0, x.0, there, ap number (sym on.1 ∙ sym f.1 ∙ above on.0))),
           )
       go (Err k) there e = let z : ◌≡◌ {A = ℕ} 0 1 = cc in absurd (omega arith)
 

@@ -2,10 +2,11 @@
 -- with two they are claims whose first resources are at most 1 apart.
 -- Assumes nothing.
 use Rattle.std.proofs.Common.{Result, Ok, Err}
+use Rattle.std.proofs.lemmas.Bool.{and_parts, or_cases}
 use Rattle.resource.specs.declared.Resource.{Resource}
 use Prim.Native.Nat.{ℕ, ◌+◌, ◌<◌, ◌≤◌}
-use mathlib.Core.Bool.{Bool, true, false, not, ◌&&◌, ◌||◌, or-true, or-false, not-not, false≢true}
-use mathlib.Core.Logic.{◌⊎◌, inl, inr, ⊎_elim, ◌↔◌}
+use mathlib.Core.Bool.{true, false, not, ◌&&◌, or-true, or-false, not-not, false≢true}
+use mathlib.Core.Logic.{inl, inr, ⊎_elim, ◌↔◌}
 use mathlib.Core.Path.{◌≡◌, refl, sym, ap, subst, ◌∙◌}
 use native.Mathlib.Decide.{ℕ_discrete}
 use native.Mathlib.Omega.{arith}
@@ -13,7 +14,6 @@ use lib.Dec.{ltb, eqb}
 use borrow.Author.Tests.{ltb-true, eqb-true, eq-eqb, ne_eqb}
 use Rattle.frame.specs.declared.Settings.{Settings}
 use Rattle.frame.specs.Settings.{has_second_port, window_refusal}
-use Rattle.frame.proofs.Bools.{both}
 use Rattle.frame.proofs.Ports.{second_of_two, two_have_second}
 use Rattle.resource.specs.Calls.{size_of}
 use Rattle.resource.specs.Formula.{edge}
@@ -26,7 +26,7 @@ use Rattle.claims.specs.Marking.{Has}
 pub in_range : (s : Settings) (n claim : ℕ) → is_bad s n claim ≡ false → (claim_position claim < size_of s n) × (claim_cce claim < edge s.nrb 4)
 unfolding is_bad
 in_range s n claim e =
-    let f = both (ltb (claim_position claim) (size_of s n)) (ltb (claim_cce claim) (edge s.nrb 4)) (sym (not-not _) ∙ ap not e) in
+    let f = and_parts (ltb (claim_position claim) (size_of s n)) (ltb (claim_cce claim) (edge s.nrb 4)) (sym (not-not _) ∙ ap not e) in
     (ltb-true _ _ f.0, ltb-true _ _ f.1)
 
 module _ (s : Settings) (n : ℕ) (accepted : window_refusal s n ≡ 0) where
@@ -41,11 +41,6 @@ module _ (s : Settings) (n : ℕ) (accepted : window_refusal s n ≡ 0) where
       let f = (calls_one_to_one s n accepted).once (claim_position a) (claim_cce a) (claim_position b) (claim_cce b) r p q in
       omega (arith, f.0, f.1)
 
--- One of two tests passes.
-pub one_of : (a b : Bool) → (a || b) ≡ true → (a ≡ true) ⊎ (b ≡ true)
-one_of true b e = inl refl
-one_of false b e = inr e
-
 module _ (s : Settings) (n : ℕ) where
   -- A claim takes a resource exactly if it has it on one of the ports.
   pub takes_to : (claim r : ℕ) → takes s (claimed s n claim) r ≡ true → HasOnPort s n claim r
@@ -55,8 +50,8 @@ module _ (s : Settings) (n : ℕ) where
       go (Ok x) e h =
           ⊎_elim
           (λ same. inl (subst (λ (q : ℕ). claimed s n claim ≡ Ok (record { 0 = q })) (eqb-true x.0 r same) e))
-          (λ next. let f = both (has_second_port s) (eqb (x.0 + 1) r) next in inr (second_of_two s f.0, x.0, e, sym (eqb-true (x.0 + 1) r f.1)))
-          (one_of (eqb x.0 r) (has_second_port s && eqb (x.0 + 1) r) h)
+          (λ next. let f = and_parts (has_second_port s) (eqb (x.0 + 1) r) next in inr (second_of_two s f.0, x.0, e, sym (eqb-true (x.0 + 1) r f.1)))
+          (or_cases (eqb x.0 r) (has_second_port s && eqb (x.0 + 1) r) h)
       go (Err k) e h = absurd (false≢true h)
 
   pub takes_from : (claim r : ℕ) → HasOnPort s n claim r → takes s (claimed s n claim) r ≡ true
@@ -74,9 +69,9 @@ module _ (s : Settings) (n : ℕ) where
           ⊎_elim
           (λ first. (y.0, takes_to a y.0 first, inl e))
           (λ next.
-          let f = both (has_second_port s) (takes s (claimed s n a) (y.0 + 1)) next in
+          let f = and_parts (has_second_port s) (takes s (claimed s n a) (y.0 + 1)) next in
           (y.0 + 1, takes_to a (y.0 + 1) f.1, inr (second_of_two s f.0, y.0, e, refl)))
-          (one_of (takes s (claimed s n a) y.0) (has_second_port s && takes s (claimed s n a) (y.0 + 1)) h)
+          (or_cases (takes s (claimed s n a) y.0) (has_second_port s && takes s (claimed s n a) (y.0 + 1)) h)
       to (Err k) e h = absurd (false≢true h)
 
       on : (r : ℕ) → HasOnPort s n a r → HasOnPort s n b r → meets s (claimed s n a) (claimed s n b) ≡ true

@@ -19,17 +19,17 @@ use Rattle.claims.proofs.Marked.{earlier_marked, marked_more}
 
 -- Before claim i no claim clashes with an earlier one, and the bytes have the marks of those before i.
 pub record Before (laid : (ℕ → Bool) → ℕ → List ℕ) (w : ClaimedWindow) (claims bytes : List ℕ) (i : ℕ) : Type 0 where
-  pub apart : (k : ℕ) → k < i → earlier w.s w.n claims k (get_or claims k 0) ≡ false
-  pub marks : bytes ≡ laid (marked w.s w.n claims i) w.marks
+  pub apart : (k : ℕ) → k < i → earlier w.window.settings w.window.n claims k (get_or claims k 0) ≡ false
+  pub marks : bytes ≡ laid (marked w.window.settings w.window.n claims i) w.marks
 
 -- What the marking answers, and the bytes that it leaves.
 pub record Ends (laid : (ℕ → Bool) → ℕ → List ℕ) (w : ClaimedWindow) (claims bytes : List ℕ) (answer : Option ℕ) : Type 0 where
-  pub value : answer ≡ found (first_clash w.s w.n claims) (length claims)
-  pub laid_after : bytes ≡ laid (marked w.s w.n claims (first_clash w.s w.n claims)) w.marks
+  pub value : answer ≡ found (first_clash w.window.settings w.window.n claims) (length claims)
+  pub laid_after : bytes ≡ laid (marked w.window.settings w.window.n claims (first_clash w.window.settings w.window.n claims)) w.marks
 
 module _ (w : ClaimedWindow) where
   -- A claim's two marks are among those of the window; t is the offset of its first resource.
-  pub inside : (t : ℕ) → t < resources_of w.s w.n → (t < w.marks) × (t + w.more < w.marks)
+  pub inside : (t : ℕ) → t < resources_of w.window.settings w.window.n → (t < w.marks) × (t + w.more < w.marks)
   unfolding room_of
   inside t below = (omega (arith, w.resources), omega (arith, w.resources, w.ports))
 
@@ -38,25 +38,25 @@ module _ (w : ClaimedWindow) where
     pub ended : length claims ≤ i → i ≤ length claims → Ends laid w claims bytes None
     unfolding first_clash
     ended end most =
-        let e : i ≡ first_clash w.s w.n claims = first_none _ _ _ before.apart most end in
+        let e : i ≡ first_clash w.window.settings w.window.n claims = first_none _ _ _ before.apart most end in
         record { value = rw (← e, le-ltb i (length claims) end); laid_after = rw (← e) before.marks }
 
-    module _ (good : length claims ≤ first_bad w.s w.n claims) (here : i < length claims) (t : ℕ) (below : t < resources_of w.s w.n)
-        (resource : is_bad w.s w.n (get_or claims i 0) ≡ false → Has w.s w.n (get_or claims i 0) (t + w.s.n1)) where
-      has : Has w.s w.n (get_or claims i 0) (t + w.s.n1)
-      has = resource ((first_bad_holds w.s w.n claims).before i (omega arith) (omega arith))
+    module _ (good : length claims ≤ first_bad w.window.settings w.window.n claims) (here : i < length claims) (t : ℕ) (below : t < resources_of w.window.settings w.window.n)
+        (resource : is_bad w.window.settings w.window.n (get_or claims i 0) ≡ false → Has w.window.settings w.window.n (get_or claims i 0) (t + w.window.settings.n1)) where
+      has : Has w.window.settings w.window.n (get_or claims i 0) (t + w.window.settings.n1)
+      has = resource ((first_bad_holds w.window.settings w.window.n claims).before i (omega arith) (omega arith))
 
       -- The claim clashes with an earlier one exactly where one of its marks is set.
-      reads : earlier w.s w.n claims i (get_or claims i 0) ≡ (is_marked bytes t || is_marked bytes (t + w.more))
+      reads : earlier w.window.settings w.window.n claims i (get_or claims i 0) ≡ (is_marked bytes t || is_marked bytes (t + w.more))
       reads =
           let f = inside t below in
-          rw (before.marks, laws.read (marked w.s w.n claims i) w.marks t f.0, laws.read (marked w.s w.n claims i) w.marks (t + w.more) f.1, w.ports)
-          (earlier_marked w.s w.n claims (get_or claims i 0) t has i)
+          rw (before.marks, laws.read (marked w.window.settings w.window.n claims i) w.marks t f.0, laws.read (marked w.window.settings w.window.n claims i) w.marks (t + w.more) f.1, w.ports)
+          (earlier_marked w.window.settings w.window.n claims (get_or claims i 0) t has i)
 
       pub clashed : (is_marked bytes t || is_marked bytes (t + w.more)) ≡ true → Ends laid w claims bytes (Some i)
       unfolding first_clash
       clashed is =
-          let e : i ≡ first_clash w.s w.n claims = first_found _ _ _ before.apart here (reads ∙ is) in
+          let e : i ≡ first_clash w.window.settings w.window.n claims = first_found _ _ _ before.apart here (reads ∙ is) in
           record { value = rw (← e, lt-ltb i (length claims) here); laid_after = rw (← e) before.marks }
 
       pub turned : (is_marked bytes t || is_marked bytes (t + w.more)) ≡ false → Before laid w claims (with_mark (with_mark bytes t) (t + w.more)) (i + 1)
@@ -67,10 +67,10 @@ module _ (w : ClaimedWindow) where
             marks =
                 rw (
                   before.marks,
-                  laws.marked (marked w.s w.n claims i) w.marks t f.0,
-                  laws.marked (or_at (marked w.s w.n claims i) t) w.marks (t + w.more) f.1,
+                  laws.marked (marked w.window.settings w.window.n claims i) w.marks t f.0,
+                  laws.marked (or_at (marked w.window.settings w.window.n claims i) t) w.marks (t + w.more) f.1,
                   w.ports,
                   add-one,
                 )
-                (ap (λ (test : ℕ → Bool). laid test w.marks) (marked_more w.s w.n claims i t has));
+                (ap (λ (test : ℕ → Bool). laid test w.marks) (marked_more w.window.settings w.window.n claims i t has));
           }

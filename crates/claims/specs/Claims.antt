@@ -1,14 +1,16 @@
 -- Claims of a cell: document 01, "Claims of a cell" and refusals 15 and 16; document 02, U9.
 -- Assumes nothing.
-use Rattle.std.specs.Prelude.{Result, Ok, Err, Option, Some, None, ℕ, zero, suc, ◌+◌, ◌*◌, ◌/◌, ◌%◌, Bool, false, cond, not, ◌&&◌, ◌||◌, List, ◌++◌, map, ltb, eqb, length, get_or, drop}
+use Rattle.std.specs.Prelude.{Result, Ok, Err, Option, Some, None, ℕ, zero, suc, ◌+◌, ◌*◌, ◌/◌, ◌%◌, Bool, false, cond, not, ◌&&◌, ◌||◌, List, ◌++◌, map, ltb, eqb, length, get_or, drop, ◌≡◌, ⊤}
 use Rattle.std.specs.List.{range_with_len}
 use Rattle.resource.specs.declared.Resource.{Resource}
 use Rattle.frame.specs.declared.Settings.{Settings}
+use Rattle.frame.specs.declared.refusal.Refusal.TheVariants as refusal
 use Rattle.frame.specs.Refusals.{number_of}
 use Rattle.frame.specs.Settings.{or_else, has_second_port, window_refusal}
 use Rattle.resource.specs.Calls.{size_of, resource_of}
 use Rattle.resource.specs.Formula.{edge}
 use Rattle.claims.specs.declared.RefusedClaims.{RefusedClaims}
+use Rattle.claims.specs.declared.RefusedClaims.TheVariants.{Refused, BadClaim}
 
 -- A claim is m × 256 + first CCE.
 abbrev pub claim_position : ℕ → ℕ
@@ -84,7 +86,13 @@ Checked = Result (Option ℕ) (ℕ × ℕ)
 -- A result of the code with its refusal as a number.
 abbrev pub numbered_claims : Result (Option ℕ) RefusedClaims → Checked
 numbered_claims (Ok clash) = Ok clash
-numbered_claims (Err refused) = Err (number_of refused.refusal, refused.index)
+numbered_claims (Err (Refused r)) = Err (number_of r, 0)
+numbered_claims (Err (BadClaim i)) = Err (16, i)
+
+-- A bad claim is refused with its index, and by no other refusal.
+abbrev pub BadByIndex : RefusedClaims → Type 0
+BadByIndex (Refused r) = r ≡ refusal.Claim → ⊥
+BadByIndex (BadClaim i) = ⊤
 
 -- What a search of a list answers that ended at index i, of `count`: none where it came to the end.
 abbrev pub found : ℕ → ℕ → Option ℕ

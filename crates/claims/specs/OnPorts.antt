@@ -1,10 +1,11 @@
 -- What document 02, U9, says of claims, over both antenna ports; and that with one port it moved nothing: what 01 and U6 say of claims
 -- holds word for word.
 -- Assumes nothing.
-use Rattle.std.specs.Prelude.{Ok, Err, ℕ, ◌+◌, ◌/◌, ◌<◌, ◌≤◌, true, false, cond, List, ◌⊎◌, ◌↔◌, ◌≡◌, length, get_or, take, drop}
+use Rattle.std.specs.Prelude.{Option, Some, Ok, Err, ℕ, ◌+◌, ◌/◌, ◌<◌, ◌≤◌, true, false, cond, List, ◌⊎◌, ◌↔◌, ◌≡◌, length, get_or, take, drop}
 use Rattle.frame.specs.declared.Settings.{Settings}
 use Rattle.frame.specs.Order.{member}
 use Rattle.frame.specs.Settings.{window_refusal}
+use Rattle.resource.specs.declared.Resource.{Resource}
 use Rattle.resource.specs.Ports.{ports_of}
 use Rattle.claims.specs.Bits.{bit_room_of, bit_checked_of}
 use Rattle.claims.specs.Claims.{claim_position, claim_cce, resources_of, room_of, is_bad, first_index, clashes, scratch_refusal, checked_at, refused_or, checked_of, marked, scratch_of}
@@ -15,8 +16,8 @@ use Rattle.claims.specs.Marking.{Has}
 -- Any number of ports.
 pub record OnPorts (s : Settings) (n : ℕ) : Type 0 where
   -- a claim has the resources that the resource call gives: the first port's, and with two ports the second's
-  pub call : (a p q : ℕ) → ports_of s n (claim_position a) (claim_cce a) ≡ Ok (record { first = (record { 0 = p }); second = (record { 0 = q }) })
-      → (r : ℕ) → HasOnPort s n a r ↔ ((r ≡ p) ⊎ ((s.ports ≡ 2) × (r ≡ q)))
+  pub call : (a p : ℕ) (q : Option Resource) → ports_of s n (claim_position a) (claim_cce a) ≡ Ok (record { first = (record { 0 = p }); second = q })
+      → (r : ℕ) → HasOnPort s n a r ↔ ((r ≡ p) ⊎ ((s.ports ≡ 2) × (q ≡ Some (record { 0 = r }))))
   pub refused : (a k : ℕ) → ports_of s n (claim_position a) (claim_cce a) ≡ Err k → (r : ℕ) → HasOnPort s n a r → ⊥
   -- "Two claims clash when any of their resources coincide"
   pub clash : (a b : ℕ) → (clashes s n a b ≡ true) ↔ ((r : ℕ) × HasOnPort s n a r × HasOnPort s n b r)

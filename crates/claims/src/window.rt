@@ -1,47 +1,37 @@
 // The window that claims are for, and the two passes over them: the first bad claim, then marks up to the first clash.
 ghost use Rattle.std.specs.Prelude.{◌≡◌, ◌+◌, ◌<◌, ◌≤◌, false, length, None, position};
-ghost use Rattle.frame.specs.Settings.{window_refusal};
-ghost use Rattle.resource.specs.Calls.{size_of};
 ghost use Rattle.resource.specs.Formula.{edge};
 ghost use Rattle.claims.specs.Claims.{resources_of, ports_more, room_of, is_bad, first_bad, first_clash, found, marked};
 ghost use Rattle.claims.specs.Marking.{Has};
 
 use crate::scratch::Form;
-use frame::Settings;
-use resource::Cce;
+use frame::Window;
+use resource::{Cce, Map};
 
-// The window of uplink subframe n, accepted: the settings, n, M, N_4, how far above its first resource a claim's second one is, 1 with
-// two antenna ports and 0 with one, where it is the first, and the number of resources that a claim may have, a mark for each.
+// The window that claims are for, with N_4, how far above its first resource a claim's second one is, 1 with two antenna ports and 0 with
+// one, where it is the first, and the number of resources that a claim may have, a mark for each.
 #[derive(Clone, Copy)]
 pub(crate) struct ClaimedWindow {
-    s: Settings,
-    n: u16,
-    size: u16,
+    window: Window,
     top: u16,
     more: usize,
     pub(crate) marks: usize,
-    ghost accepted: { window_refusal s n ≡ 0 },
-    ghost positions: { size ≡ size_of s n },
-    ghost cces: { top ≡ edge s.nrb 4 },
-    ghost ports: { more ≡ ports_more s },
-    ghost resources: { marks ≡ room_of s n },
+    ghost cces: { top ≡ edge window.settings.nrb 4 },
+    ghost ports: { more ≡ ports_more window.settings },
+    ghost resources: { marks ≡ room_of window.settings window.n },
 }
 
 impl ClaimedWindow {
     #[tactic(auto, using(resource::proofs::Counts::cces_answered), unfolding(crate::specs::Claims::room_of, crate::specs::Claims::resources_of))]
-    pub(crate) fn new(s: Settings, n: u16) -> ClaimedWindow
-        requires { window_refusal s n ≡ 0 }
-        ensures settings { result.s ≡ s }
-        ensures subframe { result.n ≡ n }
+    pub(crate) fn of(window: Window) -> ClaimedWindow
+        ensures { result.window ≡ window }
     {
-        let size = frame::size_of(s.config, n);
+        let s = window.settings;
         let top = resource::cces_of(s.nrb);
-        let more = usize::from(frame::has_second_port(s));
-        let marks = usize::from(size) * usize::from(top) + more;
+        let more = usize::from(s.has_second_port());
+        let marks = usize::from(window.size) * usize::from(top) + more;
         ClaimedWindow {
-            s,
-            n,
-            size,
+            window,
             top,
             more,
             marks,
@@ -51,27 +41,27 @@ impl ClaimedWindow {
     // 16: m not below M or CCE not below N_4.
     #[tactic(auto, unfolding(crate::specs::Claims::is_bad))]
     fn is_bad(&self, claim: u16) -> bool
-        ensures { result ≡ is_bad self.now.s self.now.n claim }
+        ensures { result ≡ is_bad self.now.window.settings self.now.window.n claim }
     {
-        !(claim / 256 < self.size && claim % 256 < self.top)
+        !(claim / 256 < self.window.size && claim % 256 < self.top)
     }
 
     // The first bad claim.
     pub(crate) fn first_bad(&self, claims: &[u16]) -> Option<usize>
-        ensures { result ≡ position (is_bad self.now.s self.now.n) claims.now }
+        ensures { result ≡ position (is_bad self.now.window.settings self.now.window.n) claims.now }
     {
         claims.iter().position(|&claim| self.is_bad(claim))
     }
 
     // The offset of a claim, its first resource less N1; 0 for a claim without one. It is below M × N_4 whatever the claim, so that the
     // offset of the second resource is inside the marks too.
-    #[tactic(auto, using(crate::proofs::Offsets::within_claimed, crate::proofs::Offsets::claimed_range, crate::proofs::Offsets::refused_bad, crate::proofs::Offsets::some_resource))]
+    #[tactic(auto, using(crate::proofs::Offsets::mapped_claim, crate::proofs::Offsets::claimed_range, crate::proofs::Offsets::refused_bad, crate::proofs::Offsets::some_resource))]
     fn offset_of(&self, claim: u16) -> usize
-        ensures below { result < resources_of self.now.s self.now.n }
-        ensures resource { is_bad self.now.s self.now.n claim ≡ false → Has self.now.s self.now.n claim (result + self.now.s.n1) }
+        ensures below { result < resources_of self.now.window.settings self.now.window.n }
+        ensures resource { is_bad self.now.window.settings self.now.window.n claim ≡ false → Has self.now.window.settings self.now.window.n claim (result + self.now.window.settings.n1) }
     {
-        match resource::resource_within(self.s, self.size, claim / 256, Cce::new(claim % 256)) {
-            Ok(r) => usize::from(r.number() - self.s.n1),
+        match Map::of(self.window).resource(claim / 256, Cce::new(claim % 256)) {
+            Ok(r) => usize::from(r.number() - self.window.settings.n1),
             Err(_) => 0,
         }
     }
@@ -80,10 +70,10 @@ impl ClaimedWindow {
     // whatever it is, its marks are inside these bytes. Both are looked at before either is set; with one port they are the same.
     #[tactic(auto, using(crate::proofs::Counts::resources_most, frame::proofs::Bools::bit_small), unfolding(crate::specs::Claims::room_of))]
     pub(crate) fn mark_to_clash<F: Form>(&self, claims: &[u16], bytes: &mut [u8]) -> Option<usize>
-        requires good { length claims.now ≤ first_bad self.now.s self.now.n claims.now }
+        requires good { length claims.now ≤ first_bad self.now.window.settings self.now.window.n claims.now }
         requires whole { length bytes.old ≡ F.room self.now.marks }
-        ensures value { result ≡ found (first_clash self.now.s self.now.n claims.now) (length claims.now) }
-        ensures laid { bytes.new ≡ F.laid (marked self.now.s self.now.n claims.now (first_clash self.now.s self.now.n claims.now)) self.now.marks }
+        ensures value { result ≡ found (first_clash self.now.window.settings self.now.window.n claims.now) (length claims.now) }
+        ensures laid { bytes.new ≡ F.laid (marked self.now.window.settings self.now.window.n claims.now (first_clash self.now.window.settings self.now.window.n claims.now)) self.now.marks }
     {
         bytes.fill(0);
         for (i, &claim) in claims.iter().enumerate() {

@@ -5,14 +5,14 @@ use Prim.Native.Nat.{ℕ, ◌/◌, ◌%◌, ◌^◌, ◌<◌, ◌≤◌}
 use mathlib.Core.Bool.{Bool, true, false, ◌&&◌, ◌||◌, and-false, or-true, false≢true}
 use mathlib.Core.List.{List}
 use mathlib.Core.Logic.{◌⊎◌, inl, inr, ◌↔◌, ⊎_elim}
-use mathlib.Core.Path.{◌≡◌, refl}
+use mathlib.Core.Path.{◌≡◌}
 use native.Mathlib.Decide.{ℕ_discrete}
 use native.Mathlib.Omega.{arith}
 use lib.Dec.{eqb, leb, ltb}
 use lib.ListN.{length, get_or}
 use borrow.Author.Tests.{ltb-true, lt-ltb, leb-true, le-leb, eqb-true, eq-eqb, ne_eqb}
+use Rattle.std.proofs.lemmas.Bool.{and_parts, false_from_ne_true, or_cases}
 use Rattle.frame.specs.Order.{times_of}
-use Rattle.frame.proofs.Bools.{both, never_true}
 use Rattle.station.specs.declared.Place.{Place}
 use Rattle.station.specs.declared.Place.TheVariants as place
 use Rattle.station.specs.declared.Reading.{Reading}
@@ -24,16 +24,12 @@ use Rattle.confirmation.specs.Confirmed.{named_sent, sent_up_to, speaks_for, hol
 use Rattle.confirmation.specs.Exactly.{WasSent, Acknowledges, BundledConfirmed, BlockConfirmed, MultiplexedConfirmed}
 use Rattle.confirmation.specs.Sent.{is_pdcch, is_block, blocks_of, has_cce}
 
-either : (p q : Bool) → (p || q) ≡ true → (p ≡ true) ⊎ (q ≡ true)
-either true q e = inl refl
-either false q e = inr e
-
 -- The bits acknowledge a block exactly as the words say.
 pub acknowledged_says : (x : Send) (block b0 b1 : ℕ) → acknowledged x block b0 b1 ≡ true → Acknowledges x block b0 b1
 acknowledged_says x block b0 b1 e = (
   λ two zero. eqb-true b0 1 (rw (eq-eqb (blocks_of x) 2 two, eq-eqb block 0 zero) at e),
   λ two other. eqb-true b1 1 (rw (eq-eqb (blocks_of x) 2 two, ne_eqb block 0 other) at e),
-  λ one. ⊎_elim (λ p. inl (eqb-true b0 1 p)) (λ p. inr (eqb-true b1 1 p)) (either (eqb b0 1) (eqb b1 1) (rw (ne_eqb (blocks_of x) 2 one) at e)),
+  λ one. ⊎_elim (λ p. inl (eqb-true b0 1 p)) (λ p. inr (eqb-true b1 1 p)) (or_cases (eqb b0 1) (eqb b1 1) (rw (ne_eqb (blocks_of x) 2 one) at e)),
 )
 
 says_acknowledged : (x : Send) (block b0 b1 : ℕ) → Acknowledges x block b0 b1 → acknowledged x block b0 b1 ≡ true
@@ -61,11 +57,11 @@ module _ (ks : List ℕ) (sent : ℕ → Send) where
       → (is_pdcch (sent k) ≡ true) × ((k ≡ named) ⊎ ((sent_up_to sent named (times_of ks) ≤ 4) × (named ≤ k)))
   speaks_says named k e =
       let few : Bool = leb (sent_up_to sent named (times_of ks)) 4 in
-      let p = both (is_pdcch (sent k)) (eqb k named || (few && leb named k)) e in (
+      let p = and_parts (is_pdcch (sent k)) (eqb k named || (few && leb named k)) e in (
         p.0,
         ⊎_elim (λ q. inl (eqb-true k named q))
-            (λ q. let r = both few (leb named k) q in inr (leb-true (sent_up_to sent named (times_of ks)) 4 r.0, leb-true named k r.1))
-            (either (eqb k named) (few && leb named k) p.1),
+            (λ q. let r = and_parts few (leb named k) q in inr (leb-true (sent_up_to sent named (times_of ks)) 4 r.0, leb-true named k r.1))
+            (or_cases (eqb k named) (few && leb named k) p.1),
       )
 
   pub says_speaks : (named k : ℕ) → is_pdcch (sent k) ≡ true → (k ≡ named) ⊎ ((sent_up_to sent named (times_of ks) ≤ 4) × (named ≤ k))
@@ -77,10 +73,10 @@ module _ (ks : List ℕ) (sent : ℕ → Send) where
   -- What is named was sent.
   named_says : (p : Place) → named_sent ks sent p ≡ true → WasSent ks sent p
   named_says (place.Pdcch m c) e =
-      let p = both (ltb m (length ks)) (has_cce (sent (get_or ks m 0)) c.0) e in
+      let p = and_parts (ltb m (length ks)) (has_cce (sent (get_or ks m 0)) c.0) e in
       (ltb-true m (length ks) p.0, p.1)
   named_says (place.Block m) e =
-      let p = both (ltb m (length ks)) (is_block (sent (get_or ks m 0))) e in
+      let p = and_parts (ltb m (length ks)) (is_block (sent (get_or ks m 0))) e in
       (ltb-true m (length ks) p.0, p.1)
 
   says_named : (p : Place) → WasSent ks sent p → named_sent ks sent p ≡ true
@@ -92,8 +88,8 @@ module _ (ks : List ℕ) (sent : ℕ → Send) where
       → (m < length ks) × (block < blocks_of (sent (get_or ks m 0))) × (says_ack ks sent read m block ≡ true)
   unfolding confirmed
   carried read m block e =
-      let a = both (ltb m (length ks) && ltb block (blocks_of (sent (get_or ks m 0)))) (says_ack ks sent read m block) e in
-      let b = both (ltb m (length ks)) (ltb block (blocks_of (sent (get_or ks m 0)))) a.0 in
+      let a = and_parts (ltb m (length ks) && ltb block (blocks_of (sent (get_or ks m 0)))) (says_ack ks sent read m block) e in
+      let b = and_parts (ltb m (length ks)) (ltb block (blocks_of (sent (get_or ks m 0)))) a.0 in
       (ltb-true m (length ks) b.0, ltb-true block (blocks_of (sent (get_or ks m 0))) b.1, a.1)
 
   carries_on : (read : Result Reading ℕ) (m block : ℕ) → m < length ks → block < blocks_of (sent (get_or ks m 0)) → says_ack ks sent read m block ≡ true
@@ -113,8 +109,8 @@ module _ (ks : List ℕ) (sent : ℕ → Send) where
   bundled_says : (p : Place) (b0 b1 m block : ℕ) → confirmed ks sent (Ok (reading.Bundled p b0 b1)) m block ≡ true → Bundles p b0 b1 m block
   bundled_says p b0 b1 m block e =
       let c = carried (Ok (reading.Bundled p b0 b1)) m block e in
-      let a = both (named_sent ks sent p && holds_for ks sent p (get_or ks m 0)) (acknowledged (sent (get_or ks m 0)) block b0 b1) c.2 in
-      let n = both (named_sent ks sent p) (holds_for ks sent p (get_or ks m 0)) a.0 in
+      let a = and_parts (named_sent ks sent p && holds_for ks sent p (get_or ks m 0)) (acknowledged (sent (get_or ks m 0)) block b0 b1) c.2 in
+      let n = and_parts (named_sent ks sent p) (holds_for ks sent p (get_or ks m 0)) a.0 in
       record {
         there = named_says p n.0;
         inside = c.0;
@@ -166,7 +162,7 @@ module _ (ks : List ℕ) (sent : ℕ → Send) where
       to : confirmed ks sent (Ok (reading.Multiplexed named positions)) m block ≡ true → MultiplexedConfirmed ks sent named positions m block
       to e =
           let c = carried (Ok (reading.Multiplexed named positions)) m block e in
-          let n = both (named_sent ks sent named) (eqb (positions / 2 ^ m % 2) 1) c.2 in
+          let n = and_parts (named_sent ks sent named) (eqb (positions / 2 ^ m % 2) 1) c.2 in
           record { there = named_says named n.0; inside = c.0; carries = c.1; delivered = eqb-true (positions / 2 ^ m % 2) 1 n.1 }
 
       from : MultiplexedConfirmed ks sent named positions m block → confirmed ks sent (Ok (reading.Multiplexed named positions)) m block ≡ true
@@ -183,19 +179,19 @@ module _ (ks : List ℕ) (sent : ℕ → Send) where
   pub release_none : (m : ℕ) (p : SentRelease) → sent (get_or ks m 0) ≡ send.Released p → (read : Result Reading ℕ) (block : ℕ)
       → confirmed ks sent read m block ≡ false
   release_none m p is read block =
-      never_true (confirmed ks sent read m block) (λ e. let none : block < 0 = rw is at (carried read m block e).1 in omega arith)
+      false_from_ne_true (confirmed ks sent read m block) (λ e. let none : block < 0 = rw is at (carried read m block e).1 in omega arith)
 
   -- The ACK of a PDCCH confirms no scheduled block, and that of a scheduled block nothing that a PDCCH granted.
   pub pdcch_no_block : (named c b0 b1 m block : ℕ) → is_block (sent (get_or ks m 0)) ≡ true
       → confirmed ks sent (Ok (reading.Bundled (place.Pdcch named (record { 0 = c })) b0 b1)) m block ≡ false
   pdcch_no_block named c b0 b1 m block is =
-      never_true (confirmed ks sent (Ok (reading.Bundled (place.Pdcch named (record { 0 = c })) b0 b1)) m block)
+      false_from_ne_true (confirmed ks sent (Ok (reading.Bundled (place.Pdcch named (record { 0 = c })) b0 b1)) m block)
       (λ e. apart (sent (get_or ks m 0)) ((bundled_exactly named c b0 b1 m block).0 e).pdcch is)
 
   pub block_no_pdcch : (named b0 b1 m block : ℕ) → is_pdcch (sent (get_or ks m 0)) ≡ true
       → confirmed ks sent (Ok (reading.Bundled (place.Block named) b0 b1)) m block ≡ false
   block_no_pdcch named b0 b1 m block is =
-      never_true (confirmed ks sent (Ok (reading.Bundled (place.Block named) b0 b1)) m block)
+      false_from_ne_true (confirmed ks sent (Ok (reading.Bundled (place.Block named) b0 b1)) m block)
       (λ e.
       let b = (block_exactly named b0 b1 m block).0 e in
       apart (sent (get_or ks m 0)) is (rw b.same b.there.1))

@@ -10,8 +10,9 @@ use native.Mathlib.Decide.{dec_le}
 use native.Mathlib.Omega.{arith}
 use lib.Dec.{eqb, leb, ltb}
 use borrow.Author.Tests.{eqb-true, eqb-false, eq-eqb, leb-true, le-leb, lt-leb, lt-ltb, le-ltb}
+use Rattle.std.proofs.lemmas.Bool.{and_parts}
 use Rattle.frame.specs.Order.{member, times_of}
-use Rattle.frame.proofs.Bools.{both, bit_small}
+use Rattle.frame.proofs.Bools.{bit_small}
 use Rattle.confirmation.specs.declared.Send.{Send}
 use Rattle.confirmation.specs.Confirmed.{sent_up_to, speaks_for}
 use Rattle.confirmation.specs.Sent.{is_pdcch}
@@ -75,7 +76,7 @@ module _ (sent : ℕ → Send) (received : ℕ → Bool) (named : ℕ) where
         → (lost_up_to (times_of ks) ≡ 0) ⊎ (lost_up_to (times_of ks) ≡ 4) ⊎ (lost_up_to (times_of ks) ≡ 8)
         → (k : ℕ) → member k (times_of ks) ≡ true → speaks_for ks sent named k ≡ true → received k ≡ true
     speaks_received ks inside lost k m speaks =
-        let q = both (is_pdcch (sent k)) (eqb k named || (leb (sent_up_to sent named (times_of ks)) 4 && leb named k)) speaks in
+        let q = and_parts (is_pdcch (sent k)) (eqb k named || (leb (sent_up_to sent named (times_of ks)) 4 && leb named k)) speaks in
         go q.0 (eqb k named) refl q.1
       where
         fewer : lost_up_to (times_of ks) + 1 ≤ sent_up_to sent named (times_of ks)
@@ -90,5 +91,5 @@ module _ (sent : ℕ → Send) (received : ℕ → Bool) (named : ℕ) where
         go : is_pdcch (sent k) ≡ true → (b : Bool) → eqb k named ≡ b → (b || (leb (sent_up_to sent named (times_of ks)) 4 && leb named k)) ≡ true → received k ≡ true
         go s true b holds = rw (eqb-true k named b) is-received
         go s false b holds =
-            let p = both (leb (sent_up_to sent named (times_of ks)) 4) (leb named k) holds in
+            let p = and_parts (leb (sent_up_to sent named (times_of ks)) 4) (leb named k) holds in
             none_lost (times_of ks) (none lost (leb-true (sent_up_to sent named (times_of ks)) 4 p.0)) k m (leb-true named k p.1) s

@@ -1,6 +1,6 @@
 -- What the reading is told: the position of a scheduled block that was sent in the window, and nothing where there is none.
 -- Assumes nothing.
-use Rattle.std.proofs.Common.{Option, Some, None}
+use Rattle.std.proofs.Common.{Some, None}
 use Prim.Native.Nat.{ℕ, suc, ◌+◌, ◌<◌, suc-le-suc}
 use mathlib.Core.Bool.{Bool, true, false, cond, ◌||◌, false≢true, or-true}
 use mathlib.Core.List.{List, [], ◌∷◌}

@@ -1,6 +1,6 @@
 -- What an ACK confirms in windows of configuration 5, worked out: which are the four, and what counts among them.
 -- Assumes nothing.
-use Rattle.std.proofs.Common.{Result, Ok, Err}
+use Rattle.std.proofs.Common.{Ok}
 use Prim.Native.Nat.{ℕ}
 use mathlib.Core.Bool.{Bool, true, false, cond}
 use mathlib.Core.List.{List, [], ◌∷◌, map}

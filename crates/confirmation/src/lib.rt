@@ -18,7 +18,8 @@ pub struct SentBlock {
     pub blocks: u16,
 }
 
-// A PDCCH that releases the schedule, as the station sent it: its first CCE and its DAI.
+// A PDCCH that releases the schedule, as the station sent it: its first CCE and its DAI. It has the fields of `heard::Release` and is not
+// that type, as the other two are not: what was sent and what was heard are told apart in every definition.
 #[derive(Clone, Copy, Debug, PartialEq, Eq)]
 pub struct SentRelease {
     pub cce: Cce,

@@ -12,7 +12,7 @@ use lib.Dec.{eqb, leb, ltb}
 use lib.ListN.{length, take, length-take, get_or-eq_default}
 use Rattle.frame.specs.declared.Settings.{Settings}
 use Rattle.frame.specs.Order.{position_of}
-use Rattle.frame.specs.Refusals.{unless_refused}
+use Rattle.frame.specs.Refusals.{unless_refused, refused_or, number_in}
 use Rattle.frame.specs.Settings.{window_refusal, bundles}
 use Rattle.frame.specs.Table.{window_of}
 use Rattle.frame.proofs.Accepted.{neither}
@@ -27,13 +27,13 @@ use Rattle.station.specs.declared.Place.{Place}
 use Rattle.station.specs.declared.Place.TheVariants.{Pdcch, Block}
 use Rattle.station.specs.declared.Reading.{Reading}
 use Rattle.station.specs.declared.Reading.TheVariants.{Bundled, Multiplexed}
-use Rattle.station.specs.Readings.{place_position, bad_bits, bundled_reading, multiplexed_reading, read_at, read_inverted, dynamic_reading, told_refusal, read_on, read_as, read_of}
+use Rattle.station.specs.Readings.{place_position, bad_bits, bundled_reading, multiplexed_reading, read_at, read_inverted, dynamic_reading, told_refusal, read_on, read_of}
 use Rattle.confirmation.specs.declared.Send.{Send}
 use Rattle.confirmation.specs.Confirmed.{confirmed}
 use Rattle.confirmation.specs.Sent.{told_of}
 use Rattle.confirming.specs.Blocks.{Confirmed}
 use Rattle.confirming.specs.declared.SentWindow.{SentWindow}
-use Rattle.confirming.specs.Blocks.{reading_refusal, confirmed_by, read_sent, confirmed_of}
+use Rattle.confirming.specs.Blocks.{confirmed_by, read_sent, confirmed_of}
 use Rattle.confirming.specs.Exactly.{send_at, reply_read, BlocksConfirmed}
 use Rattle.confirming.specs.Records.{nothing_sent, send_of, record_at, sent_in}
 use Rattle.confirming.specs.Refusals.{sent_refusal, call_refusal}
@@ -43,7 +43,7 @@ use Rattle.confirming.proofs.Sets.{set_exactly}
 
 -- 13 and 14 are all that the reading of a reply refuses where settings, subframe and the told position are not refused.
 abbrev Left : Result Reading ℕ → Type 0
-Left x = (reading_refusal x ≡ 0) ⊎ ((reading_refusal x ≡ 13) ⊎ (reading_refusal x ≡ 14))
+Left x = (number_in x ≡ 0) ⊎ ((number_in x ≡ 13) ⊎ (number_in x ≡ 14))
 
 symbol_left : (p : Place) (d : Option ℕ) → Left (multiplexed_reading p d)
 unfolding multiplexed_reading
@@ -76,7 +76,7 @@ module _ (s : Settings) where
     read_left t fine = rw (accepted, fine) (on_left t)
 
 -- A refused reading is its refusal.
-as_refused : (x : Result Reading ℕ) → (reading_refusal x ≡ 0 → ⊥) → x ≡ Err (reading_refusal x)
+as_refused : (x : Result Reading ℕ) → (number_in x ≡ 0 → ⊥) → x ≡ Err (number_in x)
 as_refused (Ok (Bundled p b0 b1)) h = absurd (h refl)
 as_refused (Ok (Multiplexed p positions)) h = absurd (h refl)
 as_refused (Err k) h = refl
@@ -104,7 +104,7 @@ module _ (s : Settings) (n : ℕ) (w : SentWindow) (r b0 b1 : ℕ) where
   abbrev answer : Confirmed
   answer = confirmed_of s n w r b0 b1
 
-  answer_refusal : answer.refusal ≡ reading_refusal (read_sent s n w r b0 b1)
+  answer_refusal : answer.refusal ≡ number_in (read_sent s n w r b0 b1)
   unfolding confirmed_of confirmed_by
   answer_refusal = refl
 
@@ -117,7 +117,7 @@ module _ (s : Settings) (n : ℕ) (w : SentWindow) (r b0 b1 : ℕ) where
   unfolding read_sent
   refused_before h = answer_refusal ∙ go (call_refusal s n w) h
     where
-      go : (k : ℕ) → (k ≡ 0 → ⊥) → reading_refusal (read_as k (reply_read s n w r b0 b1)) ≡ k
+      go : (k : ℕ) → (k ≡ 0 → ⊥) → number_in (refused_or k (reply_read s n w r b0 b1)) ≡ k
       go zero h = absurd (h refl)
       go (suc k) h = refl
 
@@ -138,7 +138,7 @@ module _ (s : Settings) (n : ℕ) (w : SentWindow) (r b0 b1 : ℕ) where
   blocks_confirmed =
       record {
         refused = refused_before;
-        reading = λ e. ap reading_refusal (read_reply e);
+        reading = λ e. ap number_in (read_reply e);
         left = λ e. rw (read_reply e) (reply_left e);
         first_blocks = λ e m. rw (read_reply (not_before e)) (set_exactly (length K) (λ (m : ℕ). confirmed K S (reply_read s n w r b0 b1) m 0) m);
         second_blocks = λ e m. rw (read_reply (not_before e)) (set_exactly (length K) (λ (m : ℕ). confirmed K S (reply_read s n w r b0 b1) m 1) m);

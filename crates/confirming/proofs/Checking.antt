@@ -5,19 +5,19 @@ use Prim.Native.Nat.{ℕ, zero, suc}
 use mathlib.Core.Path.{◌≡◌, sym, ◌∙◌}
 use Rattle.frame.specs.declared.Settings.{Settings}
 use Rattle.frame.specs.declared.refusal.Refusal.{Refusal}
-use Rattle.frame.specs.Refusals.{number_of, numbered, unless_refused}
+use Rattle.frame.specs.Refusals.{number_of, numbered, unless_refused, refused_or}
 use Rattle.station.specs.declared.Reading.{Reading}
-use Rattle.station.specs.Readings.{read_as, read_of}
+use Rattle.station.specs.Readings.{read_of}
 use Rattle.confirming.specs.declared.SentWindow.{SentWindow}
 use Rattle.confirming.specs.Blocks.{checked_of, read_sent}
 use Rattle.confirming.specs.Refusals.{call_refusal}
 
 -- What was asked first is refused, or tells what to read with.
-read_refused : {T : Type 0} (k : ℕ) (x : T) (e : ℕ) (reading : Result Reading ℕ) → unless_refused k x ≡ Err e → read_as k reading ≡ Err e
+read_refused : {T : Type 0} (k : ℕ) (x : T) (e : ℕ) (reading : Result Reading ℕ) → unless_refused k x ≡ Err e → refused_or k reading ≡ Err e
 read_refused zero x e reading is = absurd (cc)
 read_refused (suc k) x e reading is = cc
 
-read_accepted : {T : Type 0} (k : ℕ) (x y : T) (reading : Result Reading ℕ) → unless_refused k x ≡ Ok y → (x ≡ y) × (read_as k reading ≡ reading)
+read_accepted : {T : Type 0} (k : ℕ) (x y : T) (reading : Result Reading ℕ) → unless_refused k x ≡ Ok y → (x ≡ y) × (refused_or k reading ≡ reading)
 read_accepted zero x y reading is = (cc, cc)
 read_accepted (suc k) x y reading is = absurd (cc)
 

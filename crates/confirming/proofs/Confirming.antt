@@ -1,17 +1,23 @@
 -- The blocks that a reading confirms, found position by position, are those of the definition.
 -- Assumes nothing.
 use Rattle.std.proofs.Common.{Result, Ok, Err, Some, None}
-use Prim.Native.Nat.{ℕ, ◌+◌, ◌-◌, ◌*◌, ◌/◌, ◌%◌, ◌^◌, ◌<◌, ◌≤◌}
+use Prim.Native.Nat.{ℕ, ◌+◌, ◌*◌, ◌/◌, ◌%◌, ◌^◌, ◌<◌, ◌≤◌}
 use mathlib.Core.Bool.{Bool, true, false, cond, ◌&&◌, and-false}
 use mathlib.Core.List.{List}
-use mathlib.Core.Path.{◌≡◌, refl, ◌∙◌}
+use mathlib.Core.Path.{◌≡◌, refl, sym, ◌∙◌}
 use native.Mathlib.Omega.{arith}
-use lib.Dec.{eqb, ltb}
+use native.Mathlib.Nat.{pow-le-pow_right}
+use native.Mathlib.Numerals.{add-one}
+use lib.Dec.{eqb, ltb, lit<}
 use lib.ListN.{length, get_or}
 use borrow.Author.Tests.{lt-ltb}
 use mir.Val.{bool_byte}
+use Rattle.std.specs.List.{slice_get}
 use Rattle.std.specs.Option.{option_map}
-use Rattle.frame.proofs.Bools.{cast_bit}
+use Rattle.frame.specs.Refusals.{number_in}
+use Rattle.symbols.specs.Delivered.{set_of}
+use Rattle.symbols.proofs.Reading.{set_below}
+use Rattle.confirming.specs.declared.Sent.{Sent}
 use Rattle.frame.proofs.Windows.{window_size}
 use Rattle.station.specs.declared.Place.{Place}
 use Rattle.station.specs.declared.Place.TheVariants as place
@@ -25,44 +31,55 @@ use Rattle.confirming.specs.declared.SentIn.{SentIn}
 use Rattle.confirming.specs.declared.blocks.Acks.{Acks}
 use Rattle.confirming.specs.declared.blocks.Acks.TheVariants as acks
 use Rattle.confirming.specs.declared.blocks.Named.{Named}
-use Rattle.confirming.specs.Blocks.{Confirmed, reading_refusal, blocks_as, confirmed_by}
-use Rattle.confirming.specs.Coded.{k_in, records_in, send_in, holds_by, named_at, named_by, acks_of, confirms_by, confirmed_set, set_from, confirmed_from}
-use Rattle.confirming.specs.Records.{nothing_sent, send_of}
-use Rattle.confirming.proofs.Records.{sent_at}
-use Rattle.confirming.proofs.Sets.{set_same, set_none, set_small, set_more, set_whole}
+use Rattle.confirming.specs.Blocks.{Confirmed, blocks_as, confirmed_by}
+use Rattle.confirming.specs.Coded.{k_in, records_in, send_in, holds_by, named_at, named_by, acks_of, confirms_by, confirmed_set}
+use Rattle.confirming.specs.Records.{send_of}
+use Rattle.confirming.proofs.Pairs.{pairs_in, pair_inside, pair_k, pair_sent}
+use Rattle.confirming.proofs.Sets.{set_same, set_none, set_next}
 
--- The positions of a window whose block is confirmed, from the last position down.
-module _ (w : SentIn) (acks : Acks) (block : ℕ) where
-  abbrev from : ℕ → ℕ
-  from m = confirmed_from (k_in w) (send_in w) acks block m
+-- The block at position m of a window is confirmed.
+abbrev pub confirms_at : SentIn → Acks → ℕ → ℕ → Bool
+confirms_at w acks block m = confirms_by acks (get_or (k_in w) m 0) m (send_in w (get_or (k_in w) m 0)) block
 
-  abbrev f : ℕ → Bool
-  f m = confirms_by acks (get_or (k_in w) m 0) m (send_in w (get_or (k_in w) m 0)) block
+-- The positions below m whose block is confirmed.
+module _ (w : SentIn) (acks : Acks) (block : ℕ) (size : length (records_in w) ≡ length (k_in w)) where
+  abbrev below : ℕ → ℕ
+  below m = set_of m (confirms_at w acks block)
 
-  pub from_none : (m : ℕ) → m ≡ length (k_in w) → 0 ≡ from m
-  unfolding confirmed_from set_from
-  from_none m e = let none : length (k_in w) - m ≡ 0 = omega arith in rw none
+  -- One turn of the loop, which has gone through n positions.
+  module _ (set m n k : ℕ) (x : Sent) (is : set ≡ below n) (at : m ≡ n) (there : slice_get (pairs_in w) m ≡ Some (k, x)) where
+    here : confirms_at w acks block n ≡ confirms_by acks k m (send_of x) block
+    here = rw (← at, pair_sent w size m k x there, pair_k w size m k x there) refl
 
-  pub from_small : (m : ℕ) → from m < 512
-  unfolding confirmed_from
-  from_small m = set_small m (length (k_in w) - m) _ (omega (arith, window_size w.config w.n))
+    small : (set < 2 ^ m) × (m < 9) × (2 ^ m ≤ 256)
+    small =
+        let few : m < 9 = omega (arith, pair_inside w size m k x there, window_size w.settings.config w.n) in
+        let eight : m ≤ 8 = omega (arith, few) in
+        let most : 2 ^ m ≤ 2 ^ 8 = pow-le-pow_right (lit< tt) eight in
+        (rw (is, at) (set_below n (confirms_at w acks block)), few, most)
 
-  pub from_more : (m set bit : ℕ) (b : Bool) → 0 < m → m ≤ length (k_in w) → set ≡ from m
-      → b ≡ confirms_by acks (get_or (k_in w) (m - 1) 0) (m - 1) (send_of (get_or (records_in w) (m - 1) nothing_sent)) block
-      → bit ≡ bool_byte b → 2 * set + bit ≡ from (m - 1)
-  unfolding confirmed_from
-  from_more m set bit b some within is tested cast =
-      let here : b ≡ f (m - 1) = tested ∙ rw (← sent_at w (m - 1) (omega arith)) refl in
-      let more = set_more (length (k_in w)) m (m - 1) f (omega arith) (omega arith) in
-      let added : bit ≡ cond (f (m - 1)) 1 0 = cast ∙ cast_bit b ∙ rw here in
-      omega (arith, more, added, is)
+    pub shift_fits : m < 16
+    shift_fits = omega (arith, small.1)
 
-  pub from_all : (m set : ℕ) → m ≤ 0 → set ≡ from m → set ≡ confirmed_set (k_in w) (send_in w) acks block
-  unfolding confirmed_from confirmed_set
-  from_all m set done is =
-      let start : m ≡ 0 = omega arith in
-      let whole : length (k_in w) - 0 ≡ length (k_in w) = omega arith in
-      is ∙ rw (start, whole) (set_whole (length (k_in w)) f)
+    bit_is : (b : Bool) (bit : ℕ) → bit ≡ bool_byte b → bit * 2 ^ m % 65536 ≡ cond b (2 ^ m) 0
+    bit_is true bit e = rw e (omega (arith, small.2))
+    bit_is false bit e = rw e (omega arith)
+
+    pub sum_fits : (b : Bool) (bit : ℕ) → bit ≡ bool_byte b → set + bit * 2 ^ m % 65536 < 65536
+    sum_fits b bit e = rw (bit_is b bit e) (go b)
+      where
+        go : (b : Bool) → set + cond b (2 ^ m) 0 < 65536
+        go true = omega (arith, small.0, small.2)
+        go false = omega (arith, small.0, small.2)
+
+    pub below_more : (long : ℕ) → long ≡ n + 1 → (b : Bool) (bit : ℕ) → b ≡ confirms_by acks k m (send_of x) block → bit ≡ bool_byte b
+        → set + bit * 2 ^ m % 65536 ≡ below long
+    below_more long e b bit tested cast =
+        rw (bit_is b bit cast, e, add-one, is, at) (sym (set_next n (confirms_at w acks block) ∙ rw (here, ← tested) refl))
+
+  pub below_all : (set m : ℕ) → set ≡ below m → m ≡ length (k_in w) → set ≡ confirmed_set (k_in w) (send_in w) acks block
+  unfolding confirmed_set
+  below_all set m is e = is ∙ rw e refl
 
 -- No blocks, as sets.
 nothing_as : (k size : ℕ) (f : ℕ → ℕ → Bool) → ((m block : ℕ) → f m block ≡ false)
@@ -91,11 +108,11 @@ module _ (ks : List ℕ) (sent : ℕ → Send) where
       go false e = absurd (cc)
   same_block (reading.Multiplexed p positions) a e m block h = go (named_sent ks sent p) e
     where
-      go : (there : Bool) → option_map (λ (n : Named). acks.Positions positions) (cond there (Some (named_at ks sent p)) None) ≡ Some a
+      go : (there : Bool) → option_map (λ (n : Named). acks.Positions (record { 0 = positions })) (cond there (Some (named_at ks sent p)) None) ≡ Some a
           → confirms_by a (get_or ks m 0) m (sent (get_or ks m 0)) block
           ≡ (ltb m (length ks) && ltb block (blocks_of (sent (get_or ks m 0))) && (there && eqb (positions / 2 ^ m % 2) 1))
       go true e =
-          let is : acks.Positions positions ≡ a = cc in
+          let is : acks.Positions (record { 0 = positions }) ≡ a = cc in
           rw (← is, lt-ltb m (length ks) h)
       go false e = absurd (cc)
 
@@ -110,12 +127,12 @@ module _ (ks : List ℕ) (sent : ℕ → Send) where
       go false e = and-false (ltb m (length ks) && ltb block (blocks_of (sent (get_or ks m 0))))
   unnamed (reading.Multiplexed p positions) e m block = go (named_sent ks sent p) e
     where
-      go : (there : Bool) → option_map (λ (n : Named). acks.Positions positions) (cond there (Some (named_at ks sent p)) None) ≡ None
+      go : (there : Bool) → option_map (λ (n : Named). acks.Positions (record { 0 = positions })) (cond there (Some (named_at ks sent p)) None) ≡ None
           → (ltb m (length ks) && ltb block (blocks_of (sent (get_or ks m 0))) && (there && eqb (positions / 2 ^ m % 2) 1)) ≡ false
       go true e = absurd (cc)
       go false e = and-false (ltb m (length ks) && ltb block (blocks_of (sent (get_or ks m 0))))
 
-  accepted : (read : Reading) → reading_refusal (Ok read) ≡ 0
+  accepted : (read : Reading) → number_in (Ok read) ≡ 0
   accepted (reading.Bundled p b0 b1) = refl
   accepted (reading.Multiplexed p positions) = refl
 

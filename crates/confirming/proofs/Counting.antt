@@ -10,9 +10,9 @@ use lib.Ieee.Bits.{is_true}
 use lib.ListN.{length}
 use borrow.Author.Tests.{eqb-true, eqb-false, ne_eqb, ltb-true, leb-true}
 use Rattle.std.specs.List.{filter, zip}
+use Rattle.std.proofs.lemmas.Bool.{and_parts, not-true}
 use Rattle.frame.specs.Order.{member, falling, times_of}
 use Rattle.frame.specs.Table.{table, window_of}
-use Rattle.frame.proofs.Bools.{both}
 use Rattle.frame.proofs.Windows.{every_row, window_passes}
 use Rattle.confirmation.specs.declared.Send.{Send}
 use Rattle.confirmation.specs.Confirmed.{sent_up_to}
@@ -21,6 +21,7 @@ use Rattle.confirming.specs.declared.Sent.{Sent}
 use Rattle.confirming.specs.declared.SentIn.{SentIn}
 use Rattle.confirming.specs.Coded.{k_in, records_in, send_in}
 use Rattle.confirming.specs.Records.{send_of}
+use Rattle.confirming.proofs.Pairs.{pairs_in}
 use Rattle.confirming.proofs.Records.{sent_list}
 
 -- A list with numbers from 1 to n, none of them twice.
@@ -67,14 +68,10 @@ module _ (sent : ℕ → Send) (k : ℕ) where
   falling_count : (n : ℕ) (xs : List ℕ) → apart n xs ≡ true → sent_up_to sent k (falling n xs) ≡ sent_up_to sent k xs
   falling_count n [] a = rw (falling_none n)
   falling_count n (x ∷ xs) a =
-      let p = both (ltb 0 x && (leb x n && not (member x xs))) (apart n xs) a in
-      let q = both (ltb 0 x) (leb x n && not (member x xs)) p.0 in
-      let r = both (leb x n) (not (member x xs)) q.1 in
-      falling_more n x xs (ltb-true 0 x q.0) (leb-true x n r.0) (not_true (member x xs) r.1) ∙ rw (falling_count n xs p.1)
-    where
-      not_true : (b : Bool) → not b ≡ true → b ≡ false
-      not_true true e = sym e
-      not_true false e = refl
+      let p = and_parts (ltb 0 x && (leb x n && not (member x xs))) (apart n xs) a in
+      let q = and_parts (ltb 0 x) (leb x n && not (member x xs)) p.0 in
+      let r = and_parts (leb x n) (not (member x xs)) q.1 in
+      falling_more n x xs (ltb-true 0 x q.0) (leb-true x n r.0) (not-true (member x xs) r.1) ∙ rw (falling_count n xs p.1)
 
   -- The count of a window is the same in the order of the print.
   times_count : (c n : ℕ) → sent_up_to sent k (times_of (window_of c n)) ≡ sent_up_to sent k (window_of c n)
@@ -100,7 +97,7 @@ module _ (sent : ℕ → Send) (k : ℕ) where
       go true e = omega (arith, e)
       go false e = omega (arith, e)
 
-pub up_to_counted : (w : SentIn) (k : ℕ) (ks : List ℕ) (xs : List Sent) → ks ≡ k_in w → xs ≡ records_in w → length xs ≡ length (k_in w)
-    → length (filter (counts k) (zip ks xs)) ≡ sent_up_to (send_in w) k (times_of (k_in w))
-up_to_counted w k ks xs window records size =
-    rw window (pairs_counted (send_in w) k (k_in w) xs (sent_list w xs records size)) ∙ sym (times_count (send_in w) k w.config w.n)
+pub up_to_counted : (w : SentIn) (k : ℕ) → length (records_in w) ≡ length (k_in w)
+    → length (filter (counts k) (pairs_in w)) ≡ sent_up_to (send_in w) k (times_of (k_in w))
+up_to_counted w k size =
+    pairs_counted (send_in w) k (k_in w) (records_in w) (sent_list w (records_in w) refl size) ∙ sym (times_count (send_in w) k w.settings.config w.n)

@@ -6,6 +6,8 @@ pub mod Counting
 pub mod Exactly
 pub mod Looking
 pub mod Naming
+pub mod Pairs
+pub mod Picking
 pub mod Ranks
 pub mod Records
 pub mod Second

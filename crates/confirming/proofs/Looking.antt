@@ -1,16 +1,15 @@
 -- The records of a window, gone through: the refusal that comes first, the scheduled blocks, and the position of the first of them.
 -- Assumes nothing.
 use Rattle.std.proofs.Common.{Option, Some, None}
-use Prim.Native.Nat.{ℕ, suc, ◌+◌, ◌-◌, ◌<◌, ◌≤◌}
+use Prim.Native.Nat.{ℕ, suc, ◌+◌}
 use mathlib.Core.Bool.{Bool, true, false, cond}
 use mathlib.Core.List.{List, [], ◌∷◌, map}
-use mathlib.Core.Path.{◌≡◌, refl, sym, ◌∙◌}
+use mathlib.Core.Path.{◌≡◌, refl, ◌∙◌}
 use native.Mathlib.Numerals.{add-one}
 use native.Mathlib.Omega.{arith}
 use lib.Dec.{ltb}
-use lib.ListN.{length, get_or, drop, drop_of_length-le}
-use lib.Seq.{drop-cons}
-use Rattle.std.specs.List.{filter, position_from, position_or_len}
+use lib.ListN.{length}
+use Rattle.std.specs.List.{filter, zip, position_from, position_or_len}
 use Rattle.std.proofs.lemmas.Iterator.Adapters.{position_from-zero}
 use Rattle.frame.specs.declared.Settings.{Settings}
 use Rattle.frame.specs.Distance.{before}
@@ -20,33 +19,28 @@ use Rattle.confirmation.specs.Sent.{is_block, as_heard, told_from, told_of}
 use Rattle.confirming.specs.declared.Sent.{Sent}
 use Rattle.confirming.specs.declared.SentIn.{SentIn}
 use Rattle.confirming.specs.Coded.{k_in, records_in, send_in}
-use Rattle.confirming.specs.Records.{nothing_sent, send_of}
-use Rattle.confirming.specs.Refusals.{earlier, lowest, refusal_ago, blocks_sent}
-use Rattle.confirming.proofs.Records.{sent_at, sent_list}
+use Rattle.confirming.specs.Records.{send_of}
+use Rattle.confirming.specs.Refusals.{refusal_ago, blocks_sent}
+use Rattle.confirming.proofs.Pairs.{pairs_in}
+use Rattle.confirming.proofs.Records.{sent_list}
 
--- The first refusal of a list, from a place on.
-lowest_more : (f : ℕ → ℕ) (ks : List ℕ) (i m : ℕ) → suc m ≡ i → m < length ks
-    → lowest (map f (drop m ks)) ≡ earlier (f (get_or ks m 0)) (lowest (map f (drop i ks)))
-unfolding lowest
-lowest_more f ks i m e h = rw (← e, drop-cons ks m 0 h)
+-- What a pair of a k and its record is refused with.
+abbrev pub refusal_of_pair : Settings → ℕ → ℕ × Sent → ℕ
+refusal_of_pair s n p = heard_refusal s (before n p.0) (as_heard (send_of p.1))
 
--- The first refusal of the positions from m on.
-module _ (s : Settings) (n : ℕ) (w : SentIn) where
-  abbrev first_from : ℕ → ℕ
-  first_from m = lowest (map (refusal_ago s n (send_in w)) (drop m (k_in w)))
+pairs_refused : (s : Settings) (n : ℕ) (sent : ℕ → Send) (ks : List ℕ) (xs : List Sent) → map sent ks ≡ map send_of xs
+    → map (refusal_of_pair s n) (zip ks xs) ≡ map (refusal_ago s n sent) ks
+pairs_refused s n sent [] xs e = refl
+pairs_refused s n sent (k ∷ ks) [] e = absurd (cc)
+pairs_refused s n sent (k ∷ ks) (x ∷ xs) e =
+    let here : sent k ≡ send_of x = cc in
+    let rest : map sent ks ≡ map send_of xs = cc in
+    rw (here, pairs_refused s n sent ks xs rest) refl
 
-  pub first_none : (m : ℕ) → length (k_in w) ≤ m → first_from m ≡ 0
-  unfolding lowest
-  first_none m h = rw (drop_of_length-le (k_in w) {i = m} h)
-
-  first_step : (i m : ℕ) → suc m ≡ i → m < length (k_in w)
-      → first_from m ≡ earlier (heard_refusal s (before n (get_or (k_in w) m 0)) (as_heard (send_of (get_or (records_in w) m nothing_sent)))) (first_from i)
-  first_step i m e h = lowest_more (refusal_ago s n (send_in w)) (k_in w) i m e h ∙ rw (sent_at w m h)
-
-  pub first_more : (m next : ℕ) → 0 < m → m ≤ length (k_in w)
-      → next ≡ earlier (heard_refusal s (before n (get_or (k_in w) (m - 1) 0)) (as_heard (send_of (get_or (records_in w) (m - 1) nothing_sent)))) (first_from m)
-      → next ≡ first_from (m - 1)
-  first_more m next some within is = is ∙ sym (first_step m (m - 1) (omega arith) (omega arith))
+-- Of the pairs of a window they are those of its records.
+pub records_refused : (w : SentIn) → length (records_in w) ≡ length (k_in w)
+    → map (refusal_of_pair w.settings w.n) (pairs_in w) ≡ map (refusal_ago w.settings w.n (send_in w)) (k_in w)
+records_refused w size = pairs_refused w.settings w.n (send_in w) (k_in w) (records_in w) (sent_list w (records_in w) refl size)
 
 -- The scheduled blocks among records that say what was sent in the subframes of a list.
 module _ (sent : ℕ → Send) where

@@ -9,7 +9,7 @@ use mathlib.Core.Path.{◌≡◌, refl, sym, ap, ◌∙◌}
 use native.Mathlib.Decide.{dec_lt}
 use native.Mathlib.Nat.{le_of_suc-le-suc, not-suc-le-zero}
 use native.Mathlib.Omega.{arith}
-use lib.Dec.{eqb, ltb, lit<}
+use lib.Dec.{eqb, ltb, lit<, lit≤}
 use lib.ListN.{length, get_or}
 use borrow.Author.Tests.{eqb-true, lt-ltb, le-ltb}
 use Rattle.frame.specs.declared.Settings.{Settings}
@@ -56,6 +56,45 @@ earlier_is a b = go (dec_lt (rank_of b) (rank_of a))
     go : Dec (rank_of b < rank_of a) → ((earlier a b ≡ b) × (rank_of b < rank_of a)) ⊎ ((earlier a b ≡ a) × (rank_of a ≤ rank_of b))
     go (yes h) = inl (rw (lt-ltb (rank_of b) (rank_of a) h), h)
     go (no h) = let le : rank_of a ≤ rank_of b = omega arith in inr (rw (le-ltb (rank_of b) (rank_of a) le), le)
+
+pub earlier_less : (a b : ℕ) → rank_of b < rank_of a → earlier a b ≡ b
+unfolding earlier
+earlier_less a b h = rw (lt-ltb (rank_of b) (rank_of a) h) refl
+
+pub earlier_more : (a b : ℕ) → rank_of a ≤ rank_of b → earlier a b ≡ a
+unfolding earlier
+earlier_more a b h = rw (le-ltb (rank_of b) (rank_of a) h) refl
+
+rank_most : (k : ℕ) → rank_of k ≤ 7
+unfolding rank_of
+rank_most k =
+    low (eqb k 9) 1 _ (lit≤ tt) (low (eqb k 20) 2 _ (lit≤ tt) (low (eqb k 10) 3 _ (lit≤ tt) (low (eqb k 11) 4 _ (lit≤ tt) (low (eqb k 12) 5 _ (lit≤ tt) (low (eqb k 18) 6 _ (lit≤ tt) (lit≤ tt))))))
+  where
+    low : (b : Bool) (r rest : ℕ) → r ≤ 7 → rest ≤ 7 → cond b r rest ≤ 7
+    low true r rest h more = h
+    low false r rest h more = more
+
+last_rank : rank_of 0 ≡ 7
+unfolding rank_of
+last_rank = refl
+
+-- No refusal comes last.
+pub earlier_none : (a : ℕ) → earlier a 0 ≡ a
+earlier_none a = earlier_more a 0 (rw last_rank (rank_most a))
+
+pub earlier_assoc : (a b c : ℕ) → earlier (earlier a b) c ≡ earlier a (earlier b c)
+earlier_assoc a b c =
+    ⊎_elim
+    (λ p. ap (λ (x : ℕ). earlier x c) p.0 ∙ sym (earlier_less a (earlier b c) (omega (arith, p.1, least))))
+    (λ p. ap (λ (x : ℕ). earlier x c) p.0
+    ∙ ⊎_elim
+    (λ q. sym (ap (earlier a) q.0))
+    (λ q. earlier_more a c (omega (arith, p.1, q.1)) ∙ sym (ap (earlier a) q.0 ∙ p.0))
+    (earlier_is b c))
+    (earlier_is a b)
+  where
+    least : rank_of (earlier b c) ≤ rank_of b
+    least = ⊎_elim (λ q. rw q.0 (omega (arith, q.1))) (λ q. rw q.0 (omega arith)) (earlier_is b c)
 
 module _ (f : ℕ → ℕ) where
   -- The first refusal comes before every other, or with it.

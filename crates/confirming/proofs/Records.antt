@@ -68,7 +68,7 @@ module _ (x : Sent) where
 module _ (w : SentIn) where
   -- at position m stands what was sent k_m ago
   pub sent_at : (m : ℕ) → m < length (k_in w) → send_in w (get_or (k_in w) m 0) ≡ send_of (get_or (records_in w) m nothing_sent)
-  sent_at m h = rw (window_position w.config w.n m h)
+  sent_at m h = rw (window_position w.settings.config w.n m h)
 
   -- position by position, in the records as the code has them
   pub sent_list : (xs : List Sent) → xs ≡ records_in w → length xs ≡ length (k_in w) → map (send_in w) (k_in w) ≡ map send_of xs

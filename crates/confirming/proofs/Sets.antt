@@ -1,16 +1,16 @@
--- Sets of positions as numbers, filled from the last position down, and the positions that a number says.
+-- Sets of positions as numbers, filled from the first position up, and the positions that a number says.
 -- Assumes nothing.
-use Prim.Native.Nat.{ℕ, zero, suc, ◌+◌, ◌-◌, ◌*◌, ◌/◌, ◌%◌, ◌^◌, ◌<◌, ◌≤◌}
+use Prim.Native.Nat.{ℕ, zero, suc, ◌+◌, ◌*◌, ◌/◌, ◌%◌, ◌^◌, ◌<◌, ◌≤◌}
 use mathlib.Core.Bool.{Bool, true, false, cond}
 use mathlib.Core.Logic.{◌↔◌}
-use mathlib.Core.Path.{◌≡◌, refl, ap, ◌∙◌}
+use mathlib.Core.Path.{◌≡◌, refl}
 use native.Mathlib.Decide.{dec_lt}
-use native.Mathlib.Nat.{div-eq_of_lt, pow-le-pow_right}
+use native.Mathlib.Nat.{div-eq_of_lt, pow-le-pow_right, pow-succ'}
 use lib.Dec.{lit<}
 use native.Mathlib.Omega.{arith}
 use Rattle.symbols.specs.Delivered.{set_of}
 use Rattle.symbols.proofs.Reading.{set_below, set_bit}
-use Rattle.confirming.specs.Coded.{set_from}
+use Rattle.confirming.specs.Coded.{in_set}
 
 -- Two sets of the same positions are the same number.
 pub set_same : (n : ℕ) (f g : ℕ → Bool) → ((p : ℕ) → p < n → f p ≡ g p) → set_of n f ≡ set_of n g
@@ -34,26 +34,23 @@ set_exactly n f p = go (dec_lt p n)
         let none : set_of n f / 2 ^ p ≡ 0 = div-eq_of_lt (omega (arith, set_below n f, most)) in
         (λ e. absurd (omega (arith, none, e)), λ e. absurd (h e.0))
 
-from_is : (m n : ℕ) (f : ℕ → Bool) → set_from m n f ≡ set_of n (λ (p : ℕ). f (m + p))
-unfolding set_from
-from_is m zero f = refl
-from_is m (suc n) f =
-    let at : f m ≡ f (m + 0) = ap f (omega arith) in
-    let rest : set_from (suc m) n f ≡ set_of n (λ (p : ℕ). f (m + suc p)) =
-    from_is (suc m) n f ∙ set_same n (λ (p : ℕ). f (suc m + p)) (λ (p : ℕ). f (m + suc p)) (λ p h. ap f (omega arith)) in
-    rw (at, rest)
+-- One position more, behind the others.
+pub set_next : (n : ℕ) (f : ℕ → Bool) → set_of (suc n) f ≡ set_of n f + cond (f n) (2 ^ n) 0
+set_next zero f = go (f zero)
+  where
+    go : (b : Bool) → cond b 1 0 + 2 * 0 ≡ 0 + cond b (2 ^ 0) 0
+    go true = refl
+    go false = refl
+set_next (suc n) f = go (f (suc n)) (set_next n (λ (p : ℕ). f (suc p)))
+  where
+    go : (b : Bool) → set_of (suc n) (λ (p : ℕ). f (suc p)) ≡ set_of n (λ (p : ℕ). f (suc p)) + cond b (2 ^ n) 0
+        → cond (f zero) 1 0 + 2 * set_of (suc n) (λ (p : ℕ). f (suc p)) ≡ cond (f zero) 1 0 + 2 * set_of n (λ (p : ℕ). f (suc p)) + cond b (2 ^ suc n) 0
+    go true e = omega (arith, e, pow-succ' 2 n)
+    go false e = omega (arith, e)
 
--- The whole set.
-pub set_whole : (n : ℕ) (f : ℕ → Bool) → set_from 0 n f ≡ set_of n f
-set_whole n f = from_is 0 n f ∙ set_same n (λ (p : ℕ). f (0 + p)) f (λ p h. ap f (omega arith))
-
--- Of at most nine positions it is below 512.
-pub set_small : (m n : ℕ) (f : ℕ → Bool) → n ≤ 9 → set_from m n f < 512
-set_small m n f h =
-    let most : 2 ^ n ≤ 2 ^ 9 = pow-le-pow_right (lit< tt) h in
-    omega (arith, from_is m n f, set_below n (λ (p : ℕ). f (m + p)), most)
-
--- One position more, before the others.
-pub set_more : (size i m : ℕ) (f : ℕ → Bool) → suc m ≡ i → m < size → set_from m (size - m) f ≡ cond (f m) 1 0 + 2 * set_from i (size - i) f
-unfolding set_from
-set_more size i m f e h = let more : size - m ≡ suc (size - i) = omega arith in rw (more, ← e)
+-- No number of 16 bits has a position from 16 on.
+pub none_beyond : (set m : ℕ) → set < 65536 → 16 ≤ m → in_set set m ≡ false
+none_beyond set m low h =
+    let most : 2 ^ 16 ≤ 2 ^ m = pow-le-pow_right (lit< tt) h in
+    let none : set / 2 ^ m ≡ 0 = div-eq_of_lt (omega (arith, low, most)) in
+    rw none

@@ -4,12 +4,11 @@
 use Rattle.std.specs.Prelude.{Result, Ok, Err, Option, ℕ, Bool, List, length}
 use Rattle.frame.specs.declared.Settings.{Settings}
 use Rattle.frame.specs.declared.refusal.Refusal.{Refusal}
-use Rattle.frame.specs.Refusals.{number_of, unless_refused}
+use Rattle.frame.specs.Refusals.{number_of, unless_refused, refused_or, number_in}
 use Rattle.frame.specs.Table.{window_of}
 use Rattle.symbols.specs.Delivered.{set_of}
 use Rattle.station.specs.declared.Reading.{Reading}
-use Rattle.station.specs.declared.Reading.TheVariants.{Bundled, Multiplexed}
-use Rattle.station.specs.Readings.{read_as, read_of}
+use Rattle.station.specs.Readings.{read_of}
 use Rattle.confirmation.specs.declared.Send.{Send}
 use Rattle.confirmation.specs.Confirmed.{confirmed}
 use Rattle.confirmation.specs.Sent.{told_of}
@@ -27,14 +26,8 @@ pub record Confirmed : Type 0 where
 
 -- What a result of the code is in these terms; beside a refusal there are no blocks.
 abbrev pub confirmed_as : Result Blocks Refusal → Confirmed
-confirmed_as (Ok blocks) = record { refusal = 0; first = blocks.first; second = blocks.second }
+confirmed_as (Ok blocks) = record { refusal = 0; first = blocks.first.0; second = blocks.second.0 }
 confirmed_as (Err r) = record { refusal = number_of r; first = 0; second = 0 }
-
--- The refusal of a reading; 0 where it is not refused.
-abbrev pub reading_refusal : Result Reading ℕ → ℕ
-reading_refusal (Ok (Bundled place b0 b1)) = 0
-reading_refusal (Ok (Multiplexed place positions)) = 0
-reading_refusal (Err k) = k
 
 -- Blocks as sets of positions, bit p for position p: the first block at each position, or the only one, and the second.
 abbrev pub blocks_as : ℕ → ℕ → (ℕ → ℕ → Bool) → Confirmed
@@ -42,7 +35,7 @@ blocks_as refusal size f = record { refusal = refusal; first = set_of size (λ (
 
 -- The blocks that a reading confirms, in the window with K = ks; none where it is refused.
 unfoldable pub confirmed_by : List ℕ → (ℕ → Send) → Result Reading ℕ → Confirmed
-confirmed_by ks sent reading = blocks_as (reading_refusal reading) (length ks) (confirmed ks sent reading)
+confirmed_by ks sent reading = blocks_as (number_in reading) (length ks) (confirmed ks sent reading)
 
 -- What is refused before the reply is looked at, and where it is nothing the position that the reading is told: that of the block sent.
 unfoldable pub checked_of : Settings → ℕ → SentWindow → Result (Option ℕ) ℕ
@@ -54,7 +47,7 @@ checked_of s n w =
 unfoldable pub read_sent : Settings → ℕ → SentWindow → ℕ → ℕ → ℕ → Result Reading ℕ
 read_sent s n w r b0 b1 =
     let ks : List ℕ = window_of s.config n in
-    read_as (call_refusal s n w) (read_of s n (told_of ks (sent_in ks w)) r b0 b1)
+    refused_or (call_refusal s n w) (read_of s n (told_of ks (sent_in ks w)) r b0 b1)
 
 -- The confirmed blocks of a sent window, from the reply on resource r with the bits b0 and b1.
 unfoldable pub confirmed_of : Settings → ℕ → SentWindow → ℕ → ℕ → ℕ → Confirmed

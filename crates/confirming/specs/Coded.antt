@@ -1,6 +1,6 @@
 -- The code's way to the definitions: what is kept of a reading, once what it names was found among what was sent.
 -- Assumes nothing.
-use Rattle.std.specs.Prelude.{Option, Some, None, ℕ, zero, suc, ◌+◌, ◌-◌, ◌*◌, ◌/◌, ◌%◌, ◌^◌, Bool, cond, ◌&&◌, ◌||◌, List, eqb, leb, ltb, length, get_or, take}
+use Rattle.std.specs.Prelude.{Option, Some, None, ℕ, ◌/◌, ◌%◌, ◌^◌, Bool, cond, ◌&&◌, ◌||◌, List, eqb, leb, ltb, length, get_or, take}
 use Rattle.std.specs.Option.{option_map}
 use Rattle.frame.specs.Order.{times_of}
 use Rattle.frame.specs.Table.{window_of}
@@ -22,7 +22,7 @@ use Rattle.confirming.specs.Records.{sent_in}
 
 -- K of a window.
 abbrev pub k_in : SentIn → List ℕ
-k_in w = window_of w.config w.n
+k_in w = window_of w.settings.config w.n
 
 -- The records of its positions.
 abbrev pub records_in : SentIn → List Sent
@@ -31,6 +31,10 @@ records_in w = take (length (k_in w)) w.sent.now.at
 -- What was sent k before the reply.
 abbrev pub send_in : SentIn → ℕ → Send
 send_in w = sent_in (k_in w) w.sent.now
+
+-- Position m is in the set, as a number with bit m for it.
+abbrev pub in_set : ℕ → ℕ → Bool
+in_set set m = eqb (set / 2 ^ m % 2) 1
 
 -- A bundled ACK holds for x, sent k ago, by what it names: the PDCCH there, with whether at most four PDCCHs were sent up to and with
 -- it, or the block there.
@@ -50,23 +54,13 @@ named_by ks sent place = cond (named_sent ks sent place) (Some (named_at ks sent
 -- What a reading acknowledges, if what it names was sent.
 unfoldable pub acks_of : List ℕ → (ℕ → Send) → Reading → Option Acks
 acks_of ks sent (reading.Bundled place b0 b1) = option_map (λ (n : Named). acks.Bits n b0 b1) (named_by ks sent place)
-acks_of ks sent (reading.Multiplexed place positions) = option_map (λ (n : Named). acks.Positions positions) (named_by ks sent place)
+acks_of ks sent (reading.Multiplexed place positions) = option_map (λ (n : Named). acks.Positions (record { 0 = positions })) (named_by ks sent place)
 
 -- A block of x, sent k ago at position m, is confirmed: x carries it, and it is acknowledged.
 unfoldable pub confirms_by : Acks → ℕ → ℕ → Send → ℕ → Bool
 confirms_by (acks.Bits named b0 b1) k m x block = ltb block (blocks_of x) && (holds_by named k x && acknowledged x block b0 b1)
-confirms_by (acks.Positions positions) k m x block = ltb block (blocks_of x) && eqb (positions / 2 ^ m % 2) 1
+confirms_by (acks.Positions positions) k m x block = ltb block (blocks_of x) && in_set positions.0 m
 
 -- The positions whose block is confirmed.
 unfoldable pub confirmed_set : List ℕ → (ℕ → Send) → Acks → ℕ → ℕ
 confirmed_set ks sent acks block = set_of (length ks) (λ (m : ℕ). confirms_by acks (get_or ks m 0) m (sent (get_or ks m 0)) block)
-
--- Sets of positions, filled from the last position down: n positions from m on.
-unfoldable pub set_from : ℕ → ℕ → (ℕ → Bool) → ℕ
-set_from m zero f = 0
-set_from m (suc n) f = cond (f m) 1 0 + 2 * set_from (suc m) n f
-
--- The positions from m on whose block is confirmed.
-unfoldable pub confirmed_from : List ℕ → (ℕ → Send) → Acks → ℕ → ℕ → ℕ
-confirmed_from ks sent acks block m =
-    set_from m (length ks - m) (λ (m : ℕ). confirms_by acks (get_or ks m 0) m (sent (get_or ks m 0)) block)

@@ -4,6 +4,7 @@
 use Rattle.std.specs.Prelude.{Result, ℕ, ◌/◌, ◌%◌, ◌^◌, ◌<◌, ◌≤◌, true, ◌⊎◌, ◌↔◌, ◌≡◌}
 use Rattle.frame.specs.declared.Settings.{Settings}
 use Rattle.frame.specs.Distance.{subframe_of}
+use Rattle.frame.specs.Refusals.{number_in}
 use Rattle.frame.specs.Settings.{window_refusal}
 use Rattle.frame.specs.Special.{too_short}
 use Rattle.frame.specs.Table.{window_of}
@@ -16,7 +17,7 @@ use Rattle.confirmation.specs.Confirmed.{confirmed}
 use Rattle.confirmation.specs.Sent.{is_block, as_heard, told_of}
 use Rattle.confirming.specs.Blocks.{Confirmed}
 use Rattle.confirming.specs.declared.SentWindow.{SentWindow}
-use Rattle.confirming.specs.Blocks.{reading_refusal, confirmed_of}
+use Rattle.confirming.specs.Blocks.{confirmed_of}
 use Rattle.confirming.specs.Records.{send_of, record_at, sent_in}
 use Rattle.confirming.specs.Refusals.{rank_of, call_refusal}
 
@@ -90,7 +91,7 @@ HasConfirmed set s n w reading block =
 pub record BlocksConfirmed (s : Settings) (n : ℕ) (w : SentWindow) (r b0 b1 : ℕ) (answer : Confirmed) : Type 0 where
   -- first what is refused before the reply is looked at, then what the reading refuses, of which 13 and 14 are left
   pub refused : (call_refusal s n w ≡ 0 → ⊥) → answer.refusal ≡ call_refusal s n w
-  pub reading : call_refusal s n w ≡ 0 → answer.refusal ≡ reading_refusal (reply_read s n w r b0 b1)
+  pub reading : call_refusal s n w ≡ 0 → answer.refusal ≡ number_in (reply_read s n w r b0 b1)
   pub left : call_refusal s n w ≡ 0 → (answer.refusal ≡ 0) ⊎ ((answer.refusal ≡ 13) ⊎ (answer.refusal ≡ 14))
   -- the blocks that the reading confirms, and none beside a refusal
   pub first_blocks : answer.refusal ≡ 0 → HasConfirmed answer.first s n w (reply_read s n w r b0 b1) 0

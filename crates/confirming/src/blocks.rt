@@ -3,17 +3,30 @@ ghost use Rattle.std.specs.Prelude.{◌≡◌, ◌<◌};
 ghost use Rattle.confirmation.specs.Confirmed.{sent_up_to};
 ghost use Rattle.frame.specs.Order.{times_of};
 ghost use Rattle.confirming.specs.Blocks.{confirmed_as, confirmed_by};
-ghost use Rattle.confirming.specs.Coded.{k_in, send_in, holds_by, named_by, acks_of, confirms_by, confirmed_set};
+ghost use Rattle.confirming.specs.Coded.{in_set, k_in, send_in, holds_by, named_by, acks_of, confirms_by, confirmed_set};
 ghost use Rattle.confirming.specs.Records.{send_of};
 
 use crate::{Sent, SentIn};
 use station::{Place, Reading};
 
-// Blocks as sets of positions, bit m for position m: the first block there or the only one, and the second.
-#[derive(Clone, Copy, Debug, PartialEq, Eq)]
+// A set of positions, bit m for position m. A reading has the number alone, as C and the definitions do.
+#[derive(Clone, Copy, Debug, Default, PartialEq, Eq)]
+pub struct Positions(pub u16);
+
+impl Positions {
+    #[tactic(auto, using(crate::proofs::Sets::none_beyond, frame::proofs::Causes::decided))]
+    pub fn contains(self, m: usize) -> bool
+        ensures { result ≡ in_set self.0 m }
+    {
+        m < 16 && (self.0 >> m) % 2 == 1
+    }
+}
+
+// Blocks as sets of positions: the first block there or the only one, and the second.
+#[derive(Clone, Copy, Debug, Default, PartialEq, Eq)]
 pub struct Blocks {
-    pub first: u16,
-    pub second: u16,
+    pub first: Positions,
+    pub second: Positions,
 }
 
 // What a bundled reading names, by how many subframes before the reply it was sent: a PDCCH, and whether at most four PDCCHs were
@@ -38,19 +51,17 @@ impl Named {
 }
 
 // What a reading acknowledges, where what it names was sent: the bits of a bundled one for what it names, or the positions of a
-// multiplexed one, bit m for position m.
+// multiplexed one.
 #[derive(Clone, Copy)]
 enum Acks {
     Bits(Named, u16, u16),
-    Positions(u16),
+    Positions(Positions),
 }
 
 impl Acks {
-    // The reading confirms a block of what was sent k before the reply, at position m, a bit's place: it carries the block, which is
-    // acknowledged.
+    // The reading confirms a block of what was sent k before the reply, at position m: it carries the block, which is acknowledged.
     #[tactic(auto, using(crate::proofs::Records::blocks_of_holds, frame::proofs::Causes::decided), unfolding(crate::specs::Coded::confirms_by))]
     fn confirms(self, k: u16, m: usize, x: &Sent, block: u16) -> bool
-        requires { m < 9 }
         ensures { result ≡ confirms_by self k m (send_of x.now) block }
     {
         block < x.blocks
@@ -58,7 +69,7 @@ impl Acks {
                 Acks::Bits(named, b0, b1) => {
                     named.holds(k, x) && x.is_acknowledged(block, b0, b1)
                 }
-                Acks::Positions(positions) => (positions >> m) % 2 == 1,
+                Acks::Positions(positions) => positions.contains(m),
             }
     }
 }
@@ -68,24 +79,23 @@ impl SentIn<'_> {
     fn pdcchs_up_to(self, k: u16) -> usize
         ensures { result ≡ sent_up_to (send_in self.entry) k (times_of (k_in self.entry)) }
     {
-        self.ks()
-            .iter()
-            .zip(self.records())
+        self.subframes()
             .filter(|(at, x)| k <= **at && x.is_pdcch())
             .count()
     }
 
     // What a reading names, if that was sent.
-    #[tactic(auto, using(crate::proofs::Naming::named_outside))]
     fn named(self, place: Place) -> Option<Named>
         ensures { result ≡ named_by (k_in self.entry) (send_in self.entry) place }
     {
         let m = usize::from(place.position());
-        let x = self.records().get(m)?;
-        let k = self.ks()[m];
+        let (k, x) = self.subframes().nth(m)?;
         match place {
-            Place::Pdcch(_, c) if x.has_cce(c) => Some(Named::Pdcch(k, self.pdcchs_up_to(k) <= 4)),
-            Place::Block(_) if x.is_block() => Some(Named::Block(k)),
+            Place::Pdcch(_, c) if x.has_cce(c) => Some(Named::Pdcch(
+                *k,
+                self.pdcchs_up_to(*k) <= 4,
+            )),
+            Place::Block(_) if x.is_block() => Some(Named::Block(*k)),
             _ => None,
         }
     }
@@ -100,39 +110,39 @@ impl SentIn<'_> {
                 self.named(place).map(|named| Acks::Bits(named, b0, b1))
             }
             Reading::Multiplexed(place, positions) => {
-                self.named(place).map(|_| Acks::Positions(positions))
+                self.named(place)
+                    .map(|_| Acks::Positions(Positions(positions)))
             }
         }
     }
 
-    // The positions whose block is confirmed, from the last one down.
-    #[tactic(auto, using(frame::proofs::Windows::window_size, crate::proofs::Confirming::from_none, crate::proofs::Confirming::from_small, crate::proofs::Confirming::from_more, crate::proofs::Confirming::from_all))]
-    fn confirmed_at(self, acks: Acks, block: u16) -> u16
-        ensures { result ≡ confirmed_set (k_in self.entry) (send_in self.entry) acks block }
+    // The blocks that are confirmed, position by position. First and second blocks are found in one pass, for speed: with a pass for each
+    // `feedback_confirmed` takes a tenth to a fifth more time.
+    fn confirmed_by(self, acks: Acks) -> Blocks
+        ensures first { result.first.0 ≡ confirmed_set (k_in self.entry) (send_in self.entry) acks 0 }
+        ensures second { result.second.0 ≡ confirmed_set (k_in self.entry) (send_in self.entry) acks 1 }
     {
-        let ks = self.ks();
-        let records = self.records();
-        let mut set = 0;
-        for m in (0..ks.len()).rev() {
-            set = 2 * set + u16::from(acks.confirms(ks[m], m, &records[m], block));
+        let mut first = 0;
+        let mut second = 0;
+        for (m, (k, x)) in self.subframes().enumerate() {
+            first += u16::from(acks.confirms(*k, m, x, 0)) << m;
+            second += u16::from(acks.confirms(*k, m, x, 1)) << m;
         }
-        set
+        Blocks {
+            first: Positions(first),
+            second: Positions(second),
+        }
     }
 
-    // The blocks that a reading confirms.
+    // The blocks that a reading confirms. It takes no refused one, which its callers pass on with `?`: that such a one confirms nothing is
+    // in the promise of `confirm`. If it took one, `credit` would have to answer a refusal that cannot come.
     #[tactic(auto, using(crate::proofs::Confirming::blocks_confirmed, crate::proofs::Confirming::none_confirmed))]
     pub fn confirmed(self, reading: Reading) -> Blocks
         ensures { confirmed_as (Ok result) ≡ confirmed_by (k_in self.entry) (send_in self.entry) (Ok reading) }
     {
         match self.acks(reading) {
-            Some(acks) => Blocks {
-                first: self.confirmed_at(acks, 0),
-                second: self.confirmed_at(acks, 1),
-            },
-            None => Blocks {
-                first: 0,
-                second: 0,
-            },
+            Some(acks) => self.confirmed_by(acks),
+            None => Blocks::default(),
         }
     }
 }

@@ -5,6 +5,8 @@ mod blocks;
 mod checks;
 
 ghost use Rattle.std.specs.Prelude.{◌≡◌, length};
+ghost use Rattle.std.specs.Iterator.Adapters.{zip_first, zip_second};
+ghost use Rattle.std.specs.Slice.Iter.{iter_rest};
 ghost use Rattle.confirmation.specs.Confirmed.{acknowledged};
 ghost use Rattle.confirmation.specs.Sent.{is_pdcch, is_block, has_cce, as_heard, told_of};
 ghost use Rattle.frame.specs.Refusals.{numbered};
@@ -13,12 +15,13 @@ ghost use Rattle.confirming.specs.Coded.{k_in, records_in, send_in};
 ghost use Rattle.confirming.specs.Records.{send_of};
 ghost use Rattle.confirming.specs.Refusals.{blocks_sent};
 
-pub use blocks::Blocks;
-pub use checks::{before, check_sent};
+pub use blocks::{Blocks, Positions};
 use frame::{Refusal, Settings};
 use heard::{Grant, Heard, Release, ScheduledBlock};
 use resource::{Cce, Resource};
 use station::Reading;
+use std::iter::Zip;
+use std::slice::Iter;
 
 // What the station sent in one subframe of a window. A PDCCH was sent where `signalled` is not 0: a grant if it carries blocks, a
 // release if it carries none. Blocks without a PDCCH are a scheduled block; neither is nothing. `cce` and `dai` are a PDCCH's, and
@@ -62,7 +65,8 @@ impl Sent {
         self.signalled == 0 && self.blocks != 0
     }
 
-    // The bits acknowledge a block: of two bit 0 the first and bit 1 the second, and either a sole one.
+    // The bits acknowledge a block, 0 the first and 1 the second: of two bit 0 the first and bit 1 the second, and either a sole one. A
+    // block is a number and no enum: that a record carries it is a comparison with how many it carries.
     #[tactic(auto, using(crate::proofs::Records::blocks_of_holds, frame::proofs::Causes::decided))]
     pub fn is_acknowledged(&self, block: u16, b0: u16, b1: u16) -> bool
         ensures { result ≡ acknowledged (send_of self.now) block b0 b1 }
@@ -113,20 +117,20 @@ pub struct SentWindow {
     pub at: [Sent; 9],
 }
 
-// What was sent in the window of uplink subframe n.
-#[derive(Clone, Copy, Debug, PartialEq, Eq)]
+// What was sent in the window of uplink subframe n, in a cell with these settings.
+#[derive(Clone, Copy)]
 pub struct SentIn<'a> {
-    pub config: u16,
+    pub settings: Settings,
     pub n: u16,
     pub sent: &'a SentWindow,
 }
 
 impl<'a> SentIn<'a> {
-    // K of the window.
-    pub fn ks(self) -> &'static [u16]
+    // K of the window; for itself, as `frame::Window` says.
+    fn ks(self) -> &'static [u16]
         ensures { result.now ≡ k_in self.entry }
     {
-        frame::window_of(self.config, self.n)
+        frame::window_of(self.settings.config, self.n)
     }
 
     // The records of the window's positions.
@@ -136,6 +140,15 @@ impl<'a> SentIn<'a> {
         ensures size { length result.now ≡ length (k_in self.entry) }
     {
         &self.sent.at[..self.ks().len()]
+    }
+
+    // Each k of the window beside the record of what was sent k before the reply.
+    pub fn subframes(self) -> Zip<Iter<'static, u16>, Iter<'a, Sent>>
+        ensures ks { iter_rest (zip_first result) ≡ k_in self.entry }
+        ensures records { iter_rest (zip_second result) ≡ records_in self.entry }
+        ensures size { length (records_in self.entry) ≡ length (k_in self.entry) }
+    {
+        self.ks().iter().zip(self.records())
     }
 
     // How many scheduled blocks were sent.
@@ -153,25 +166,18 @@ impl<'a> SentIn<'a> {
         let first = self.records().iter().position(|x| x.is_block())?;
         Some(first as u16)
     }
+
+    // The reading of the reply, which came on resource r with the bits b0 and b1.
+    #[tactic(auto, using(crate::proofs::Checking::sent_refused, crate::proofs::Checking::sent_told))]
+    fn read(self, r: Resource, b0: u16, b1: u16) -> Result<Reading, Refusal>
+        ensures { numbered result ≡ read_sent self.entry.settings self.entry.n self.entry.sent.now r.0 b0 b1 }
+    {
+        let told = self.check()?;
+        station::read(self.settings, self.n, told, r, b0, b1)
+    }
 }
 
-// The reading of the reply to a sent window, which came on resource r with the bits b0 and b1.
-#[tactic(auto, using(crate::proofs::Checking::sent_refused, crate::proofs::Checking::sent_told))]
-fn read_sent(
-    s: Settings,
-    n: u16,
-    sent: &SentWindow,
-    r: Resource,
-    b0: u16,
-    b1: u16,
-) -> Result<Reading, Refusal>
-    ensures { numbered result ≡ read_sent s n sent.now r.0 b0 b1 }
-{
-    let told = check_sent(s, n, sent)?;
-    station::read(s, n, told, r, b0, b1)
-}
-
-// The blocks of a sent window that the reply confirms. Sizes are not looked at.
+// The blocks of a sent window that the reply confirms. Sizes are not looked at. Settings, n and what was sent come apart, as from C.
 #[tactic(auto, using(crate::proofs::Answering::reading_refused, crate::proofs::Answering::reading_confirms))]
 pub fn confirm(
     s: Settings,
@@ -183,11 +189,11 @@ pub fn confirm(
 ) -> Result<Blocks, Refusal>
     ensures { confirmed_as result ≡ confirmed_of s n sent.now r.0 b0 b1 }
 {
-    let reading = read_sent(s, n, sent, r, b0, b1)?;
     let window = SentIn {
-        config: s.config,
+        settings: s,
         n,
         sent,
     };
+    let reading = window.read(r, b0, b1)?;
     Ok(window.confirmed(reading))
 }

@@ -1,49 +1,33 @@
 -- What one call answers is what the words of specs/Exactly.antt say: refusals in their order, and the credit.
 -- Assumes nothing.
-use Rattle.std.proofs.Common.{Result, Ok, Err}
+use Rattle.std.proofs.Common.{Result}
 use Prim.Native.Nat.{ℕ, zero, suc, ◌+◌, ◌<◌, ◌≤◌}
 use mathlib.Core.Bool.{Bool, true, false, cond}
 use mathlib.Core.Logic.{◌⊎◌, inl, inr, ◌↔◌, ⊎_elim}
 use mathlib.Core.Path.{◌≡◌, refl, sym, ap, ◌∙◌}
 use native.Mathlib.Omega.{arith}
 use lib.ListN.{length, take}
-use Rattle.std.proofs.Common.{Result, Ok, Err}
+use borrow.Author.Tests.{ne_eqb}
+use Rattle.std.proofs.Common.{Result}
+use Rattle.frame.specs.Refusals.{number_in}
 use Rattle.frame.specs.declared.Settings.{Settings}
 use Rattle.frame.specs.Settings.{or_else}
 use Rattle.frame.specs.Table.{window_of}
 use Rattle.station.specs.declared.Reading.{Reading}
 use Rattle.confirming.specs.declared.SentWindow.{SentWindow}
-use Rattle.confirming.specs.Blocks.{reading_refusal}
 use Rattle.confirming.specs.Exactly.{reply_read}
 use Rattle.confirming.specs.Refusals.{call_refusal}
 use Rattle.confirming.proofs.Answers.{blocks_confirmed}
 use Rattle.account.specs.declared.Account.{Account}
-use Rattle.account.specs.Account.{account_refusal, add_of}
+use Rattle.account.specs.Account.{account_refusal, add_refusal, add_of}
 use Rattle.account.specs.Laws.{InOrder, Grown}
 use Rattle.account.proofs.Equation.{one_or_none}
-use Rattle.account.proofs.Totals.{accounts, within, given}
+use Rattle.account.proofs.Totals.{accounts, within}
 use Rattle.credit.specs.Credit.{Credited}
-use Rattle.credit.specs.Credit.{bad_records, sizes_refusal, prior_refusal, credited_octets, added_as, added_of, refused_or, credit_by, credit_reading, credit_of}
+use Rattle.credit.specs.Credit.{bad_records, sizes_refusal, prior_refusal, credited_octets, added_of, refused_or, credit_by, credit_reading, credit_of}
 use Rattle.credit.specs.Exactly.{SizeOut, CreditAnswers}
 use Rattle.credit.proofs.OutOfRange.{size_says, says_size}
 use Rattle.credit.proofs.Same.{credit_same}
-
--- What is answered where octets are added, or that is refused.
-module _ (a : Account) (octets : ℕ) where
-  refused_sum : (k : ℕ) → (added_of a octets).refusal ≡ suc k → add_of a octets ≡ Err (suc k)
-  refused_sum k = go (add_of a octets)
-    where
-      go : (sum : Result Account ℕ) → (added_as a octets sum).refusal ≡ suc k → sum ≡ Err (suc k)
-      go (Ok b) e = absurd (omega (arith, e))
-      go (Err j) e = ap Err e
-
-  left_sum : ((added_of a octets).refusal ≡ 0 → ⊥) → ((added_of a octets).octets ≡ 0) × ((added_of a octets).account ≡ a)
-  left_sum = go (add_of a octets)
-    where
-      go : (sum : Result Account ℕ) → ((added_as a octets sum).refusal ≡ 0 → ⊥)
-          → ((added_as a octets sum).octets ≡ 0) × ((added_as a octets sum).account ≡ a)
-      go (Ok b) not = absurd (not refl)
-      go (Err k) not = (refl, refl)
 
 module _ (s : Settings) (n : ℕ) (w : SentWindow) (r b0 b1 : ℕ) (a : Account) where
   abbrev M : ℕ
@@ -59,7 +43,7 @@ module _ (s : Settings) (n : ℕ) (w : SentWindow) (r b0 b1 : ℕ) (a : Account)
   unfolding credit_of credit_reading credit_by
   prior_refused k e = rw e
 
-  prior_free : prior_refusal s n w a ≡ 0 → answer ≡ refused_or (reading_refusal read) a (added_of a (credited_octets s.config n w read))
+  prior_free : prior_refusal s n w a ≡ 0 → answer ≡ refused_or (number_in read) a (added_of a (credited_octets s.config n w read))
   unfolding credit_of credit_reading credit_by
   prior_free e = rw e
 
@@ -100,21 +84,21 @@ module _ (s : Settings) (n : ℕ) (w : SentWindow) (r b0 b1 : ℕ) (a : Account)
       go false e = e
 
   -- The reading of a reply is not refused, or by 13 or 14.
-  left : call_refusal s n w ≡ 0 → (reading_refusal read ≡ 0) ⊎ ((reading_refusal read ≡ 13) ⊎ (reading_refusal read ≡ 14))
+  left : call_refusal s n w ≡ 0 → (number_in read ≡ 0) ⊎ ((number_in read ≡ 13) ⊎ (number_in read ≡ 14))
   left none =
       let b = blocks_confirmed s n w r b0 b1 in
       rw (b.reading none) at (b.left none)
 
-  refused_reading : prior_refusal s n w a ≡ 0 → (k : ℕ) → reading_refusal read ≡ suc k → answer.refusal ≡ suc k
+  refused_reading : prior_refusal s n w a ≡ 0 → (k : ℕ) → number_in read ≡ suc k → answer.refusal ≡ suc k
   refused_reading e k is = rw (prior_free e, is)
 
-  added_answer : prior_refusal s n w a ≡ 0 → reading_refusal read ≡ 0 → answer ≡ added_of a (credited_octets s.config n w read)
+  added_answer : prior_refusal s n w a ≡ 0 → number_in read ≡ 0 → answer ≡ added_of a (credited_octets s.config n w read)
   added_answer e is = prior_free e ∙ rw is
 
   not_25 : call_refusal s n w ≡ 0 → prior_refusal s n w a ≡ 0 → account_refusal a ≡ 0 → answer.refusal ≡ 25 → ⊥
   not_25 none e account is =
       ⊎_elim
-      (λ zero. accounts.never25 a (credited_octets s.config n w read) account (refused_sum a (credited_octets s.config n w read) 24 (sym (ap (λ (c : Credited). c.refusal) (added_answer e zero)) ∙ is)))
+      (λ zero. accounts.never25 a (credited_octets s.config n w read) account (sym (ap (λ (c : Credited). c.refusal) (added_answer e zero)) ∙ is))
       (⊎_elim (λ p. omega (arith, refused_reading e 12 p)) (λ p. omega (arith, refused_reading e 13 p)))
       (left none)
 
@@ -129,35 +113,39 @@ module _ (s : Settings) (n : ℕ) (w : SentWindow) (r b0 b1 : ℕ) (a : Account)
   accepted : call_refusal s n w ≡ 0 → (SizeOut M w → ⊥) → InOrder a → prior_refusal s n w a ≡ 0
   accepted none sizes account = free none (in_range sizes) ((accounts.accepted a).1 account)
 
-  reply : call_refusal s n w ≡ 0 → (SizeOut M w → ⊥) → InOrder a → (reading_refusal read ≡ 0 → ⊥) → answer.refusal ≡ reading_refusal read
-  reply none sizes account not = go (reading_refusal read) refl
+  reply : call_refusal s n w ≡ 0 → (SizeOut M w → ⊥) → InOrder a → (number_in read ≡ 0 → ⊥) → answer.refusal ≡ number_in read
+  reply none sizes account not = go (number_in read) refl
     where
-      go : (k : ℕ) → reading_refusal read ≡ k → answer.refusal ≡ k
+      go : (k : ℕ) → number_in read ≡ k → answer.refusal ≡ k
       go zero e = absurd (not e)
       go (suc k) e = refused_reading (accepted none sizes account) k e
 
-  total : call_refusal s n w ≡ 0 → (SizeOut M w → ⊥) → InOrder a → reading_refusal read ≡ 0
+  total : call_refusal s n w ≡ 0 → (SizeOut M w → ⊥) → InOrder a → number_in read ≡ 0
       → let octets : ℕ = credited_octets s.config n w read in
       ((answer.refusal ≡ 26) ↔ (1000000000000 < a.octets + octets))
       × (a.octets + octets ≤ 1000000000000 → (answer.refusal ≡ 0) × (answer.octets ≡ octets) × Grown a octets answer.account)
+  unfolding add_of
   total none sizes account is =
       let octets : ℕ = credited_octets s.config n w read in
-      let over = accounts.over a octets ((accounts.accepted a).1 account) in
+      let order : account_refusal a ≡ 0 = (accounts.accepted a).1 account in
       let added : answer ≡ added_of a octets = added_answer (accepted none sizes account) is in (
-        rw added (λ e. over.0 (refused_sum a octets 25 e), λ lt. rw (over.1 lt)),
+        rw added (accounts.over a octets order),
         λ few.
-            let sum = given a octets (within a octets ((accounts.accepted a).1 account) few) in
-            rw (added, sum) (refl, refl, accounts.grown a octets _ sum),
+            let free : add_refusal a octets ≡ 0 = within a octets order few in
+            rw added (free, rw free, accounts.grown a octets free),
       )
 
   leaves : (answer.refusal ≡ 0 → ⊥) → (answer.octets ≡ 0) × (answer.account ≡ a)
   unfolding credit_of credit_by
-  leaves not = go (reading_refusal (credit_reading s n w r b0 b1 a)) not
+  leaves not = go (number_in (credit_reading s n w r b0 b1 a)) not
     where
+      added : (octets : ℕ) → ((add_of a octets).refusal ≡ 0 → ⊥) → ((added_of a octets).octets ≡ 0) × ((added_of a octets).account ≡ a)
+      added octets not = (rw (ne_eqb (add_of a octets).refusal 0 not), accounts.nothing a octets not)
+
       go : (k : ℕ) → ((refused_or k a (added_of a (credited_octets s.config n w (credit_reading s n w r b0 b1 a)))).refusal ≡ 0 → ⊥)
           → ((refused_or k a (added_of a (credited_octets s.config n w (credit_reading s n w r b0 b1 a)))).octets ≡ 0)
           × ((refused_or k a (added_of a (credited_octets s.config n w (credit_reading s n w r b0 b1 a)))).account ≡ a)
-      go zero not = left_sum a (credited_octets s.config n w (credit_reading s n w r b0 b1 a)) not
+      go zero not = added (credited_octets s.config n w (credit_reading s n w r b0 b1 a)) not
       go (suc k) not = (refl, refl)
 
   pub credit_answers : CreditAnswers s n w r b0 b1 a

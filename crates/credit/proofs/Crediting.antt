@@ -4,11 +4,12 @@ use Rattle.std.proofs.Common.{Result, Ok, Err, Option, IsErrAnd}
 use Prim.Native.Nat.{ℕ, zero, suc}
 use mathlib.Core.List.{List}
 use mathlib.Core.Path.{◌≡◌, refl, sym, ◌∙◌}
+use lib.Dec.{eqb-suc-zero}
 use lib.ListN.{length}
 use Rattle.std.proofs.lemmas.Result.{err_from_is_err_and}
 use Rattle.frame.specs.declared.Settings.{Settings}
 use Rattle.frame.specs.declared.refusal.Refusal.{Refusal}
-use Rattle.frame.specs.Refusals.{number_of, refusal_in, numbered, unless_refused}
+use Rattle.frame.specs.Refusals.{number_of, refusal_in, numbered, unless_refused, number_in}
 use Rattle.frame.specs.Settings.{or_else}
 use Rattle.frame.specs.Table.{window_of}
 use Rattle.frame.proofs.Refused.{from_one}
@@ -17,12 +18,12 @@ use Rattle.station.specs.declared.Reading.TheVariants.{Bundled, Multiplexed}
 use Rattle.station.specs.Readings.{read_of}
 use Rattle.confirmation.specs.Sent.{told_of}
 use Rattle.confirming.specs.declared.SentWindow.{SentWindow}
-use Rattle.confirming.specs.Blocks.{reading_refusal, checked_of}
+use Rattle.confirming.specs.Blocks.{checked_of}
 use Rattle.confirming.specs.Records.{sent_in}
 use Rattle.confirming.specs.Refusals.{call_refusal}
 use Rattle.account.specs.declared.Account.{Account}
 use Rattle.account.specs.Account.{account_refusal, add_of}
-use Rattle.credit.specs.Credit.{Credited, credited_as, sizes_refusal, prior_refusal, credited_octets, added_as, credit_by, credit_reading, credit_of}
+use Rattle.credit.specs.Credit.{Credited, credited_as, sizes_refusal, prior_refusal, credited_octets, added_of, credit_by, credit_reading, credit_of}
 
 -- What is answered beside a refusal.
 abbrev refused : Refusal → Account → Credited
@@ -43,7 +44,7 @@ unmet : {T : Type 0} (k : ℕ) (x y : T) → unless_refused k x ≡ Ok y → (k 
 unmet zero x y e = (refl, cc)
 unmet (suc k) x y e = absurd (cc)
 
-accepted : (read : Reading) → reading_refusal (Ok read) ≡ 0
+accepted : (read : Reading) → number_in (Ok read) ≡ 0
 accepted (Bundled place b0 b1) = refl
 accepted (Multiplexed place positions) = refl
 
@@ -93,13 +94,18 @@ module _ (s : Settings) (n : ℕ) (w : SentWindow) (r b0 b1 : ℕ) (a : Account)
 
         -- The octets, added to the account.
         module _ (read : Reading) (is : reading ≡ Ok read) (octets : ℕ) (summed : octets ≡ credited_octets s.config n w (Ok read))
-            (sum : Result Account Refusal) (added : numbered sum ≡ add_of a octets) where
-          added_answer : answer ≡ added_as a octets (numbered sum)
+            {U : Type 0} (sum : Result U Refusal) (added : refusal_in sum ≡ (add_of a octets).refusal) where
+          added_answer : answer ≡ added_of a octets
           unfolding credit_by
-          added_answer = read_answer ∙ rw (is, accepted read, ← summed, added)
+          added_answer = read_answer ∙ rw (is, accepted read, ← summed)
 
-          pub sum_refused : (e : Refusal) → sum ≡ Err e → answer ≡ refused e a
-          sum_refused e over = added_answer ∙ rw over
+          pub sum_refused : (e : Refusal) → sum ≡ Err e → (b : Account) → b ≡ (add_of a octets).account → answer ≡ refused e b
+          sum_refused e over b after =
+              let p = from_one e in
+              let is : (add_of a octets).refusal ≡ number_of e = sym added ∙ rw over in
+              added_answer ∙ rw (is, p.1, eqb-suc-zero p.0, after)
 
-          pub sum_credited : (b : Account) → sum ≡ Ok b → credited_as (Ok octets) b ≡ answer
-          sum_credited b given = sym (added_answer ∙ rw given)
+          pub sum_credited : (x : U) → sum ≡ Ok x → (b : Account) → b ≡ (add_of a octets).account → credited_as (Ok octets) b ≡ answer
+          sum_credited x given b after =
+              let is : (add_of a octets).refusal ≡ 0 = sym added ∙ rw given in
+              sym (added_answer ∙ rw (is, after))

@@ -10,7 +10,7 @@ use native.Mathlib.Decide.{ℕ_discrete}
 use native.Mathlib.Omega.{arith}
 use lib.ListN.{get_or}
 use borrow.Author.Tests.{eqb-true, eq-eqb, ne_eqb}
-use Rattle.frame.proofs.Bools.{both}
+use Rattle.std.proofs.lemmas.Bool.{and_parts}
 use Rattle.station.specs.declared.Place.{Place}
 use Rattle.station.specs.declared.Place.TheVariants as place
 use Rattle.station.specs.declared.Reading.{Reading}
@@ -48,7 +48,7 @@ own_acknowledges x block b0 b1 carries most bit = (
 module _ (ks : List ℕ) (sent : ℕ → Send) where
   pub split : (read : Result Reading ℕ) (m block : ℕ) → credited ks sent read m block ≡ true → (confirmed ks sent read m block ≡ true) × (own_bit read block ≡ true)
   unfolding credited
-  split read m block e = both (confirmed ks sent read m block) (own_bit read block) e
+  split read m block e = and_parts (confirmed ks sent read m block) (own_bit read block) e
 
   join : (read : Result Reading ℕ) (m block : ℕ) → confirmed ks sent read m block ≡ true → own_bit read block ≡ true → credited ks sent read m block ≡ true
   unfolding credited

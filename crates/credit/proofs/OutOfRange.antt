@@ -1,27 +1,23 @@
 -- A size out of range, in words (specs/Exactly.antt): some block that a record of the window carries has one, both ways.
 -- Assumes nothing.
 use Prim.Native.Nat.{ℕ, zero, suc, ◌<◌, ◌≤◌}
-use mathlib.Core.Bool.{Bool, true, false, ◌&&◌, ◌||◌, false≢true, or-true}
+use mathlib.Core.Bool.{true, false, ◌&&◌, false≢true, or-true}
 use mathlib.Core.List.{List, [], ◌∷◌}
 use mathlib.Core.Logic.{◌⊎◌, inl, inr, ⊎_elim}
-use mathlib.Core.Path.{◌≡◌, refl}
+use mathlib.Core.Path.{◌≡◌}
 use native.Mathlib.Decide.{dec_lt}
 use native.Mathlib.Nat.{le_of_suc-le-suc}
 use native.Mathlib.Omega.{arith}
 use lib.Dec.{ltb}
 use lib.ListN.{length, get_or, take, length-take, get_or-eq_default}
 use borrow.Author.Tests.{ltb-true, lt-ltb}
+use Rattle.std.proofs.lemmas.Bool.{and_parts, or_cases}
 use Rattle.frame.specs.Settings.{outside}
-use Rattle.frame.proofs.Bools.{both}
 use Rattle.confirming.specs.declared.Sent.{Sent}
 use Rattle.confirming.specs.declared.SentWindow.{SentWindow}
 use Rattle.confirming.specs.Records.{nothing_sent, record_at}
 use Rattle.credit.specs.Credit.{itbs_of, nprb_of, bad_size, bad_record, bad_records}
 use Rattle.credit.specs.Exactly.{SizeOut}
-
-either : (p q : Bool) → (p || q) ≡ true → (p ≡ true) ⊎ (q ≡ true)
-either true q e = inl refl
-either false q e = inr e
 
 -- A size out of range, in words.
 abbrev Out : ℕ → ℕ → Type 0
@@ -31,8 +27,8 @@ out_says : (itbs nprb : ℕ) → bad_size itbs nprb ≡ true → Out itbs nprb
 unfolding bad_size
 out_says itbs nprb e =
     ⊎_elim (λ p. inl (ltb-true 26 itbs p))
-    (λ q. ⊎_elim (λ p. inr (inl (ltb-true nprb 1 p))) (λ p. inr (inr (ltb-true 110 nprb p))) (either (ltb nprb 1) (ltb 110 nprb) q))
-    (either (ltb 26 itbs) (outside 1 110 nprb) e)
+    (λ q. ⊎_elim (λ p. inr (inl (ltb-true nprb 1 p))) (λ p. inr (inr (ltb-true 110 nprb p))) (or_cases (ltb nprb 1) (ltb 110 nprb) q))
+    (or_cases (ltb 26 itbs) (outside 1 110 nprb) e)
 
 says_out : (itbs nprb : ℕ) → Out itbs nprb → bad_size itbs nprb ≡ true
 unfolding bad_size
@@ -48,9 +44,9 @@ record_says : (x : Sent) → bad_record x ≡ true → BlockOut x
 unfolding bad_record
 record_says x e =
     ⊎_elim
-    (λ p. let h = both (ltb 0 x.blocks) (bad_size x.itbs0 x.nprb0) p in (0, omega arith, ltb-true 0 x.blocks h.0, out_says x.itbs0 x.nprb0 h.1))
-    (λ p. let h = both (ltb 1 x.blocks) (bad_size x.itbs1 x.nprb1) p in (1, omega arith, ltb-true 1 x.blocks h.0, out_says x.itbs1 x.nprb1 h.1))
-    (either (ltb 0 x.blocks && bad_size x.itbs0 x.nprb0) (ltb 1 x.blocks && bad_size x.itbs1 x.nprb1) e)
+    (λ p. let h = and_parts (ltb 0 x.blocks) (bad_size x.itbs0 x.nprb0) p in (0, omega arith, ltb-true 0 x.blocks h.0, out_says x.itbs0 x.nprb0 h.1))
+    (λ p. let h = and_parts (ltb 1 x.blocks) (bad_size x.itbs1 x.nprb1) p in (1, omega arith, ltb-true 1 x.blocks h.0, out_says x.itbs1 x.nprb1 h.1))
+    (or_cases (ltb 0 x.blocks && bad_size x.itbs0 x.nprb0) (ltb 1 x.blocks && bad_size x.itbs1 x.nprb1) e)
 
 says_record : (x : Sent) → BlockOut x → bad_record x ≡ true
 unfolding bad_record
@@ -64,7 +60,7 @@ some_says : (l : List Sent) → bad_records l ≡ true → (m : ℕ) × (m < len
 unfolding bad_records
 some_says [] e = absurd (false≢true e)
 some_says (x ∷ l) e =
-    ⊎_elim (λ p. (0, omega arith, p)) (λ p. let h = some_says l p in (suc h.0, omega (arith, h.1), h.2)) (either (bad_record x) (bad_records l) e)
+    ⊎_elim (λ p. (0, omega arith, p)) (λ p. let h = some_says l p in (suc h.0, omega (arith, h.1), h.2)) (or_cases (bad_record x) (bad_records l) e)
 
 says_some : (l : List Sent) (m : ℕ) → m < length l → bad_record (get_or l m nothing_sent) ≡ true → bad_records l ≡ true
 unfolding bad_records

@@ -6,6 +6,7 @@ use mathlib.Core.Bool.{Bool, true, false, cond}
 use mathlib.Core.List.{List}
 use mathlib.Core.Path.{◌≡◌, refl, sym, ap, ◌∙◌}
 use lib.ListN.{length, get_or, take}
+use Rattle.std.specs.Cmp.{both_ways}
 use Rattle.frame.specs.declared.Settings.{Settings}
 use Rattle.frame.specs.Distance.{before}
 use Rattle.frame.specs.Table.{window_of}
@@ -26,12 +27,6 @@ use Rattle.credit.specs.Exactly.{SizeOut, SaySame}
 use Rattle.credit.proofs.Exactly.{split}
 use Rattle.credit.proofs.OutOfRange.{size_says, says_size}
 use Rattle.credit.proofs.Sums.{sum_same}
-
--- Tests that pass together are the same.
-alike : (p q : Bool) → (p ≡ true → q ≡ true) → (q ≡ true → p ≡ true) → p ≡ q
-alike true q to from = sym (to refl)
-alike false true to from = from refl
-alike false false to from = refl
 
 -- Records that say the same carry as many blocks.
 same_blocks : (x y : Sent) → send_of x ≡ send_of y → x.blocks ≡ y.blocks
@@ -68,7 +63,7 @@ module _ (s : Settings) (n : ℕ) where
     unfolding sizes_refusal
     sizes_same =
         ap (λ (b : Bool). cond {A = ℕ} b 25 0)
-        (alike (bad_records (take M w.at)) (bad_records (take M v.at))
+        (both_ways (bad_records (take M w.at)) (bad_records (take M v.at))
         (λ e. says_size M v (out_too w v says (size_says M w e)))
         (λ e. says_size M w (out_too v w (turned w v says) (size_says M v e))))
 

@@ -6,18 +6,17 @@ use Rattle.frame.specs.declared.Settings.{Settings}
 use Rattle.frame.specs.declared.refusal.Refusal.{Refusal}
 use Rattle.frame.specs.Distance.{before}
 use Rattle.frame.specs.Layout.{is_special}
-use Rattle.frame.specs.Refusals.{number_of}
+use Rattle.frame.specs.Refusals.{number_of, number_in, refused_or as reading_or}
 use Rattle.frame.specs.Settings.{or_else, outside}
 use Rattle.frame.specs.Table.{window_of}
 use Rattle.station.specs.declared.Reading.{Reading}
 use Rattle.station.specs.declared.Reading.TheVariants.{Bundled, Multiplexed}
-use Rattle.station.specs.Readings.{read_as, read_of}
+use Rattle.station.specs.Readings.{read_of}
 use Rattle.confirmation.specs.declared.Send.{Send}
 use Rattle.confirmation.specs.Confirmed.{confirmed}
 use Rattle.confirmation.specs.Sent.{told_of}
 use Rattle.confirming.specs.declared.Sent.{Sent}
 use Rattle.confirming.specs.declared.SentWindow.{SentWindow}
-use Rattle.confirming.specs.Blocks.{reading_refusal}
 use Rattle.confirming.specs.Records.{record_at, sent_in}
 use Rattle.confirming.specs.Refusals.{call_refusal}
 use Rattle.sizes.specs.Table.{block_size, table_column}
@@ -99,14 +98,10 @@ octets_where config n w test = sum_below (length (window_of config n)) (octets_a
 unfoldable pub credited_octets : ℕ → ℕ → SentWindow → Result Reading ℕ → ℕ
 credited_octets config n w read = octets_where config n w (credited (window_of config n) (sent_in (window_of config n) w) read)
 
--- The answer of a call that adds octets to the account `a`, from what the account's call gives: a refusal comes "with nothing credited".
-abbrev pub added_as : Account → ℕ → Result Account ℕ → Credited
-added_as a octets (Ok b) = record { refusal = 0; octets = octets; account = b }
-added_as a octets (Err k) = record { refusal = k; octets = 0; account = a }
-
 -- Octets added to the account; 26, "with nothing credited", where the total would pass the most.
 abbrev pub added_of : Account → ℕ → Credited
-added_of a octets = added_as a octets (add_of a octets)
+added_of a octets =
+    record { refusal = (add_of a octets).refusal; octets = cond (eqb (add_of a octets).refusal 0) octets 0; account = (add_of a octets).account }
 
 -- A refusal leaves the account.
 abbrev pub refused_or : ℕ → Account → Credited → Credited
@@ -115,13 +110,13 @@ refused_or (suc k) a r = record { refusal = suc k; octets = 0; account = a }
 
 -- The credit of a reading: refused where the reading is, else its octets are added to the account.
 unfoldable pub credit_by : ℕ → ℕ → SentWindow → Result Reading ℕ → Account → Credited
-credit_by config n w read a = refused_or (reading_refusal read) a (added_of a (credited_octets config n w read))
+credit_by config n w read a = refused_or (number_in read) a (added_of a (credited_octets config n w read))
 
 -- The reading of the reply: what is refused before it, then 13 and 14.
 unfoldable pub credit_reading : Settings → ℕ → SentWindow → ℕ → ℕ → ℕ → Account → Result Reading ℕ
 credit_reading s n w r b0 b1 a =
     let ks : List ℕ = window_of s.config n in
-    read_as (prior_refusal s n w a) (read_of s n (told_of ks (sent_in ks w)) r b0 b1)
+    reading_or (prior_refusal s n w a) (read_of s n (told_of ks (sent_in ks w)) r b0 b1)
 
 -- The credit for the reply that came on resource r with the bits b0 and b1 to what was sent in the window of n.
 unfoldable pub credit_of : Settings → ℕ → SentWindow → ℕ → ℕ → ℕ → Account → Credited

@@ -4,6 +4,7 @@
 use Rattle.std.specs.Prelude.{Result, Ok, ℕ, ◌+◌, ◌<◌, ◌≤◌, true, List, ◌⊎◌, ◌↔◌, ◌≡◌, length, get_or}
 use Rattle.frame.specs.declared.Settings.{Settings}
 use Rattle.frame.specs.Order.{times_of}
+use Rattle.frame.specs.Refusals.{number_in}
 use Rattle.frame.specs.Table.{window_of}
 use Rattle.resource.specs.Calls.{size_of}
 use Rattle.station.specs.declared.Place.{Place}
@@ -15,7 +16,6 @@ use Rattle.confirmation.specs.Confirmed.{sent_up_to, confirmed}
 use Rattle.confirmation.specs.Exactly.{WasSent, MultiplexedConfirmed}
 use Rattle.confirmation.specs.Sent.{is_pdcch, blocks_of}
 use Rattle.confirming.specs.declared.SentWindow.{SentWindow}
-use Rattle.confirming.specs.Blocks.{reading_refusal}
 use Rattle.confirming.specs.Exactly.{send_at, reply_read}
 use Rattle.confirming.specs.Records.{record_at}
 use Rattle.confirming.specs.Refusals.{call_refusal}
@@ -84,11 +84,11 @@ pub record CreditAnswers (s : Settings) (n : ℕ) (w : SentWindow) (r b0 b1 : �
       → ((credit_of s n w r b0 b1 a).refusal ≡ 25) ↔ (SizeOut (length (window_of s.config n)) w ⊎ (InOrder a → ⊥))
   -- then the reading's own, 13 and 14
   pub reply : call_refusal s n w ≡ 0 → (SizeOut (length (window_of s.config n)) w → ⊥) → InOrder a
-      → (reading_refusal (reply_read s n w r b0 b1) ≡ 0 → ⊥)
-      → (credit_of s n w r b0 b1 a).refusal ≡ reading_refusal (reply_read s n w r b0 b1)
+      → (number_in (reply_read s n w r b0 b1) ≡ 0 → ⊥)
+      → (credit_of s n w r b0 b1 a).refusal ≡ number_in (reply_read s n w r b0 b1)
   -- "26, after 25, a total that would pass 1,000,000,000,000 octets", where the reading answers; else the credit
   pub total : call_refusal s n w ≡ 0 → (SizeOut (length (window_of s.config n)) w → ⊥) → InOrder a
-      → reading_refusal (reply_read s n w r b0 b1) ≡ 0
+      → number_in (reply_read s n w r b0 b1) ≡ 0
       → let octets : ℕ = credited_octets s.config n w (reply_read s n w r b0 b1) in
       (((credit_of s n w r b0 b1 a).refusal ≡ 26) ↔ (1000000000000 < a.octets + octets))
       × (a.octets + octets ≤ 1000000000000

@@ -17,7 +17,9 @@ use octets::{octets_of, own_blocks};
 use resource::Resource;
 use station::Reading;
 
-// A block's size index or width is out of range.
+// A block's size index or width is out of range. `sizes` makes the test again before a lookup, so that its own answer is whole; asked of
+// `block_size`, which is 0 there, it would cost each block a lookup more. They are two numbers here and in `octets_if`, as in the C
+// struct, which has four fields for its two blocks: a struct of the two would be built by each call and taken apart here.
 #[tactic(auto, using(frame::proofs::Causes::decided), unfolding(crate::specs::Credit::bad_size))]
 fn is_bad_size(itbs: u16, nprb: u16) -> bool
     ensures { result ≡ bad_size itbs nprb }
@@ -54,16 +56,17 @@ fn check_sizes(window: SentIn) -> Result<(), Refusal>
 
 // 25 for the sizes, then for the price and the account.
 #[tactic(auto, using(frame::proofs::Refused::first_refused, frame::proofs::Refused::first_accepted))]
-fn check_charge(window: SentIn, a: Account) -> Result<(), Refusal>
-    ensures { refusal_in result ≡ or_else (sizes_refusal (length (k_in window.entry)) window.entry.sent.now) (account_refusal a) }
+fn check_charge(window: SentIn, account: &Account) -> Result<(), Refusal>
+    ensures { refusal_in result ≡ or_else (sizes_refusal (length (k_in window.entry)) window.entry.sent.now) (account_refusal account.now) }
 {
     check_sizes(window)?;
-    account::check_account(a)
+    account.check()
 }
 
 // The octets that a reading credits.
+#[tactic(auto, using(crate::proofs::Sums::credited_is))]
 fn credited_octets(window: SentIn, reading: Reading) -> u32
-    ensures { result ≡ credited_octets window.entry.config window.entry.n window.entry.sent.now (Ok reading) }
+    ensures { result ≡ credited_octets window.entry.settings.config window.entry.n window.entry.sent.now (Ok reading) }
 {
     octets_of(window, own_blocks(reading, window.confirmed(reading)))
 }
@@ -81,15 +84,15 @@ pub fn credit(
 ) -> Result<u32, Refusal>
     ensures { credited_as result account.new ≡ credit_of s n sent.now r.0 b0 b1 account.old }
 {
-    let told = confirming::check_sent(s, n, sent)?;
     let window = SentIn {
-        config: s.config,
+        settings: s,
         n,
         sent,
     };
-    check_charge(window, *account)?;
+    let told = window.check()?;
+    check_charge(window, account)?;
     let reading = station::read(s, n, told, r, b0, b1)?;
     let octets = credited_octets(window, reading);
-    *account = account::add(*account, octets)?;
+    account.add(octets)?;
     Ok(octets)
 }

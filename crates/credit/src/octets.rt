@@ -1,10 +1,10 @@
 // The octets of the blocks that a reading credits.
-ghost use Rattle.std.specs.Prelude.{◌≡◌, cond, ◌+◌, ◌/◌, ◌<◌, ◌≤◌};
+ghost use Rattle.std.specs.Prelude.{◌≡◌, cond, ◌+◌, ◌/◌, ◌≤◌};
 ghost use Rattle.sizes.specs.Table.{block_size, table_column};
-ghost use Rattle.credit.specs.Coded.{own_blocks, in_set, block_in};
+ghost use Rattle.credit.specs.Coded.{own_blocks, block_in};
 ghost use Rattle.credit.specs.Credit.{octets_of, octets_where};
 
-use confirming::{Blocks, Sent, SentIn};
+use confirming::{Blocks, Positions, Sent, SentIn};
 use station::Reading;
 
 // Of the confirmed blocks those whose own bit is ACK.
@@ -14,19 +14,19 @@ pub fn own_blocks(reading: Reading, confirmed: Blocks) -> Blocks
 {
     match reading {
         Reading::Bundled(_, b0, b1) => Blocks {
-            first: if b0 == 1 { confirmed.first } else { 0 },
-            second: if b1 == 1 { confirmed.second } else { 0 },
+            first: if b0 == 1 {
+                confirmed.first
+            } else {
+                Positions::default()
+            },
+            second: if b1 == 1 {
+                confirmed.second
+            } else {
+                Positions::default()
+            },
         },
         Reading::Multiplexed(_, _) => confirmed,
     }
-}
-
-// Position m is in the set.
-fn in_set(set: u16, m: usize) -> bool
-    requires { m < 9 }
-    ensures { result ≡ in_set set m }
-{
-    (set >> m) % 2 == 1
 }
 
 // The octets of a block with this size index and width, in a special subframe or not; none where it is not credited.
@@ -45,26 +45,23 @@ fn octets_if(credited: bool, itbs: u16, nprb: u16, special: bool) -> u32
 // The octets of those blocks of a record that are among these, at position m, sent in subframe d.
 #[tactic(auto, unfolding(crate::specs::Credit::octets_of))]
 fn octets_at(blocks: Blocks, m: usize, config: u16, d: u16, x: &Sent) -> u32
-    requires { m < 9 }
     ensures value { result ≡ cond (block_in blocks m 0) (octets_of config d x.now 0) 0 + cond (block_in blocks m 1) (octets_of config d x.now 1) 0 }
     ensures most { result ≤ 18844 }
 {
     let special = frame::is_special(config, d);
-    let first = octets_if(in_set(blocks.first, m), x.itbs0, x.nprb0, special);
-    let second = octets_if(in_set(blocks.second, m), x.itbs1, x.nprb1, special);
+    let first = octets_if(blocks.first.contains(m), x.itbs0, x.nprb0, special);
+    let second = octets_if(blocks.second.contains(m), x.itbs1, x.nprb1, special);
     first + second
 }
 
 // The octets of these blocks of the window.
-#[tactic(auto, using(frame::proofs::Windows::window_size, crate::proofs::Sums::sum_none, crate::proofs::Sums::sum_more, crate::proofs::Sums::sum_all))]
 pub fn octets_of(window: SentIn, blocks: Blocks) -> u32
-    ensures { result ≡ octets_where window.entry.config window.entry.n window.entry.sent.now (block_in blocks) }
+    ensures { result ≡ octets_where window.entry.settings.config window.entry.n window.entry.sent.now (block_in blocks) }
 {
-    let ks = window.ks();
-    let mut octets = 0;
-    for (m, x) in window.records().iter().enumerate() {
-        let d = confirming::before(window.n, ks[m]);
-        octets += octets_at(blocks, m, window.config, d, x);
-    }
-    octets
+    let SentIn { settings, n, .. } = window;
+    window
+        .subframes()
+        .enumerate()
+        .map(|(m, (k, x))| octets_at(blocks, m, settings.config, frame::before(n, *k), x))
+        .sum()
 }

@@ -1,7 +1,7 @@
 -- The causes that explain_of tells in a run are true: specs/Diagnosis.antt, proved. A handset of a run remembers what the run heard, so U,
 -- V and the scheduled block of its window are the run's (agreement/proofs/Counted.antt), and the DAI rule says how many were lost.
 -- Assumes nothing.
-use Rattle.std.proofs.Common.{Option, Some, None, Result, Ok, Err}
+use Rattle.std.proofs.Common.{Some, Ok}
 use Prim.Native.Nat.{ℕ, ◌+◌, ◌-◌, ◌%◌, ◌≤◌}
 use mathlib.Core.Bool.{Bool, true, false, cond, ◌||◌, false≢true}
 use mathlib.Core.List.{List, [], ◌∷◌}
@@ -17,9 +17,8 @@ use Rattle.heard.specs.declared.Heard.{Heard}
 use Rattle.heard.specs.declared.Heard.TheVariants.{Nothing, Granted, Scheduled, Released}
 use Rattle.heard.specs.Heard.{is_block, view_of}
 use Rattle.fold.specs.declared.Seen.{Seen}
-use Rattle.fold.specs.Fold.{unseen, step_of}
+use Rattle.fold.specs.Fold.{expected, unseen, step_of}
 use Rattle.reply.specs.declared.Answer.TheVariants.{Silent}
-use Rattle.reply.specs.Replies.{expected}
 use Rattle.handset.specs.declared.Handset.{Handset}
 use Rattle.handset.specs.Feed.{feed_of}
 use Rattle.silence.specs.declared.Cause.TheVariants.{NothingHeard, MissShown}

@@ -24,10 +24,9 @@ use Rattle.heard.specs.declared.Heard.{Heard}
 use Rattle.heard.specs.declared.Heard.TheVariants.{Nothing}
 use Rattle.heard.specs.Memory.{view_ago}
 use Rattle.fold.specs.declared.Seen.{Seen}
-use Rattle.fold.specs.Fold.{unseen, seen_from}
+use Rattle.fold.specs.Fold.{expected, unseen, seen_from}
 use Rattle.reply.specs.declared.Answer.{Answer}
 use Rattle.reply.specs.declared.Answer.TheVariants as answer
-use Rattle.reply.specs.Replies.{expected}
 use Rattle.handset.specs.Feed.{Fed}
 use Rattle.handset.specs.declared.Handset.{Handset}
 use Rattle.handset.specs.Feed.{answer_of, feed_of}

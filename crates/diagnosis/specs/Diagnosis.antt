@@ -3,7 +3,7 @@
 -- The statement is about an engine and an explaining call, so that wrong ones can be refuted (proofs/WrongCauses.antt); proofs/True.antt
 -- proves it of the engine of this repository and of explain_of, the definition that the promise of silence::explain is an equation with.
 -- Assumes nothing.
-use Rattle.std.specs.Prelude.{Option, Some, None, Result, Ok, Err, ℕ, ◌+◌, ◌-◌, ◌%◌, ◌≤◌, false, cond, List, [], ◌∷◌, ◌↔◌, ◌≡◌, length}
+use Rattle.std.specs.Prelude.{Some, None, Ok, ℕ, ◌+◌, ◌-◌, ◌%◌, ◌≤◌, false, cond, List, [], ◌∷◌, ◌↔◌, ◌≡◌, length}
 use Rattle.frame.specs.declared.Settings.{Settings}
 use Rattle.frame.specs.Settings.{settings_refusal}
 use Rattle.confirmation.specs.declared.Send.{Send}

@@ -1,7 +1,7 @@
 -- Runs with changes of mode (document 02, U8) that meet the hypotheses of demand 3, with every answer, the refusal of every change and
 -- the station's reading of every reply, each in its window's own mode. The cells are those of Worked.antt.
 -- Assumes nothing.
-use Rattle.std.proofs.Common.{Result, Ok, Err}
+use Rattle.std.proofs.Common.{Ok, Err}
 use Prim.Native.Nat.{ℕ}
 use mathlib.Core.Bool.{true, false}
 use mathlib.Core.List.{List, [], ◌∷◌}

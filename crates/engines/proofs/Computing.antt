@@ -14,8 +14,8 @@ use Rattle.symbols.specs.Delivered.{in_some_row, delivered_at, delivered_set, de
 use Rattle.symbols.specs.Selection.{symbol_of, table_of, table2, table3, table4}
 use Rattle.heard.specs.Heard.{uplink_refusal, short_refusal, data_refusal, carried_refusal, pdcch_refusal, unset_refusal, heard_refusal, block_before, second_refusal, cause_of, view_of}
 use Rattle.heard.specs.Memory.{slot_of, heard_in, view_in, view_ago, block_ago}
-use Rattle.fold.specs.Fold.{step_of, seen_from, seen_of}
-use Rattle.reply.specs.Replies.{reply_on, expected, miss_shown, second_bit, lone_answer, bundled_answer, state_of, carrier_of, window_state, symbol_answer, multiplexed_answer, window_answer}
+use Rattle.fold.specs.Fold.{expected, step_of, seen_from, seen_of}
+use Rattle.reply.specs.Replies.{reply_on, miss_shown, second_bit, lone_answer, bundled_answer, state_of, carrier_of, window_state, symbol_answer, multiplexed_answer, window_answer}
 use Rattle.handset.specs.Change.{change_refusal, change_of}
 use Rattle.handset.specs.Feed.{answer_of, window_settings, next_answer, pushed, feed_refusal, feed_of}
 use Rattle.handset.specs.Make.{fresh, make_of}

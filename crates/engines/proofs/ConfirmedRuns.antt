@@ -1,17 +1,16 @@
 -- Runs in which blocks are confirmed: what a station confirms is something. Which blocks, in the worked runs of Worked.antt. And one
 -- in which a decoded block is not, and no reader could know better (02, U7).
 -- Assumes nothing.
+use Rattle.std.proofs.lemmas.Bool.{false_from_ne_true}
 use Rattle.reply.specs.Kinds.{kind_multiplexed}
-use Rattle.std.proofs.Common.{Result, Ok, Err}
+use Rattle.std.proofs.Common.{None, Err}
 use Prim.Native.Nat.{ℕ, zero, suc}
 use mathlib.Core.Bool.{Bool, false, cond}
 use mathlib.Core.List.{List, [], ◌∷◌}
 use mathlib.Core.Path.{◌≡◌, refl}
 use native.Mathlib.Omega.{arith}
 use lib.ListN.{length, get_or}
-use Rattle.frame.proofs.Bools.{never_true}
 use Rattle.station.specs.declared.Place.TheVariants as place
-use Rattle.station.specs.declared.Reading.TheVariants as reading
 use Rattle.limit.specs.Rules.{Positions, Rule, Sound}
 use Rattle.confirmation.specs.Confirmed.{confirmed}
 use Rattle.heard.specs.declared.Heard.TheVariants.{Nothing}
@@ -99,7 +98,7 @@ abbrev sent_by_three : Positions
 sent_by_three = sent_there shared_by_three.set (sending shared_by_three.sends) 12
 
 three_replied : Replied feedback_engine shared_by_three.set (sending shared_by_three.sends) shared_by_three.items 12
-    (record { kind = kind_multiplexed; resource = record { 0 = 26 }; b0 = 1; b1 = 0; second = record { 0 = 0 } })
+    (record { kind = kind_multiplexed; resource = record { 0 = 26 }; b0 = 1; b1 = 0; second = None })
 unfolding handsets
 three_replied =
     record {
@@ -115,7 +114,7 @@ three_replied =
 pub two_unnamed : (rule : Rule) → Sound rule 4 sent_by_three 1 1 0 → rule 4 sent_by_three 1 1 0 2 ≡ false
 unfolding schedules
 two_unnamed rule sound =
-    never_true _
+    false_from_ne_true _
     (λ e.
     let bit : ◌≡◌ {A = ℕ} 0 1 =
     scheduler_may_conclude.names_no_more _ _ _ 12 _ three_replied (place.Pdcch 1 (record { 0 = 5 })) 3

@@ -2,7 +2,7 @@
 -- every change and the station's reading of every reply: the reading is of the first port's resource. The cells are those of
 -- Worked.antt.
 -- Assumes nothing.
-use Rattle.std.proofs.Common.{Result, Ok, Err}
+use Rattle.std.proofs.Common.{Ok}
 use mathlib.Core.Bool.{true, false}
 use mathlib.Core.List.{[], ◌∷◌}
 use mathlib.Core.Path.{refl}

@@ -3,7 +3,8 @@
 -- scheduled resource, where one is set, is 7.
 -- The prefix is normal and the special configuration 7, which allows data, but in the cells that are named short.
 -- Assumes nothing.
-use Rattle.std.proofs.Common.{Result, Ok, Err}
+use Rattle.std.proofs.Common.{Option, Some, None, Result, Ok, Err}
+use Rattle.resource.specs.declared.Resource.{Resource}
 use Prim.Native.Nat.{ℕ, suc, zero, ◌+◌, ◌<◌}
 use mathlib.Core.Bool.{Bool, true, false}
 use mathlib.Core.List.{List, [], ◌∷◌}
@@ -116,15 +117,15 @@ kind_of kind = cond (eqb kind 1) kind_bundled kind_multiplexed
 
 -- a reply, and its reading: kind, resource and bits; as a PDCCH its position and first CCE, as a scheduled block its position, with
 -- the bits or the set of delivered positions
-abbrev reply_with : ℕ → ℕ → ℕ → ℕ → ℕ → Result Answer ℕ
-reply_with kind r b0 b1 second = Ok (answer.Sent (record { kind = kind_of kind; resource = record { 0 = r }; b0 = b0; b1 = b1; second = record { 0 = second } }))
+abbrev reply_with : ℕ → ℕ → ℕ → ℕ → Option Resource → Result Answer ℕ
+reply_with kind r b0 b1 second = Ok (answer.Sent (record { kind = kind_of kind; resource = record { 0 = r }; b0 = b0; b1 = b1; second = second }))
 
 abbrev pub reply : ℕ → ℕ → ℕ → ℕ → Result Answer ℕ
-reply kind r b0 b1 = reply_with kind r b0 b1 0
+reply kind r b0 b1 = reply_with kind r b0 b1 None
 
 -- a bundled reply on two antenna ports: both resources
 abbrev pub reply_on_both : ℕ → ℕ → ℕ → ℕ → Result Answer ℕ
-reply_on_both r second b0 b1 = reply_with 1 r b0 b1 second
+reply_on_both r second b0 b1 = reply_with 1 r b0 b1 (Some (record { 0 = second }))
 
 abbrev pub bundled_read : ℕ → ℕ → ℕ → ℕ → Result Reading ℕ
 bundled_read m c b0 b1 = Ok (reading.Bundled (place.Pdcch m (record { 0 = c })) b0 b1)

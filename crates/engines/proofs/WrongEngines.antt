@@ -110,7 +110,7 @@
 -- feed whose cause is met is refused by `leaves`, and any other is answered by `taken`, `no_window`, `bundled` or `multiplexed`. It
 -- stays, since it is 01's sentence.
 -- Assumes nothing.
-use Rattle.std.proofs.Common.{Option, Some, None, Result, Ok, Err}
+use Rattle.std.proofs.Common.{Option, Result, Ok, Err}
 use Rattle.resource.specs.declared.Cce.{Cce}
 use Prim.Native.Nat.{ℕ, ◌+◌, ◌%◌, ◌<◌}
 use mathlib.Core.Bool.{Bool, true, false, cond, false≢true}

@@ -1,6 +1,6 @@
 -- Handsets with one fault each, and the field of the statement that shuts each of them out; WrongEngines.antt lists them.
 -- Assumes nothing.
-use Rattle.std.proofs.Common.{Option, Some, None, Result, Ok, Err}
+use Rattle.std.proofs.Common.{Option, Result, Ok, Err}
 use Rattle.resource.specs.declared.Cce.{Cce}
 use Rattle.resource.specs.declared.Resource.{Resource}
 use Prim.Native.Nat.{ℕ, zero, suc, ◌+◌, ◌-◌, ◌%◌, ◌<◌}

@@ -2,7 +2,7 @@
 // bits wide. An answer is a struct of numbers (`numbers`): the refusal, 0 for none, and the values, which are 0 where they say nothing.
 #![tactic(auto)]
 
-ghost use Rattle.std.specs.Prelude.{◌≡◌, ◌≤◌, length};
+ghost use Rattle.std.specs.Prelude.{◌≡◌, length};
 ghost use Rattle.account.specs.Account.{open_of};
 ghost use Rattle.confirming.specs.Blocks.{confirmed_of};
 ghost use Rattle.credit.specs.Credit.{credit_of};
@@ -12,7 +12,7 @@ ghost use Rattle.resource.specs.Ports.{ports_of};
 ghost use Rattle.station.specs.Readings.{read_of};
 ghost use Rattle.claims.specs.Bits.{bit_checked_of, bit_scratch_of};
 ghost use Rattle.claims.specs.Claims.{checked_of, scratch_of};
-ghost use Rattle.numbers.specs.Answers.{padded, window_answer, answered_answer, resource_answer, inverse_answer, told_position, reading_answer, confirmed_answer, credit_answer, claims_answer, made_answer, changed_answer, fed_answer, silence_answer, grant_of, block_of, release_of, replay_answer, record_answer, write_answer};
+ghost use Rattle.numbers.specs.Answers.{window_answer, answered_answer, resource_answer, inverse_answer, told_position, reading_answer, confirmed_answer, opened_answer, credit_answer, claims_answer, made_answer, changed_answer, fed_answer, silence_answer, grant_of, block_of, release_of, replay_answer, record_answer, write_answer};
 ghost use Rattle.handset.specs.Change.{change_of};
 ghost use Rattle.handset.specs.Feed.{feed_of};
 ghost use Rattle.handset.specs.Make.{make_of};
@@ -22,15 +22,15 @@ ghost use Rattle.replaying.specs.Replay.{replay_of, output_of};
 ghost use Rattle.reader.specs.Record.{record_of};
 ghost use Rattle.spelling.specs.Writing.{write_of, spelled_into};
 
-use account::{Account, Opened};
+use account::Account;
 use confirming::SentWindow;
-use frame::Settings;
+use frame::{Settings, Window};
 use handset::Handset;
 use heard::{Grant, Heard, Release, ScheduledBlock};
 use numbers::{
     AnsweredAnswer, ChangedAnswer, ClaimsAnswer, ConfirmedAnswer, CreditAnswer, FedAnswer,
-    InverseAnswer, MadeAnswer, ReadingAnswer, RecordAnswer, ReplayAnswer, ResourceAnswer,
-    SilenceAnswer, WindowAnswer, WriteAnswer,
+    InverseAnswer, MadeAnswer, OpenedAnswer, ReadingAnswer, RecordAnswer, ReplayAnswer,
+    ResourceAnswer, SilenceAnswer, WindowAnswer, WriteAnswer,
 };
 use resource::{Cce, Resource};
 
@@ -42,42 +42,19 @@ pub extern "C" fn feedback_layout_5() -> u16
     5
 }
 
-// The numbers of a list, and zeros behind them.
-fn padded(list: &[u16]) -> [u16; 9]
-    requires { length list.now ≤ 9 }
-    ensures { result ≡ padded 9 list.now }
-{
-    let mut entries = [0; 9];
-    entries[..list.len()].copy_from_slice(list);
-    entries
-}
-
-#[tactic(auto, using(frame::proofs::Windows::window_size, frame::proofs::Times::order_size, frame::proofs::Refused::from_one), unfolding(numbers::specs::Answers::window_answer))]
+#[tactic(auto, using(numbers::proofs::Windows::window_told))]
 #[unsafe(no_mangle)]
 pub extern "C" fn feedback_window(settings: Settings, n: u16) -> WindowAnswer
     ensures { result ≡ window_answer settings n }
 {
-    match frame::check_window(settings, n) {
-        Ok(()) => WindowAnswer {
-            refusal: 0,
-            size: frame::size_of(settings.config, n),
-            k: padded(frame::window_of(settings.config, n)),
-            order: padded(frame::order_of(settings.config, n)),
-        },
-        Err(refusal) => WindowAnswer {
-            refusal: refusal.into(),
-            size: 0,
-            k: [0; 9],
-            order: [0; 9],
-        },
-    }
+    Window::new(settings, n).into()
 }
 
 #[unsafe(no_mangle)]
 pub extern "C" fn feedback_answered(settings: Settings, subframe: u16) -> AnsweredAnswer
     ensures { result ≡ answered_answer (answered_of settings subframe) }
 {
-    frame::answered_of(settings, subframe).into()
+    settings.answered(subframe).into()
 }
 
 #[unsafe(no_mangle)]
@@ -130,10 +107,11 @@ pub extern "C" fn feedback_confirmed(
 }
 
 #[unsafe(no_mangle)]
-pub extern "C" fn feedback_open_account(price: u32) -> Opened
-    ensures { result ≡ open_of price }
+pub extern "C" fn feedback_open_account(price: u32) -> OpenedAnswer
+    ensures { result ≡ opened_answer (open_of price) }
 {
-    account::open(price)
+    let account = Account::new(price);
+    (account.check(), account).into()
 }
 
 #[unsafe(no_mangle)]
@@ -194,7 +172,7 @@ pub extern "C" fn feedback_change_mode(mut handset: Handset, mode: u16) -> Chang
     (changed, handset).into()
 }
 
-// The feed of a handset that is lent by value, as all feeds of a C caller are.
+// The feed of a handset that comes by value, as all feeds of a C caller do.
 fn fed(mut handset: Handset, x: Heard) -> FedAnswer
     ensures { result ≡ fed_answer (feed_of handset x) }
 {

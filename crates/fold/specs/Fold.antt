@@ -1,6 +1,6 @@
 -- U, V and what else a bundled reply needs of a window: document 01, "The bundled reply"; document 02, U1.
 -- Assumes nothing.
-use Rattle.std.specs.Prelude.{ℕ, ◌+◌, true, false, ◌&&◌, List, [], ◌∷◌, get_or}
+use Rattle.std.specs.Prelude.{ℕ, ◌+◌, ◌-◌, ◌%◌, true, false, ◌&&◌, List, [], ◌∷◌, get_or}
 use Rattle.frame.specs.Order.{order_of}
 use Rattle.fold.specs.declared.Seen.{Seen}
 use Rattle.heard.specs.declared.View.{View}
@@ -43,3 +43,7 @@ seen_from view ks (m ∷ ms) seen = seen_from view ks ms (step_of seen m (view (
 -- The window with the printed K, in time order.
 unfoldable pub seen_of : (ℕ → View) → List ℕ → Seen
 seen_of view ks = seen_from view ks (order_of ks) unseen
+
+-- The DAI that the last of U PDCCHs has where none was missed: ((U − 1) mod 4) + 1.
+unfoldable pub expected : ℕ → ℕ
+expected u = (u - 1) % 4 + 1

@@ -8,11 +8,11 @@ use native.Mathlib.Omega.{arith}
 use lib.Dec.{ltb, eqb}
 use lib.ListN.{length}
 use borrow.Author.Tests.{ltb-true, ltb-false, eq-eqb, ne_eqb, lt-ltb, le-ltb, eqb-true, eqb-false}
+use Rattle.std.proofs.lemmas.Bool.{and_parts, false_from_ne_true, or_parts}
 use Rattle.frame.specs.declared.Settings.{Settings}
 use Rattle.frame.specs.Settings.{or_else, outside, cell_refusal, mode_refusal, blocks_refusal, has_scheduled, scheduled_refusal, has_second_port, ports_mode_refusal, ports_refusal, later_refusal, settings_refusal, new_mode_refusal, in_mode, no_window_refusal, window_refusal}
 use Rattle.frame.specs.Special.{last_special, special_refusal}
 use Rattle.frame.specs.Table.{window_of}
-use Rattle.frame.proofs.Bools.{both, neither_test, never_true}
 
 pub record Accepted (s : Settings) : Type 0 where
   pub config : s.config ≤ 6
@@ -48,7 +48,7 @@ held false k next e = absurd (omega arith)
 -- A number that is not outside lies between.
 pub between : (low high x : ℕ) → outside low high x ≡ false → (low ≤ x) × (x ≤ high)
 between low high x e =
-    let p = neither_test (ltb x low) (ltb high x) e in
+    let p = or_parts (ltb x low) (ltb high x) e in
     (ltb-false x low p.0, ltb-false high x p.1)
 
 pub not_outside : (low high x : ℕ) → low ≤ x → x ≤ high → outside low high x ≡ false
@@ -91,9 +91,9 @@ accepted s none =
     let e = neither (scheduled_refusal s) (or_else (special_refusal s) (ports_refusal s)) d.1 in
     let f = neither (special_refusal s) (ports_refusal s) e.1 in
     let scheduled = unmet (has_scheduled s && not (ltb s.scheduled s.n1)) 16 0 e.0 in
-    let special = neither_test (ltb 1 s.prefix) _ (unmet (ltb 1 s.prefix || ltb (last_special s.prefix) s.special) 18 0 f.0).0 in
+    let special = or_parts (ltb 1 s.prefix) _ (unmet (ltb 1 s.prefix || ltb (last_special s.prefix) s.special) 18 0 f.0).0 in
     let ports = unmet (outside 1 2 s.ports || (has_second_port s && has_scheduled s)) 23 (ports_mode_refusal s) f.1 in
-    let count = neither_test (outside 1 2 s.ports) (has_second_port s && has_scheduled s) ports.0 in
+    let count = or_parts (outside 1 2 s.ports) (has_second_port s && has_scheduled s) ports.0 in
     let bundled = unmet (eqb s.mode 1 && has_second_port s) 23 0 ports.1 in
     record {
       config = ltb-false 6 s.config config.0;
@@ -124,7 +124,7 @@ two_unset true set h = h refl
 two_unset false set h = refl
 
 two_bundle : (m : ℕ) (two : Bool) → (two ≡ true → m ≡ 1 → ⊥) → (eqb m 1 && two) ≡ false
-two_bundle m two h = never_true (eqb m 1 && two) (λ e. let f = both (eqb m 1) two e in h f.1 (eqb-true m 1 f.0))
+two_bundle m two h = false_from_ne_true (eqb m 1 && two) (λ e. let f = and_parts (eqb m 1) two e in h f.1 (eqb-true m 1 f.0))
 
 pub accepting : (s : Settings) → Accepted s → settings_refusal s ≡ 0
 unfolding settings_refusal cell_refusal mode_refusal blocks_refusal later_refusal scheduled_refusal special_refusal ports_mode_refusal ports_refusal

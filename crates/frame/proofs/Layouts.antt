@@ -46,7 +46,7 @@ unfolding is_special
 no_special c n h = rw (outside_letters c n h)
 
 -- A letter is a digit, and the digit that is read is the letter's.
-letter_small : (l : Letter) → letter_digit l < 16
+pub letter_small : (l : Letter) → letter_digit l < 16
 letter_small D = omega arith
 letter_small S = omega arith
 letter_small U = omega arith

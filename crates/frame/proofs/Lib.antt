@@ -9,6 +9,7 @@ pub mod Distances
 pub mod Earliest
 pub mod Hex
 pub mod Layouts
+pub mod Lookups
 pub mod Lists
 pub mod OnePort
 pub mod Orders

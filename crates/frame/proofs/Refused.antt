@@ -40,7 +40,7 @@ in_order =
     ∷ refusal.Output
     ∷ refusal.Ports
     ∷ refusal.SizeOrAccount
-    ∷ refusal.Octets
+    ∷ refusal.Total
     ∷ []
 
 -- the refusal with a number
@@ -76,7 +76,7 @@ found_again refusal.TraceParts = refl
 found_again refusal.Output = refl
 found_again refusal.Ports = refl
 found_again refusal.SizeOrAccount = refl
-found_again refusal.Octets = refl
+found_again refusal.Total = refl
 
 pub from_one : (r : Refusal) → (k : ℕ) × (number_of r ≡ suc k)
 from_one refusal.Configuration = (0, refl)
@@ -104,7 +104,7 @@ from_one refusal.TraceParts = (21, refl)
 from_one refusal.Output = (22, refl)
 from_one refusal.Ports = (23, refl)
 from_one refusal.SizeOrAccount = (24, refl)
-from_one refusal.Octets = (25, refl)
+from_one refusal.Total = (25, refl)
 
 pub numbers_apart : NumbersApart
 numbers_apart =
@@ -131,10 +131,6 @@ pub chain_refused : {T X : Type 0} (r : Result T Refusal) (e : Refusal) (k next 
     → unless_refused (or_else k next) x ≡ Err (number_of e)
 chain_refused r e k next x p q = let one = from_one e in cc
 
-pub chain_accepted : {T X : Type 0} (r : Result T Refusal) (y : T) (k next : ℕ) (x : X) → r ≡ Ok y → refusal_in r ≡ k
-    → unless_refused (or_else k next) x ≡ unless_refused next x
-chain_accepted r y k next x p q = cc
-
 -- The same before another result.
 pub result_refused : {T X : Type 0} (r : Result T Refusal) (e : Refusal) (k : ℕ) (x : Result X ℕ) → r ≡ Err e → refusal_in r ≡ k
     → refused_or k x ≡ Err (number_of e)
@@ -143,21 +139,9 @@ result_refused r e k x p q = let one = from_one e in cc
 pub result_accepted : {T X : Type 0} (r : Result T Refusal) (y : T) (k : ℕ) (x : Result X ℕ) → r ≡ Ok y → refusal_in r ≡ k → refused_or k x ≡ x
 result_accepted r y k x p q = cc
 
-pub results_refused : {T X : Type 0} (r : Result T Refusal) (e : Refusal) (k next : ℕ) (x : Result X ℕ) → r ≡ Err e → refusal_in r ≡ k
-    → refused_or (or_else k next) x ≡ Err (number_of e)
-results_refused r e k next x p q = let one = from_one e in cc
-
-pub results_accepted : {T X : Type 0} (r : Result T Refusal) (y : T) (k next : ℕ) (x : Result X ℕ) → r ≡ Ok y → refusal_in r ≡ k
-    → refused_or (or_else k next) x ≡ refused_or next x
-results_accepted r y k next x p q = cc
-
 -- What the exit of a `?` returns has the refusal of its result.
 pub passed_on : {X : Type 0} (r : Result X Refusal) (e : Refusal) (x : Result X ℕ) → IsErrAnd r (λ y. y ≡ e) → x ≡ Err (number_of e) → numbered r ≡ x
 passed_on r e x is same = let p = err_from_is_err_and r is in rw (p.1, p.2) (sym same)
-
--- A result that is accepted has no refusal.
-pub accepted_zero : {T : Type 0} (r : Result T Refusal) (y : T) (k : ℕ) → r ≡ Ok y → refusal_in r ≡ k → k ≡ 0
-accepted_zero r y k p q = cc
 
 -- Whether a result is accepted, by its number.
 pub accepted_test : {T : Type 0} (r : Result T Refusal) (k : ℕ) → refusal_in r ≡ k → is_ok r ≡ eqb k 0

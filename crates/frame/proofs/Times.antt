@@ -4,12 +4,13 @@ use Prim.Native.Nat.{ℕ, zero, suc, ◌<◌, ◌≤◌, suc-le-suc}
 use mathlib.Core.Bool.{Bool, true, false, cond, false≢true, or-true}
 use mathlib.Core.List.{List, ◌∷◌}
 use mathlib.Core.Logic.{⊎_elim}
-use mathlib.Core.Path.{◌≡◌, refl, sym, ◌∙◌}
+use mathlib.Core.Path.{◌≡◌, refl, ◌∙◌}
 use native.Mathlib.Nat.{eq-or-lt_of_le, le_of_suc-le-suc, le_refl, le_step, not-suc-le-zero}
 use native.Mathlib.Omega.{arith}
 use lib.Dec.{T, eqb, ltb, lit<, eqb→eq}
 use lib.ListN.{length, get_or, length-map}
 use borrow.Author.Tests.{eqb-true, eq-eqb}
+use Rattle.std.specs.Cmp.{both_ways}
 use Rattle.frame.specs.Order.{member, falling, times_of, InTimeOrder, position_of, order_of}
 use Rattle.frame.specs.Table.{table, window_of}
 use Rattle.frame.proofs.Windows.{every_row, every_position, window_passes, position_passes, window_k, position_window}
@@ -75,15 +76,10 @@ falling_to (suc n) ks k low high e =
     (eq-or-lt_of_le high)
 
 -- Two tests are equal if each passes where the other does.
-same_test : (a b : Bool) → (a ≡ true → b ≡ true) → (b ≡ true → a ≡ true) → a ≡ b
-same_test true b to from = sym (to refl)
-same_test false true to from = from refl
-same_test false false to from = refl
-
 -- Time order and the window have the same k.
 times_same : (c n k : ℕ) → member k (times_of (window_of c n)) ≡ member k (window_of c n)
 unfolding times_of
-times_same c n k = same_test _ _ (falling_from 13 (window_of c n) k) into
+times_same c n k = both_ways _ _ (falling_from 13 (window_of c n) k) into
   where
     into : member k (window_of c n) ≡ true → member k (falling 13 (window_of c n)) ≡ true
     into e =
@@ -110,15 +106,6 @@ in_time_order c n =
 pub order_size : (c n : ℕ) → length (order_of (window_of c n)) ≡ length (window_of c n)
 unfolding order_of
 order_size c n = length-map (times_of (window_of c n)) _ ∙ times_size c n
-
-times_tested : T (every_position (λ c n ks j. eqb (get_or ks (get_or (order_of ks) j 0) 0) (get_or (times_of ks) j 0)) table)
-unfolding table times_of order_of
-times_tested = tt
-
--- The position that `order_of` lists at j is that of the k that `times_of` lists at j.
-pub order_times : (c n j : ℕ) → j < length (window_of c n)
-    → get_or (window_of c n) (get_or (order_of (window_of c n)) j 0) 0 ≡ get_or (times_of (window_of c n)) j 0
-order_times c n j h = eqb→eq _ _ (position_passes _ times_tested c n j h)
 
 below_tested : T (every_position (λ c n ks j. ltb (get_or (order_of ks) j 0) (length ks)) table)
 unfolding table times_of order_of

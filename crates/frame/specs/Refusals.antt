@@ -1,4 +1,4 @@
--- Refusals by their numbers: document 01, "Causes and their numbers", and the numbers that document 02 adds. In specs/ a refusal is its
+-- Refusals by their numbers: document 01, "Causes and their numbers", and those that document 02 adds, up to 26. In specs/ a refusal is its
 -- number; here is which number each of the code's refusals has, and what a result of the code is in these terms.
 -- Assumes nothing.
 use Rattle.std.specs.Prelude.{ℕ, zero, suc, ◌≡◌, Result, Ok, Err}
@@ -31,7 +31,7 @@ number_of refusal.TraceParts = 22
 number_of refusal.Output = 23
 number_of refusal.Ports = 24
 number_of refusal.SizeOrAccount = 25
-number_of refusal.Octets = 26
+number_of refusal.Total = 26
 
 -- what the code's conversion to a number gives
 abbrev pub IsNumber : Refusal → ℕ → Type 0
@@ -41,6 +41,11 @@ IsNumber r n = n ≡ number_of r
 abbrev pub refusal_in : {T : Type 0} → Result T Refusal → ℕ
 refusal_in (Ok x) = 0
 refusal_in (Err r) = number_of r
+
+-- The refusal of a result in the papers' numbers; 0 where it has a value.
+abbrev pub number_in : {T : Type 0} → Result T ℕ → ℕ
+number_in (Ok x) = 0
+number_in (Err k) = k
 
 -- A result of the code with its refusal as a number.
 abbrev pub numbered : {T : Type 0} → Result T Refusal → Result T ℕ

@@ -1,36 +1,44 @@
 // The answer for one downlink subframe: Table 10.1-1 read the other way round.
 ghost use Rattle.std.specs.Prelude.{◌≡◌};
-ghost use Rattle.frame.specs.Distance.{answered_refusal, answered_of, shares};
+ghost use Rattle.frame.specs.Distance.{answered_refusal, answered_of, before, shares};
 ghost use Rattle.frame.specs.Refusals.{refusal_in, numbered};
 
-use crate::refusals::check_settings;
 use crate::table::{distance_of, is_downlink, position_of};
 use crate::{Answered, Refusal, Settings};
 
-// The first of refusals 1 to 6, 17, 19 and 24 that the settings meet, then 7 for a subframe d that is not downlink.
-#[tactic(auto, using(crate::proofs::Refused::first_refused, crate::proofs::Refused::first_accepted), unfolding(crate::specs::Distance::answered_refusal, crate::specs::Distance::no_downlink_refusal))]
-fn check_downlink(s: Settings, d: u16) -> Result<(), Refusal>
-    ensures { refusal_in result ≡ answered_refusal s d }
+// The subframe k before n, by its number in the frame.
+pub fn before(n: u16, k: u16) -> u16
+    ensures { result ≡ before n k }
 {
-    check_settings(s)?;
-    if !is_downlink(s.config, d) {
-        return Err(Refusal::Subframe);
-    }
-    Ok(())
+    (n % 10 + 9 * (k % 10)) % 10
 }
 
-// The uplink subframe that answers for subframe d, how far it is from d, and d's position in its window.
-#[tactic(auto, using(crate::proofs::Answers::answer_refused, crate::proofs::Answers::answer_told, crate::proofs::Answers::answer_small))]
-pub fn answered_of(s: Settings, d: u16) -> Result<Answered, Refusal>
-    ensures { numbered result ≡ answered_of s d }
-{
-    check_downlink(s, d)?;
-    let k = distance_of(s.config, d);
-    Ok(Answered {
-        n: (d + k) % 10,
-        k,
-        position: position_of(s.config, d),
-    })
+impl Settings {
+    // The first of refusals 1 to 6, 17, 19 and 24 that the settings meet, then 7 for a subframe d that is not downlink.
+    #[tactic(auto, using(crate::proofs::Refused::first_refused, crate::proofs::Refused::first_accepted), unfolding(crate::specs::Distance::answered_refusal, crate::specs::Distance::no_downlink_refusal))]
+    fn check_downlink(self, d: u16) -> Result<(), Refusal>
+        ensures { refusal_in result ≡ answered_refusal self d }
+    {
+        self.check()?;
+        if !is_downlink(self.config, d) {
+            return Err(Refusal::Subframe);
+        }
+        Ok(())
+    }
+
+    // The uplink subframe that answers for subframe d, how far it is from d, and d's position in its window.
+    #[tactic(auto, using(crate::proofs::Answers::answer_refused, crate::proofs::Answers::answer_told, crate::proofs::Answers::answer_small))]
+    pub fn answered(self, d: u16) -> Result<Answered, Refusal>
+        ensures { numbered result ≡ answered_of self d }
+    {
+        self.check_downlink(d)?;
+        let k = distance_of(self.config, d);
+        Ok(Answered {
+            n: (d + k) % 10,
+            k,
+            position: position_of(self.config, d),
+        })
+    }
 }
 
 // The subframe a before n is answered in the same uplink subframe as n.
@@ -40,6 +48,5 @@ pub fn shares_window(config: u16, n: u16, a: u16) -> bool
     if 13 < a {
         return false;
     }
-    let earlier = (n % 10 + 9 * a) % 10;
-    distance_of(config, n) + a == distance_of(config, earlier)
+    distance_of(config, n) + a == distance_of(config, before(n, a))
 }

@@ -10,7 +10,7 @@ fn low(letter: u8) -> u64
     (letter % 16) as u64
 }
 
-// The letters of a half-frame (TS 36.211), which has five subframes, as digits.
+// The letters of a half-frame (TS 36.211), which has five subframes, as digits; spelled out, as the definition has them.
 fn half_frame_digits(a: u8, b: u8, c: u8, d: u8, e: u8) -> u64
     ensures { result ≡ half_frame_digits (a % 16) (b % 16) (c % 16) (d % 16) (e % 16) }
 {

@@ -7,23 +7,21 @@ mod refusal;
 mod refusals;
 mod special;
 mod table;
+mod window;
 
-pub use answering::{answered_of, shares_window};
+pub use answering::{before, shares_window};
 pub use refusal::Refusal;
-pub use refusals::{
-    check_new_mode, check_settings, check_window, has_scheduled, has_second_port, in_mode,
-    is_bundled,
-};
-pub use special::{is_too_short, position_too_short};
 pub use table::{earliest_k_of, is_downlink, is_special, order_of, size_of, window_of};
+pub use window::Window;
 
 // The settings of a cell (document 01, "Settings"), as raw numbers: a call refuses what 01 does not allow. `config` is the
 // uplink-downlink configuration, `nrb` is N_RB, `n1` is N1 (36.213's N_PUCCH^(1)), `mode` is 0 for bundling and 1 for multiplexing,
 // `blocks` is the most transport blocks that a grant or a scheduled block carries. `scheduled` is the resource configured for
 // scheduled blocks (document 02, U1), 65535 where none is set. `prefix` is 0 for the normal cyclic prefix and 1 for the extended one,
 // `special` is the special subframe configuration (U2). `ports` is the number of antenna ports on which the handset sends (U9).
+// A mode is no enum and the scheduled resource no Option, since a C caller fills them with any numbers.
 #[repr(C)]
-#[derive(Clone, Copy)]
+#[derive(Clone, Copy, Default)]
 pub struct Settings {
     pub config: u16,
     pub nrb: u16,

@@ -40,7 +40,7 @@ pub enum Refusal {
     Ports = 24,
     // Accounts: a size, a price or the account itself; and its limit.
     SizeOrAccount = 25,
-    Octets = 26,
+    Total = 26,
 }
 
 // The number that a C caller gets.

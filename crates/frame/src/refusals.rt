@@ -1,160 +1,148 @@
-// Settings and their refusals (document 01, "Settings"; refusals 1 to 7; document 02, U1, 17, U2, 19, U9, 24), the settings in another
+// Settings and their refusals (document 01, "Settings"; refusals 1 to 6; document 02, U1, 17, U2, 19, U9, 24), the settings in another
 // mode (U8), and which reply a window takes.
 ghost use Rattle.std.specs.Prelude.{◌≡◌};
 ghost use Rattle.frame.specs.Refusals.{refusal_in};
-ghost use Rattle.frame.specs.Settings.{cell_refusal, mode_refusal, blocks_refusal, has_scheduled, scheduled_refusal, has_second_port, ports_mode_refusal, ports_refusal, later_refusal, settings_refusal, new_mode_refusal, in_mode, window_refusal, bundles};
+ghost use Rattle.frame.specs.Settings.{cell_refusal, mode_refusal, blocks_refusal, has_scheduled, scheduled_refusal, has_second_port, ports_mode_refusal, ports_refusal, later_refusal, settings_refusal, new_mode_refusal, in_mode, bundles};
 
-use crate::special::check_special;
-use crate::table::size_of;
 use crate::{Refusal, Settings};
 
-// The cell: 1 to 3.
-#[tactic(auto, unfolding(crate::specs::Settings::cell_refusal))]
-fn check_cell(s: Settings) -> Result<(), Refusal>
-    ensures { refusal_in result ≡ cell_refusal s }
-{
-    if 6 < s.config {
-        return Err(Refusal::Configuration);
+impl Settings {
+    // The cell: 1 to 3.
+    #[tactic(auto, unfolding(crate::specs::Settings::cell_refusal))]
+    fn check_cell(self) -> Result<(), Refusal>
+        ensures { refusal_in result ≡ cell_refusal self }
+    {
+        if 6 < self.config {
+            return Err(Refusal::Configuration);
+        }
+        if !(6..=110).contains(&self.nrb) {
+            return Err(Refusal::Bandwidth);
+        }
+        if 2047 < self.n1 {
+            return Err(Refusal::N1);
+        }
+        Ok(())
     }
-    if !(6..=110).contains(&s.nrb) {
-        return Err(Refusal::Bandwidth);
+
+    // The mode: 4 and 5.
+    #[tactic(auto, unfolding(crate::specs::Settings::mode_refusal))]
+    fn check_mode(self) -> Result<(), Refusal>
+        ensures { refusal_in result ≡ mode_refusal self }
+    {
+        if 1 < self.mode {
+            return Err(Refusal::Mode);
+        }
+        if self.mode == 1 && self.config == 5 {
+            return Err(Refusal::Multiplexing);
+        }
+        Ok(())
     }
-    if 2047 < s.n1 {
-        return Err(Refusal::N1);
+
+    // The blocks: 6.
+    #[tactic(auto, unfolding(crate::specs::Settings::blocks_refusal))]
+    fn check_blocks(self) -> Result<(), Refusal>
+        ensures { refusal_in result ≡ blocks_refusal self }
+    {
+        if !(1..=2).contains(&self.blocks) {
+            return Err(Refusal::Blocks);
+        }
+        Ok(())
     }
-    Ok(())
-}
 
-// The mode: 4 and 5.
-#[tactic(auto, unfolding(crate::specs::Settings::mode_refusal))]
-fn check_mode(s: Settings) -> Result<(), Refusal>
-    ensures { refusal_in result ≡ mode_refusal s }
-{
-    if 1 < s.mode {
-        return Err(Refusal::Mode);
+    // A scheduled resource is set.
+    #[tactic(auto, unfolding(crate::specs::Settings::has_scheduled))]
+    pub fn has_scheduled(self) -> bool
+        ensures { result ≡ has_scheduled self }
+    {
+        self.scheduled != 65535
     }
-    if s.mode == 1 && s.config == 5 {
-        return Err(Refusal::Multiplexing);
+
+    // The scheduled resource: 17.
+    #[tactic(auto, unfolding(crate::specs::Settings::scheduled_refusal))]
+    fn check_scheduled(self) -> Result<(), Refusal>
+        ensures { refusal_in result ≡ scheduled_refusal self }
+    {
+        if self.has_scheduled() && self.n1 <= self.scheduled {
+            return Err(Refusal::ScheduledResource);
+        }
+        Ok(())
     }
-    Ok(())
-}
 
-// The blocks: 6.
-#[tactic(auto, unfolding(crate::specs::Settings::blocks_refusal))]
-fn check_blocks(s: Settings) -> Result<(), Refusal>
-    ensures { refusal_in result ≡ blocks_refusal s }
-{
-    if !(1..=2).contains(&s.blocks) {
-        return Err(Refusal::Blocks);
+    // There are two antenna ports.
+    #[tactic(auto, unfolding(crate::specs::Settings::has_second_port))]
+    pub fn has_second_port(self) -> bool
+        ensures { result ≡ has_second_port self }
+    {
+        self.ports == 2
     }
-    Ok(())
-}
 
-// A scheduled resource is set.
-#[tactic(auto, unfolding(crate::specs::Settings::has_scheduled))]
-pub fn has_scheduled(s: Settings) -> bool
-    ensures { result ≡ has_scheduled s }
-{
-    s.scheduled != 65535
-}
-
-// The scheduled resource: 17.
-#[tactic(auto, unfolding(crate::specs::Settings::scheduled_refusal))]
-fn check_scheduled(s: Settings) -> Result<(), Refusal>
-    ensures { refusal_in result ≡ scheduled_refusal s }
-{
-    if has_scheduled(s) && s.n1 <= s.scheduled {
-        return Err(Refusal::ScheduledResource);
+    // Two ports with mode 1: 24.
+    #[tactic(auto, unfolding(crate::specs::Settings::ports_mode_refusal))]
+    fn check_ports_mode(self) -> Result<(), Refusal>
+        ensures { refusal_in result ≡ ports_mode_refusal self }
+    {
+        if self.mode == 1 && self.has_second_port() {
+            return Err(Refusal::Ports);
+        }
+        Ok(())
     }
-    Ok(())
-}
 
-// There are two antenna ports.
-#[tactic(auto, unfolding(crate::specs::Settings::has_second_port))]
-pub fn has_second_port(s: Settings) -> bool
-    ensures { result ≡ has_second_port s }
-{
-    s.ports == 2
-}
-
-// Two ports with mode 1: 24.
-#[tactic(auto, unfolding(crate::specs::Settings::ports_mode_refusal))]
-fn check_ports_mode(s: Settings) -> Result<(), Refusal>
-    ensures { refusal_in result ≡ ports_mode_refusal s }
-{
-    if s.mode == 1 && has_second_port(s) {
-        return Err(Refusal::Ports);
+    // The ports: 24, also where there are two of them with mode 1 or with a scheduled resource.
+    #[tactic(auto, unfolding(crate::specs::Settings::ports_refusal))]
+    fn check_ports(self) -> Result<(), Refusal>
+        ensures { refusal_in result ≡ ports_refusal self }
+    {
+        if !(1..=2).contains(&self.ports) {
+            return Err(Refusal::Ports);
+        }
+        if self.has_second_port() && self.has_scheduled() {
+            return Err(Refusal::Ports);
+        }
+        self.check_ports_mode()
     }
-    Ok(())
-}
 
-// The ports: 24, also where there are two of them with mode 1 or with a scheduled resource.
-#[tactic(auto, unfolding(crate::specs::Settings::ports_refusal))]
-fn check_ports(s: Settings) -> Result<(), Refusal>
-    ensures { refusal_in result ≡ ports_refusal s }
-{
-    if !(1..=2).contains(&s.ports) {
-        return Err(Refusal::Ports);
+    // What later papers add to the settings: 17, then 19, then 24.
+    #[tactic(auto, using(crate::proofs::Refused::first_refused, crate::proofs::Refused::first_accepted), unfolding(crate::specs::Settings::later_refusal))]
+    fn check_later(self) -> Result<(), Refusal>
+        ensures { refusal_in result ≡ later_refusal self }
+    {
+        self.check_scheduled()?;
+        self.check_special()?;
+        self.check_ports()
     }
-    if has_second_port(s) && has_scheduled(s) {
-        return Err(Refusal::Ports);
+
+    // The first refusal that the settings meet, 1 to 6 and then those of later papers.
+    #[tactic(auto, using(crate::proofs::Refused::first_refused, crate::proofs::Refused::first_accepted), unfolding(crate::specs::Settings::settings_refusal))]
+    pub fn check(self) -> Result<(), Refusal>
+        ensures { refusal_in result ≡ settings_refusal self }
+    {
+        self.check_cell()?;
+        self.check_mode()?;
+        self.check_blocks()?;
+        self.check_later()
     }
-    check_ports_mode(s)
-}
 
-// What later papers add to the settings: 17, then 19, then 24.
-#[tactic(auto, using(crate::proofs::Refused::first_refused, crate::proofs::Refused::first_accepted), unfolding(crate::specs::Settings::later_refusal))]
-fn check_later(s: Settings) -> Result<(), Refusal>
-    ensures { refusal_in result ≡ later_refusal s }
-{
-    check_scheduled(s)?;
-    check_special(s)?;
-    check_ports(s)
-}
-
-// The first refusal that the settings meet, 1 to 6 and then those of later papers.
-#[tactic(auto, using(crate::proofs::Refused::first_refused, crate::proofs::Refused::first_accepted), unfolding(crate::specs::Settings::settings_refusal))]
-pub fn check_settings(s: Settings) -> Result<(), Refusal>
-    ensures { refusal_in result ≡ settings_refusal s }
-{
-    check_cell(s)?;
-    check_mode(s)?;
-    check_blocks(s)?;
-    check_later(s)
-}
-
-// What a change to the settings' mode is refused for: 4 and 5, then 24 where there are two ports.
-#[tactic(auto, using(crate::proofs::Refused::first_refused, crate::proofs::Refused::first_accepted), unfolding(crate::specs::Settings::new_mode_refusal))]
-pub fn check_new_mode(s: Settings) -> Result<(), Refusal>
-    ensures { refusal_in result ≡ new_mode_refusal s }
-{
-    check_mode(s)?;
-    check_ports_mode(s)
-}
-
-// The same settings in another mode.
-pub fn in_mode(s: Settings, mode: u16) -> Settings
-    ensures { result ≡ in_mode s mode }
-{
-    Settings { mode, ..s }
-}
-
-// The first of refusals 1 to 6, 17, 19, 24 and 7 that settings and uplink subframe n meet: 7 where n has no window.
-#[tactic(auto, using(crate::proofs::Refused::first_refused, crate::proofs::Refused::first_accepted), unfolding(crate::specs::Settings::window_refusal, crate::specs::Settings::no_window_refusal))]
-pub fn check_window(s: Settings, n: u16) -> Result<(), Refusal>
-    ensures { refusal_in result ≡ window_refusal s n }
-{
-    check_settings(s)?;
-    if size_of(s.config, n) == 0 {
-        return Err(Refusal::Subframe);
+    // What a change to the settings' mode is refused for: 4 and 5, then 24 where there are two ports.
+    #[tactic(auto, using(crate::proofs::Refused::first_refused, crate::proofs::Refused::first_accepted), unfolding(crate::specs::Settings::new_mode_refusal))]
+    pub fn check_new_mode(self) -> Result<(), Refusal>
+        ensures { refusal_in result ≡ new_mode_refusal self }
+    {
+        self.check_mode()?;
+        self.check_ports_mode()
     }
-    Ok(())
-}
 
-// True if a window of `size` positions is answered by the bundled reply; else the reply is multiplexed.
-#[tactic(auto, unfolding(crate::specs::Settings::bundles))]
-pub fn is_bundled(s: Settings, size: u16) -> bool
-    ensures { result ≡ bundles s size }
-{
-    s.mode == 0 || size == 1
+    // The same settings in another mode.
+    pub fn in_mode(self, mode: u16) -> Settings
+        ensures { result ≡ in_mode self mode }
+    {
+        Settings { mode, ..self }
+    }
+
+    // True if a window of `size` positions is answered by the bundled reply; else the reply is multiplexed.
+    #[tactic(auto, unfolding(crate::specs::Settings::bundles))]
+    pub fn is_bundled(self, size: u16) -> bool
+        ensures { result ≡ bundles self size }
+    {
+        self.mode == 0 || size == 1
+    }
 }

@@ -4,22 +4,9 @@ ghost use Rattle.frame.specs.Distance.{subframe_of};
 ghost use Rattle.frame.specs.Refusals.{refusal_in};
 ghost use Rattle.frame.specs.Special.{special_refusal, no_pdsch, too_short};
 
+use crate::answering::before;
 use crate::table::{is_special, window_of};
 use crate::{Refusal, Settings};
-
-// The prefix and the special configuration: 19. The last special configuration is 8 with the normal prefix, 6 with the extended one.
-#[tactic(auto, unfolding(crate::specs::Special::special_refusal, crate::specs::Special::last_special))]
-pub fn check_special(s: Settings) -> Result<(), Refusal>
-    ensures { refusal_in result ≡ special_refusal s }
-{
-    if 1 < s.prefix {
-        return Err(Refusal::Special);
-    }
-    if 8 - 2 * s.prefix < s.special {
-        return Err(Refusal::Special);
-    }
-    Ok(())
-}
 
 // The special configuration allows no PDSCH: 0 and 5 with the normal prefix, 0 and 4 with the extended one.
 #[tactic(auto, unfolding(crate::specs::Special::no_pdsch))]
@@ -31,28 +18,45 @@ fn no_pdsch(prefix: u16, special: u16) -> bool
     ((prefix == 0) & normal) | ((prefix == 1) & extended)
 }
 
-// Subframe n is special and too short for data: a release can be sent there, a grant or a scheduled block can't.
-#[tactic(auto, unfolding(crate::specs::Special::too_short))]
-pub fn is_too_short(s: Settings, n: u16) -> bool
-    ensures { result ≡ too_short s n }
-{
-    no_pdsch(s.prefix, s.special) & is_special(s.config, n)
-}
-
 // The subframe at position m of the window of n; n itself, by its number in the frame, where the window has no such position.
 fn subframe_of(config: u16, n: u16, m: u16) -> u16
     ensures { result ≡ subframe_of config n m }
 {
     match window_of(config, n).get(m as usize) {
-        Some(&k) => (n % 10 + 9 * k) % 10,
+        Some(&k) => before(n, k),
         None => n % 10,
     }
 }
 
-// The subframe at position m of the window of n is too short for data. The window is looked up only where some subframe is.
-#[tactic(auto, unfolding(crate::specs::Special::too_short))]
-pub fn position_too_short(s: Settings, n: u16, m: u16) -> bool
-    ensures { result ≡ too_short s (subframe_of s.config n m) }
-{
-    no_pdsch(s.prefix, s.special) && is_special(s.config, subframe_of(s.config, n, m))
+impl Settings {
+    // The prefix and the special configuration: 19. The last special configuration is 8 with the normal prefix, 6 with the extended one.
+    #[tactic(auto, unfolding(crate::specs::Special::special_refusal, crate::specs::Special::last_special))]
+    pub fn check_special(self) -> Result<(), Refusal>
+        ensures { refusal_in result ≡ special_refusal self }
+    {
+        if 1 < self.prefix {
+            return Err(Refusal::Special);
+        }
+        if 8 - 2 * self.prefix < self.special {
+            return Err(Refusal::Special);
+        }
+        Ok(())
+    }
+
+    // Subframe n is special and too short for data: a release can be sent there, a grant or a scheduled block can't.
+    #[tactic(auto, unfolding(crate::specs::Special::too_short))]
+    pub fn is_too_short(self, n: u16) -> bool
+        ensures { result ≡ too_short self n }
+    {
+        no_pdsch(self.prefix, self.special) & is_special(self.config, n)
+    }
+
+    // The subframe at position m of the window of n is too short for data. The window is looked up only where some subframe is.
+    #[tactic(auto, unfolding(crate::specs::Special::too_short))]
+    pub fn position_too_short(self, n: u16, m: u16) -> bool
+        ensures { result ≡ too_short self (subframe_of self.config n m) }
+    {
+        no_pdsch(self.prefix, self.special)
+            && is_special(self.config, subframe_of(self.config, n, m))
+    }
 }

@@ -9,7 +9,7 @@ ghost use Rattle.frame.specs.Table.{window_of};
 
 use crate::digits::{digit_at, packed};
 
-// The digits of the letters S and U.
+// The digits of the letters S and U, as numbers and no enum: a lookup compares the digit that a shift gives it, and has no letter.
 const SPECIAL: u16 = 3;
 
 const UPLINK: u16 = 5;
@@ -82,8 +82,8 @@ pub fn window_of(config: u16, n: u16) -> &'static [u16]
 }
 
 // Derived from the rows: M of subframes 9 to 0 of a configuration, a digit each; 0 where there is no window. The four tables of digits
-// stand beside the rows for speed: M as the length of the row was tried, and takes 10 ns where a digit takes 2. They are proved equal to
-// what the rows say. Each lookup of a digit says itself what it answers outside a frame.
+// stand beside the rows for speed. M as the length of the row was tried and takes 10 ns where a digit takes 2, the largest k of the row 17
+// and not 2, distance and position by a search of the rows 59 and 60 and not 2 and 5. They are proved equal to what the rows say.
 fn sizes_of(config: u16) -> u64
     ensures { result ≡ size_digits config }
 {
@@ -148,7 +148,10 @@ fn positions_of(config: u16) -> u64
     }
 }
 
-// Derived from the rows: the positions of the window of subframe n with k falling, that is in time order.
+// Derived from the rows: the positions of the window of subframe n with k falling, that is in time order; a table, since a sort would need
+// room for its list. It is no part of a caller:
+// with it `feedback_window` would take more stack than the header states.
+#[inline(never)]
 pub fn order_of(config: u16, n: u16) -> &'static [u16]
     ensures { result.now ≡ order_of (window_of config n) }
 {
@@ -169,6 +172,7 @@ pub fn order_of(config: u16, n: u16) -> &'static [u16]
 }
 
 // Subframe n is downlink, D or S: a PDCCH can be sent there.
+#[tactic(auto, using(crate::proofs::Lookups::downlink_at, crate::proofs::Layouts::outside_frame))]
 pub fn is_downlink(config: u16, n: u16) -> bool
     ensures { result ≡ downlink config n }
 {
@@ -179,36 +183,31 @@ pub fn is_downlink(config: u16, n: u16) -> bool
 }
 
 // Subframe n is special, S.
+#[tactic(auto, using(crate::proofs::Lookups::special_at))]
 pub fn is_special(config: u16, n: u16) -> bool
     ensures { result ≡ is_special config n }
 {
-    if 9 < n {
-        return false;
-    }
     digit_at(layout_of(config), n) == SPECIAL
 }
 
 // M of the window of subframe n; 0 where there is none, outside the table too.
+#[tactic(auto, using(crate::proofs::Lookups::size_at))]
 pub fn size_of(config: u16, n: u16) -> u16
     ensures { result ≡ length (window_of config n) }
 {
-    if 9 < n {
-        return 0;
-    }
     digit_at(sizes_of(config), n)
 }
 
 // How many subframes before n the earliest one of its window is; 0 where there is no window, outside the table too.
+#[tactic(auto, using(crate::proofs::Lookups::earliest_at))]
 pub fn earliest_k_of(config: u16, n: u16) -> u16
     ensures { result ≡ earliest_k config n }
 {
-    if 9 < n {
-        return 0;
-    }
     digit_at(earliest_ks_of(config), n)
 }
 
 // How far after subframe d, of an endless run, the uplink subframe stands that answers for it; 0 where there is none.
+#[tactic(auto, using(crate::proofs::Lookups::distance_at))]
 pub fn distance_of(config: u16, d: u16) -> u16
     ensures { result ≡ distance_of config d }
 {
@@ -216,11 +215,9 @@ pub fn distance_of(config: u16, d: u16) -> u16
 }
 
 // The position of downlink subframe d in its window; 0 for any other.
+#[tactic(auto, using(crate::proofs::Lookups::position_at))]
 pub fn position_of(config: u16, d: u16) -> u16
     ensures { result ≡ coded_position config d }
 {
-    if 9 < d {
-        return 0;
-    }
     digit_at(positions_of(config), d)
 }

@@ -8,11 +8,11 @@ use native.Mathlib.Omega.{arith}
 use lib.Dec.{eqb, leb}
 use lib.ListN.{get_or}
 use borrow.Author.Tests.{leb-true, eqb-true}
+use Rattle.std.proofs.lemmas.Bool.{and_parts}
 use Rattle.frame.specs.declared.Settings.{Settings}
 use Rattle.frame.specs.Distance.{before}
 use Rattle.frame.specs.Settings.{settings_refusal}
 use Rattle.frame.proofs.Accepted.{Accepted, accepted, neither, held}
-use Rattle.frame.proofs.Bools.{both}
 use Rattle.resource.proofs.Edges.{edge_most}
 use Rattle.heard.specs.declared.Heard.{Heard}
 use Rattle.heard.specs.declared.Heard.TheVariants.{Nothing, Granted, Scheduled, Released}
@@ -40,9 +40,9 @@ sound h e =
     let first : Bool = eqb (settings_refusal h.settings) 0 in
     let all : Bool = all_sound h.settings h.next h.past in
     let modes : Bool = modes_sound h.settings h.modes in
-    let a = both (first && leb h.next 9 && modes) all (held (state_sound h) 7 0 e).0 in
-    let d = both (first && leb h.next 9) modes a.0 in
-    let b = both first (leb h.next 9) d.0 in
+    let a = and_parts (first && leb h.next 9 && modes) all (held (state_sound h) 7 0 e).0 in
+    let d = and_parts (first && leb h.next 9) modes a.0 in
+    let b = and_parts first (leb h.next 9) d.0 in
     record {
       settings = accepted h.settings (eqb-true (settings_refusal h.settings) 0 b.0);
       next = leb-true h.next 9 b.1;
@@ -78,17 +78,17 @@ passed h x e =
 slot_valid_holds : (s : Settings) (n : ℕ) (older : List Slot) (t : Slot) → slot_sound s n older t ≡ true → heard_refusal s n (heard_in t) ≡ 0
 unfolding slot_sound
 slot_valid_holds s n older t e =
-    let fine = both (leb t.kind 3) (eqb (cause_of s n (block_ago older) (heard_in t)) 0) e in
+    let fine = and_parts (leb t.kind 3) (eqb (cause_of s n (block_ago older) (heard_in t)) 0) e in
     (cause_none_holds s n (block_ago older) (heard_in t) (eqb-true (cause_of s n (block_ago older) (heard_in t)) 0 fine.1)).0
 
 -- Slot i of the memory was fed i + 1 before the subframe that is expected; before the oldest slot nothing was heard.
 past_valid : (s : Settings) (past : List Slot) (n : ℕ) → all_sound s n past ≡ true → (i : ℕ) → heard_refusal s (before n (suc i)) (heard_in (get_or past i none)) ≡ 0
 unfolding all_sound heard_in heard_refusal
 past_valid s [] n e i = refl
-past_valid s (t ∷ ts) n e zero = slot_valid_holds s (previous n) ts t (both (slot_sound s (previous n) ts t) (all_sound s (previous n) ts) e).0
+past_valid s (t ∷ ts) n e zero = slot_valid_holds s (previous n) ts t (and_parts (slot_sound s (previous n) ts t) (all_sound s (previous n) ts) e).0
 past_valid s (t ∷ ts) n e (suc i) =
     let same : (n + 9 * suc (suc i)) % 10 ≡ ((n + 9 * 1) % 10 + 9 * suc i) % 10 = omega arith in
-    rw same (past_valid s ts (previous n) (both (slot_sound s (previous n) ts t) (all_sound s (previous n) ts) e).1 i)
+    rw same (past_valid s ts (previous n) (and_parts (slot_sound s (previous n) ts t) (all_sound s (previous n) ts) e).1 i)
 
 -- So a state that 8 does not refuse remembers only what is valid.
 pub remembered_valid : (h : Handset) → state_refusal h ≡ 0 → (i : ℕ)

@@ -12,7 +12,7 @@ impl Handset {
     fn check_change(&self, mode: u16) -> Result<(), Refusal>
         ensures { refusal_in result ≡ change_refusal self.now mode }
     {
-        frame::check_new_mode(frame::in_mode(self.settings, mode))?;
+        self.settings.in_mode(mode).check_new_mode()?;
         self.check_state()
     }
 
@@ -23,7 +23,7 @@ impl Handset {
         ensures after { self.new ≡ (change_of self.old mode).handset }
     {
         self.check_change(mode)?;
-        self.settings = frame::in_mode(self.settings, mode);
+        self.settings = self.settings.in_mode(mode);
         Ok(())
     }
 }

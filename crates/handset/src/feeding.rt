@@ -7,9 +7,8 @@ ghost use Rattle.handset.specs.Feed.{next_answer, pushed, feed_refusal, feed_of}
 ghost use Rattle.handset.specs.Stored.{Storable};
 
 use crate::Handset;
-use crate::modes::window_settings;
 use frame::Refusal;
-use heard::{Heard, Slot, SlotKind};
+use heard::{Heard, Memory, Slot, SlotKind};
 use reply::Answer;
 
 // Bit 0 for the first block, bit 1 for the second, bit 2 for two blocks carried.
@@ -22,14 +21,14 @@ fn results_of(first: bool, second: bool, blocks: u16) -> u8
     one + 2 * other + 4 * two
 }
 
-// What is remembered of a subframe.
+// What is remembered of a subframe. It is no `TryFrom`: a feed stores what it accepted alone, and would have no use for an error.
 #[tactic(auto, unfolding(heard::specs::Memory::slot_of))]
 fn slot_of(x: Heard) -> Slot
     requires { Storable x }
     ensures { result ≡ slot_of x }
 {
     match x {
-        Heard::Nothing => Slot::NOTHING,
+        Heard::Nothing => Slot::default(),
         Heard::Granted(g) => Slot {
             kind: SlotKind::Grant as u8,
             cce: g.cce.number() as u8,
@@ -39,13 +38,13 @@ fn slot_of(x: Heard) -> Slot
         Heard::Scheduled(b) => Slot {
             kind: SlotKind::Block as u8,
             results: results_of(b.first, b.second, b.blocks),
-            ..Slot::NOTHING
+            ..Slot::default()
         },
         Heard::Released(p) => Slot {
             kind: SlotKind::Release as u8,
             cce: p.cce.number() as u8,
             dai: p.dai as u8,
-            results: 0,
+            ..Slot::default()
         },
     }
 }
@@ -57,7 +56,7 @@ impl Handset {
         ensures { refusal_in result ≡ feed_refusal self.now x }
     {
         self.check_state()?;
-        heard::check_cause(self.settings, self.next, &self.past, x)
+        self.memory().check_cause(x)
     }
 
     // The answer at the subframe that is expected: "taken" in a downlink one, else what its window says.
@@ -68,8 +67,11 @@ impl Handset {
         if frame::is_downlink(self.settings.config, self.next) {
             return Answer::Taken;
         }
-        let then = window_settings(self.settings, self.next, self.modes);
-        reply::answer_in(then, self.next, &self.past)
+        let settings = self.window_settings();
+        reply::answer_in(Memory {
+            settings: &settings,
+            ..self.memory()
+        })
     }
 
     // The subframe is remembered, in the mode that stands; after 9 comes 0.

@@ -16,7 +16,7 @@ fn fresh(settings: Settings) -> Handset
         settings,
         next: 0,
         modes: modes_before(settings.mode),
-        past: [Slot::NOTHING; 13],
+        past: [Slot::default(); 13],
     }
 }
 
@@ -26,7 +26,7 @@ impl Handset {
     pub fn new(settings: Settings) -> Result<Handset, Refusal>
         ensures { made_as result ≡ make_of settings }
     {
-        frame::check_settings(settings)?;
+        settings.check()?;
         Ok(fresh(settings))
     }
 
@@ -34,16 +34,6 @@ impl Handset {
     pub fn refused() -> Handset
         ensures { result ≡ fresh no_settings }
     {
-        fresh(Settings {
-            config: 0,
-            nrb: 0,
-            n1: 0,
-            mode: 0,
-            blocks: 0,
-            scheduled: 0,
-            prefix: 0,
-            special: 0,
-            ports: 0,
-        })
+        fresh(Settings::default())
     }
 }

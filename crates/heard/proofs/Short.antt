@@ -5,11 +5,11 @@ use mathlib.Core.Bool.{true, false≢true}
 use mathlib.Core.Logic.{◌⊎◌, inl, inr, ◌↔◌}
 use mathlib.Core.Path.{◌≡◌, refl}
 use native.Mathlib.Omega.{arith}
+use Rattle.std.proofs.lemmas.Bool.{and_parts}
 use Rattle.frame.specs.declared.Settings.{Settings}
 use Rattle.frame.specs.Layout.{downlink, is_special}
 use Rattle.frame.specs.Settings.{or_else}
 use Rattle.frame.specs.Special.{no_pdsch, too_short}
-use Rattle.frame.proofs.Bools.{both}
 use Rattle.frame.proofs.Layouts.{special_downlink}
 use Rattle.heard.specs.declared.Heard.{Heard}
 use Rattle.heard.specs.declared.Heard.TheVariants.{Nothing, Granted, Scheduled, Released}
@@ -42,7 +42,7 @@ module _ (s : Settings) where
     -- A subframe too short for data is special, and so downlink: 9 does not refuse what is sent there.
     pub short_downlink : too_short s n ≡ true → downlink s.config n ≡ true
     unfolding too_short
-    short_downlink e = special_downlink s.config n (both (no_pdsch s.prefix s.special) (is_special s.config n) e).1
+    short_downlink e = special_downlink s.config n (and_parts (no_pdsch s.prefix s.special) (is_special s.config n) e).1
 
     short_met : short_refusal s n ≡ 20 → too_short s n ≡ true
     unfolding short_refusal

@@ -1,8 +1,10 @@
 -- A remembered subframe as four numbers, and what stood k subframes ago.
 -- Assumes nothing.
 use Rattle.std.specs.Prelude.{ℕ, ◌+◌, ◌-◌, ◌*◌, ◌/◌, ◌%◌, Bool, cond, List, eqb, get_or}
+use Rattle.frame.specs.Table.{window_of}
 use Rattle.heard.specs.declared.Heard.{Heard}
 use Rattle.heard.specs.declared.Heard.TheVariants.{Nothing, Granted, Scheduled, Released}
+use Rattle.heard.specs.declared.Memory.{Memory}
 use Rattle.heard.specs.declared.Slot.{Slot}
 use Rattle.heard.specs.declared.View.{View}
 use Rattle.heard.specs.Heard.{view_of}
@@ -54,3 +56,11 @@ view_ago past k = view_in (get_or past (k - 1) none)
 -- A scheduled block was heard k ago.
 unfoldable pub block_ago : List Slot → ℕ → Bool
 block_ago past k = eqb (get_or past (k - 1) none).kind 2
+
+-- K of the window of the subframe that a memory stands before.
+abbrev pub ks_in : Memory → List ℕ
+ks_in m = window_of m.settings.now.config m.n
+
+-- What a reply sees of the subframe k before it, k from 1 on.
+abbrev pub views_in : Memory → ℕ → View
+views_in m = view_ago m.past.now

@@ -4,11 +4,11 @@ ghost use Rattle.frame.specs.Refusals.{refusal_in};
 ghost use Rattle.heard.specs.Heard.{uplink_refusal, data_refusal, carried_refusal, pdcch_refusal, unset_refusal, heard_refusal, block_before, cause_of};
 ghost use Rattle.heard.specs.Memory.{block_ago};
 
-use crate::{Heard, Slot, SlotKind};
+use crate::{Heard, Memory, SlotKind};
 use frame::{Refusal, Settings};
 use resource::Cce;
 
-// An uplink subframe: 9.
+// An uplink subframe: 9. Settings and subframe are two parameters in all that follows: a struct of them would be built for each call.
 #[tactic(auto, unfolding(crate::specs::Heard::uplink_refusal))]
 fn check_uplink(s: Settings, n: u16) -> Result<(), Refusal>
     ensures { refusal_in result ≡ uplink_refusal s n }
@@ -25,7 +25,7 @@ fn check_data(s: Settings, n: u16) -> Result<(), Refusal>
     ensures { refusal_in result ≡ data_refusal s n }
 {
     check_uplink(s, n)?;
-    if frame::is_too_short(s, n) {
+    if s.is_too_short(n) {
         return Err(Refusal::Short);
     }
     Ok(())
@@ -61,7 +61,7 @@ fn check_pdcch(s: Settings, cce: Cce, dai: u16) -> Result<(), Refusal>
 fn check_resource_set(s: Settings) -> Result<(), Refusal>
     ensures { refusal_in result ≡ unset_refusal s }
 {
-    if !frame::has_scheduled(s) {
+    if !s.has_scheduled() {
         return Err(Refusal::Scheduled);
     }
     Ok(())
@@ -92,24 +92,25 @@ pub fn check_heard(s: Settings, n: u16, x: Heard) -> Result<(), Refusal>
     }
 }
 
-// A scheduled block was heard before in the window of subframe n: one of the slots, the newest of which comes first and was heard in
-// the subframe before n. No window reaches back more than 13 subframes.
-pub fn block_before(config: u16, n: u16, past: &[Slot]) -> bool
-    ensures { result ≡ block_before 13 config n (block_ago past.now) }
-{
-    (1..14).zip(past).any(|(ago, t)| t.kind == SlotKind::Block as u8
-        && frame::shares_window(config, n, ago))
-}
+impl Memory<'_> {
+    // A scheduled block was heard before in the window of subframe n. No window reaches back more than 13 subframes.
+    pub fn block_before(self) -> bool
+        ensures { result ≡ block_before 13 self.entry.settings.now.config self.entry.n (block_ago self.entry.past.now) }
+    {
+        (1..14).zip(self.past).any(|(ago, t)| t.kind == SlotKind::Block as u8
+            && frame::shares_window(self.settings.config, self.n, ago))
+    }
 
-// The first of refusals 9, 20, 10 to 12 and 18 that is met by what subframe n brings after what the slots heard, the newest of which
-// comes first. Only a scheduled block looks back.
-#[tactic(auto, using(frame::proofs::Refused::first_refused, frame::proofs::Refused::first_accepted), unfolding(crate::specs::Heard::cause_of, crate::specs::Heard::second_refusal))]
-pub fn check_cause(s: Settings, n: u16, past: &[Slot], x: Heard) -> Result<(), Refusal>
-    ensures { refusal_in result ≡ cause_of s n (block_ago past.now) x }
-{
-    check_heard(s, n, x)?;
-    match x {
-        Heard::Scheduled(_) if block_before(s.config, n, past) => Err(Refusal::Scheduled),
-        _ => Ok(()),
+    // The first of refusals 9, 20, 10 to 12 and 18 that is met by what subframe n brings after what is remembered. Only a scheduled
+    // block looks back.
+    #[tactic(auto, using(frame::proofs::Refused::first_refused, frame::proofs::Refused::first_accepted), unfolding(crate::specs::Heard::cause_of, crate::specs::Heard::second_refusal))]
+    pub fn check_cause(self, x: Heard) -> Result<(), Refusal>
+        ensures { refusal_in result ≡ cause_of self.entry.settings.now self.entry.n (block_ago self.entry.past.now) x }
+    {
+        check_heard(*self.settings, self.n, x)?;
+        match x {
+            Heard::Scheduled(_) if self.block_before() => Err(Refusal::Scheduled),
+            _ => Ok(()),
+        }
     }
 }

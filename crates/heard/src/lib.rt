@@ -4,15 +4,19 @@
 mod checks;
 mod kind;
 
-ghost use Rattle.std.specs.Prelude.{◌≡◌};
+ghost use Rattle.std.specs.Prelude.{◌≡◌, ◌≤◌, cond, eqb};
 ghost use Rattle.heard.specs.Heard.{view_of};
-ghost use Rattle.heard.specs.Memory.{heard_in, view_in};
+ghost use Rattle.heard.specs.Memory.{heard_in, ks_in, views_in};
+ghost use Rattle.heard.specs.declared.View.TheVariants.{Unheard};
 
-pub use checks::{block_before, check_cause, check_heard};
+pub use checks::check_heard;
+use frame::Settings;
 pub use kind::{SlotKind, UnknownKind};
 use resource::Cce;
 
-// A grant: the blocks it carries, which of them decoded, its first CCE and its DAI, as raw numbers.
+// A grant: the blocks it carries, which of them decoded, its first CCE and its DAI, as raw numbers. It has a `ScheduledBlock`'s three
+// fields, and a `Control` the two of `Results`, and no such struct inside: each of some 30 lines of definitions, proofs and runs that read
+// a field would name two, and nothing takes the three alone.
 #[derive(Clone, Copy, Debug, PartialEq, Eq)]
 pub struct Grant {
     pub blocks: u16,
@@ -72,24 +76,15 @@ pub enum View {
 
 // A remembered subframe, four bytes: kind (0 nothing, 1 grant, 2 scheduled block, 3 release), first CCE, DAI, and results (bit 0 the
 // first block decoded, bit 1 the second, bit 2 two blocks carried). A scheduled block has no CCE and no DAI, a release no results. The
-// kind is a byte and no `SlotKind`, since a C caller lends the slots and may set it to anything.
+// kind is a byte and no `SlotKind`, since a C caller lends the slots and may set it to anything. The default is a subframe that heard
+// nothing.
 #[repr(C)]
-#[derive(Clone, Copy, Debug, PartialEq, Eq)]
+#[derive(Clone, Copy, Debug, Default, PartialEq, Eq)]
 pub struct Slot {
     pub kind: u8,
     pub cce: u8,
     pub dai: u8,
     pub results: u8,
-}
-
-impl Slot {
-    // A subframe that heard nothing.
-    pub const NOTHING: Slot = Slot {
-        kind: 0,
-        cce: 0,
-        dai: 0,
-        results: 0,
-    };
 }
 
 // What a remembered subframe heard, by its kind; nothing where there is no such kind.
@@ -122,6 +117,13 @@ impl From<Slot> for Heard {
     }
 }
 
+// The second block's result as a reply sees it: a sole block's result stands for both.
+fn second_result(blocks: u16, first: bool, second: bool) -> bool
+    ensures { result ≡ cond (eqb blocks 2) second first }
+{
+    if blocks == 2 { second } else { first }
+}
+
 // What a reply sees of what was heard.
 impl From<Heard> for View {
     ghost from_gives = { λ x v. v ≡ view_of x };
@@ -134,11 +136,11 @@ impl From<Heard> for View {
                 cce: g.cce,
                 dai: g.dai,
                 first: g.first,
-                second: if g.blocks == 2 { g.second } else { g.first },
+                second: second_result(g.blocks, g.first, g.second),
             }),
             Heard::Scheduled(b) => View::Block(Results {
                 first: b.first,
-                second: if b.blocks == 2 { b.second } else { b.first },
+                second: second_result(b.blocks, b.first, b.second),
             }),
             Heard::Released(p) => View::Pdcch(Control {
                 cce: p.cce,
@@ -150,10 +152,33 @@ impl From<Heard> for View {
     }
 }
 
-// What a reply sees of a remembered subframe.
-#[tactic(auto, unfolding(crate::specs::Memory::view_in))]
-pub fn view_in(t: Slot) -> View
-    ensures { result ≡ view_in t }
-{
-    View::from(Heard::from(t))
+// What a handset remembers before subframe n: its settings and its slots, the newest of which comes first and was heard in the subframe
+// before n.
+#[derive(Clone, Copy)]
+pub struct Memory<'a> {
+    pub settings: &'a Settings,
+    pub n: u16,
+    pub past: &'a [Slot],
+}
+
+impl Memory<'_> {
+    // K of the window of n; for itself, as `frame::Window` says.
+    pub fn ks(self) -> &'static [u16]
+        ensures { result.now ≡ ks_in self.entry }
+    {
+        frame::window_of(self.settings.config, self.n)
+    }
+
+    // What a reply sees of the subframe k before n; before the oldest slot nothing was heard, and in n itself nothing yet.
+    #[tactic(auto, unfolding(crate::specs::Memory::view_ago, crate::specs::Memory::view_in))]
+    pub fn view_ago(self, k: u16) -> View
+        ensures before { 1 ≤ k → result ≡ views_in self.entry k }
+        ensures none_yet { k ≡ 0 → result ≡ Unheard }
+    {
+        let Some(ago) = k.checked_sub(1) else {
+            return View::Unheard;
+        };
+        let slot = self.past.get(ago as usize);
+        View::from(Heard::from(slot.copied().unwrap_or_default()))
+    }
 }

@@ -13,7 +13,7 @@ use lib.Dec.{T, ltb}
 use lib.Ieee.Fits.{and_l, and_r}
 use lib.ListN.{length, get_or}
 use borrow.Author.Tests.{ltb-true}
-use Rattle.frame.proofs.Bools.{both}
+use Rattle.std.proofs.lemmas.Bool.{and_parts}
 use Rattle.symbols.specs.declared.State.{State}
 use Rattle.symbols.specs.declared.State.TheVariants.{Ack, Nack, Dtx}
 use Rattle.symbols.specs.Delivered.{is_symbol, is_ack, in_some_row, delivered_at, delivered_set, delivery_of}
@@ -29,7 +29,7 @@ untold size i b0 b1 p sent other = refl
 
 -- a number that passes a test with a bound is below it
 below : (a n : ℕ) (b : Bool) → (ltb a n && b) ≡ true → a < n
-below a n b e = ltb-true a n (both (ltb a n) b e).0
+below a n b e = ltb-true a n (and_parts (ltb a n) b e).0
 
 -- It names positions of the window.
 inside : (size : ℕ) (sent : Positions) (i b0 b1 p : ℕ) → ours size sent i b0 b1 p ≡ true → p < size

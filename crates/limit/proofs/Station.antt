@@ -10,6 +10,7 @@ use native.Mathlib.Nat.{div-eq_of_lt, pow-le-pow_right}
 use native.Mathlib.Omega.{arith}
 use lib.Dec.{eqb, ltb}
 use borrow.Author.Tests.{eqb-true, lt-ltb}
+use Rattle.frame.specs.Refusals.{refused_or}
 use Rattle.frame.specs.declared.Settings.{Settings}
 use Rattle.frame.specs.Settings.{or_else, window_refusal, bundles}
 use Rattle.frame.proofs.Bools.{either}
@@ -20,7 +21,7 @@ use Rattle.station.specs.declared.Place.{Place}
 use Rattle.station.specs.declared.Place.TheVariants.{Pdcch, Block}
 use Rattle.station.specs.declared.Reading.{Reading}
 use Rattle.station.specs.declared.Reading.TheVariants.{Multiplexed}
-use Rattle.station.specs.Readings.{place_position, bad_bits, bundled_reading, multiplexed_reading, read_at, read_inverted, dynamic_reading, told_refusal, read_on, read_as, read_of}
+use Rattle.station.specs.Readings.{place_position, bad_bits, bundled_reading, multiplexed_reading, read_at, read_inverted, dynamic_reading, told_refusal, read_on, read_of}
 use Rattle.limit.specs.Rules.{in_set, ours}
 use Rattle.limit.specs.Station.{ReadingIsOurs}
 
@@ -63,7 +64,7 @@ on_delivers s n (Some m) r b0 b1 =
     either (Delivers (size_of s n) b0 b1) (eqb r s.scheduled) _ _ (at_delivers s (size_of s n) (Block m) b0 b1)
     (inverted_delivers s (size_of s n) (inverse_of s n r) b0 b1)
 
-as_delivers : (size b0 b1 k : ℕ) (x : Result Reading ℕ) → Delivers size b0 b1 x → Delivers size b0 b1 (read_as k x)
+as_delivers : (size b0 b1 k : ℕ) (x : Result Reading ℕ) → Delivers size b0 b1 x → Delivers size b0 b1 (refused_or k x)
 as_delivers size b0 b1 zero x d = d
 as_delivers size b0 b1 (suc k) x d = refused_delivers size b0 b1 (suc k)
 

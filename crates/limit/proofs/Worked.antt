@@ -7,7 +7,7 @@ use mathlib.Core.Logic.{inl, inr, ⊎_elim}
 use mathlib.Core.Path.{◌≡◌, refl, sym, ap}
 use lib.Dec.{eqb, ltb}
 use lib.ListN.{get_or}
-use Rattle.frame.proofs.Bools.{never_true}
+use Rattle.std.proofs.lemmas.Bool.{false_from_ne_true}
 use Rattle.symbols.specs.declared.State.{State}
 use Rattle.symbols.specs.declared.State.TheVariants.{Ack, Nack, Dtx}
 use Rattle.symbols.specs.Delivered.{is_ack, in_some_row, delivered_at, delivered_set, delivery_of}
@@ -21,7 +21,7 @@ unnamed : (rule : Rule) (size : ℕ) (sent : Positions) (i b0 b1 : ℕ) (ss : Li
     → (p : ℕ) → ours size sent i b0 b1 p ≡ false → Sound rule size sent i b0 b1 → rule size sent i b0 b1 p ≡ false
 unnamed rule size sent i b0 b1 ss by p left sound =
     let other = ours_best.left_out size sent i b0 b1 ss by p left in
-    never_true _ (λ e. other.3 (sound other.0 other.1 p e))
+    false_from_ne_true _ (λ e. other.3 (sound other.0 other.1 p e))
 
 -- Something was sent at every position, and at positions 0, 1 and 2.
 abbrev all_sent : Positions

@@ -1,7 +1,7 @@
 -- The station's reading is the rule `ours` of Rules.antt: what it delivers of a multiplexed reply are the positions that `ours` names
 -- for the window's size, the index and the bits. read_of is what station::read promises, and feedback_reading with it.
 -- Assumes nothing.
-use Rattle.std.specs.Prelude.{Result, Ok, Err, Option, Some, None, ℕ, ◌≡◌}
+use Rattle.std.specs.Prelude.{Ok, Option, ℕ, ◌≡◌}
 use Rattle.frame.specs.declared.Settings.{Settings}
 use Rattle.resource.specs.Calls.{size_of}
 use Rattle.station.specs.declared.Place.{Place}

@@ -1,7 +1,8 @@
 // A text of at most 100 bytes, and numbers in decimal: what `listing`, `printing`, `size_text` and `reporting` write with.
 //
-// The kit's `ArrayString` with `write!` is no substitute: `write!` says what was written where it is `Ok`, and nothing says when it is,
-// so no function over it could promise its text.
+// `write!` was tried, into the kit's `ArrayString` and into a `Line` that takes every text. An `impl Display` can say what it writes
+// (`output`), but `write!`, like each `fmt`, promises it where it answers `Ok`, and nothing says when it does: a function whose line is
+// promised in every call, as all are here, didn't close over it. There is no heap, so no `to_string` either.
 #![tactic(auto)]
 
 ghost use Rattle.std.specs.Prelude.{◌≡◌, [], ◌∷◌, ◌++◌, decimal};
@@ -91,7 +92,8 @@ impl Line {
     }
 }
 
-// The last decimal digit of a number, in ASCII: 48 is `0`.
+// The last decimal digit of a number, in ASCII: 48 is `0`. (For one character the kit's `itoa`, which gives all digits of a number and
+// lends them as a text, would be no plainer than this sum.)
 pub fn digit(x: u32) -> u8
     ensures { result ≡ decimal_digit x }
 {

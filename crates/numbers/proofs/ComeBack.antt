@@ -1,8 +1,8 @@
 -- The C numbers lose nothing, so that answers that look alike from C are the same; and a refusal is told by the kind too.
 -- Assumes nothing.
 use mathlib.Core.Path.{◌≡◌, refl, sym, ap, ◌∙◌}
-use Rattle.numbers.specs.Answers.{answered_answer, made_answer, changed_answer, resource_answer, inverse_answer, reading_answer, claims_answer, fed_answer, silence_answer, record_answer, confirmed_answer, credit_answer, replay_answer, write_answer}
-use Rattle.numbers.specs.Back.{window_in, answered_in, made_in, changed_in, mapped_in, inverted_in, reading_in, checked_in, fed_in, explained_in, record_in, AnswersComeBack, Apart, SameNumbers, KindsOfAnswers, SilenceNumbers, confirmed_in, credited_in, replayed_in, written_in}
+use Rattle.numbers.specs.Answers.{answered_answer, made_answer, changed_answer, resource_answer, inverse_answer, reading_answer, claims_answer, fed_answer, silence_answer, record_answer, confirmed_answer, opened_answer, credit_answer, replay_answer, write_answer}
+use Rattle.numbers.specs.Back.{window_in, answered_in, made_in, changed_in, mapped_in, inverted_in, reading_in, checked_in, fed_in, explained_in, record_in, AnswersComeBack, Apart, SameNumbers, KindsOfAnswers, SilenceNumbers, confirmed_in, opened_in, credited_in, replayed_in, written_in}
 use Rattle.numbers.proofs.WindowKept.{window_back, answered_back}
 use Rattle.numbers.proofs.ResourceKept.{resource_back}
 use Rattle.numbers.proofs.InverseKept.{inverse_back}
@@ -21,6 +21,7 @@ answers_come_back =
       inverse = inverse_back;
       reading = λ s n t r b0 b1. (reading_kept s n t r b0 b1).0;
       confirmed = λ s n w r b0 b1. refl;
+      opened = λ price. refl;
       credit = λ s n w r b0 b1 a. refl;
       claims = λ s n list room lent. (claims_kept s n list room lent).0;
       make = λ s. refl;
@@ -44,6 +45,7 @@ same_numbers =
       inverse = λ s t n r n' r'. alike inverse_answer inverted_in (l.inverse s n r) (l.inverse t n' r');
       reading = λ s s' n t r b0 b1 n' t' r' c0 c1. alike reading_answer reading_in (l.reading s n t r b0 b1) (l.reading s' n' t' r' c0 c1);
       confirmed = λ s t n n' v w r b0 b1 r' c0 c1. alike confirmed_answer confirmed_in (l.confirmed s n v r b0 b1) (l.confirmed t n' w r' c0 c1);
+      opened = λ p q. alike opened_answer opened_in (l.opened p) (l.opened q);
       credit = λ s t n n' v w r b0 b1 r' c0 c1 a b. alike credit_answer credited_in (l.credit s n v r b0 b1 a) (l.credit t n' w r' c0 c1 b);
       claims = λ s t n n' list list' room room' lent lent'. alike claims_answer checked_in (l.claims s n list room lent) (l.claims t n' list' room' lent');
       make = λ s t. alike made_answer made_in (l.make s) (l.make t);

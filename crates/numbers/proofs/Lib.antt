@@ -7,3 +7,4 @@ pub mod ReadingKept
 pub mod ResourceKept
 pub mod SilenceKept
 pub mod WindowKept
+pub mod Windows

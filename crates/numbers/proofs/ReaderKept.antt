@@ -8,8 +8,9 @@ use mathlib.Core.List.{List}
 use mathlib.Core.Path.{◌≡◌, refl, sym, ap}
 use lib.Dec.{eqb, ltb, leb, eqb-suc-zero}
 use Rattle.frame.proofs.Bools.{either}
-use Rattle.reader.specs.Record.{record_slot, read_as, refused_or, record_of}
+use Rattle.reader.specs.Record.{record_slot, read_as, record_of}
 use Rattle.trace.specs.Trace.{header_of, settings_of, parts_refusal, trace_refusal}
+use Rattle.frame.specs.Refusals.{refused_or}
 use Rattle.frame.specs.Settings.{or_else}
 use Rattle.handset.specs.Make.{make_of}
 use Rattle.replaying.specs.Replay.{Played, played_in, start_refusal, replay_done, replay_stopped, replayed_as, replay_of}

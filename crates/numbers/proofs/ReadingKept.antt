@@ -7,6 +7,7 @@ use mathlib.Core.Bool.{not}
 use mathlib.Core.Path.{◌≡◌, refl, sym, ap}
 use native.Mathlib.Omega.{arith}
 use lib.Dec.{eqb, eqb-suc-zero}
+use Rattle.frame.specs.Refusals.{refused_or}
 use Rattle.frame.specs.declared.Settings.{Settings}
 use Rattle.frame.specs.Settings.{or_else, window_refusal, bundles}
 use Rattle.frame.proofs.Bools.{either}
@@ -15,7 +16,7 @@ use Rattle.symbols.specs.Delivered.{delivery_of}
 use Rattle.station.specs.declared.Place.{Place}
 use Rattle.station.specs.declared.Place.TheVariants as place
 use Rattle.station.specs.declared.Reading.{Reading}
-use Rattle.station.specs.Readings.{place_position, bad_bits, bundled_reading, multiplexed_reading, read_at, read_inverted, dynamic_reading, told_refusal, read_on, read_as, read_of}
+use Rattle.station.specs.Readings.{place_position, bad_bits, bundled_reading, multiplexed_reading, read_at, read_inverted, dynamic_reading, told_refusal, read_on, read_of}
 use Rattle.numbers.specs.Answers.{inverse_answer, reading_answer}
 use Rattle.numbers.specs.Back.{inverted_in, reading_in, KindFor}
 use Rattle.reply.specs.Kinds.{kind_multiplexed, kind_number}
@@ -56,11 +57,11 @@ module _ (s : Settings) (b0 b1 : ℕ) where
   read_on_kept n None r = dynamic_kept n r
   read_on_kept n (Some m) r = either ReadingKept (eqb r s.scheduled) _ _ (read_at_kept (size_of s n) (place.Block m)) (dynamic_kept n r)
 
-  read_as_kept : (k : ℕ) (x : Result Reading ℕ) → ReadingKept x → ReadingKept (read_as k x)
-  read_as_kept zero x kept = kept
-  read_as_kept (suc k) x kept = (refl, (sym (ap not (eqb-suc-zero k)), refl))
+  refused_or_kept : (k : ℕ) (x : Result Reading ℕ) → ReadingKept x → ReadingKept (refused_or k x)
+  refused_or_kept zero x kept = kept
+  refused_or_kept (suc k) x kept = (refl, (sym (ap not (eqb-suc-zero k)), refl))
 
 pub reading_kept : (s : Settings) (n : ℕ) (t : Option ℕ) (r b0 b1 : ℕ) → ReadingKept (read_of s n t r b0 b1)
 unfolding read_of
 reading_kept s n t r b0 b1 =
-    read_as_kept s b0 b1 (or_else (window_refusal s n) (told_refusal s n t)) (read_on s n t r b0 b1) (read_on_kept s b0 b1 n t r)
+    refused_or_kept s b0 b1 (or_else (window_refusal s n) (told_refusal s n t)) (read_on s n t r b0 b1) (read_on_kept s b0 b1 n t r)

@@ -6,12 +6,12 @@ use mathlib.Core.Bool.{Bool, true, false, cond}
 use mathlib.Core.Path.{◌≡◌, refl}
 use lib.Dec.{eqb}
 use Rattle.fold.specs.declared.Seen.{Seen}
+use Rattle.fold.specs.Fold.{expected}
 use Rattle.reply.specs.declared.ReplyKind.{ReplyKind}
 use Rattle.reply.specs.declared.ReplyKind.TheVariants as kind
 use Rattle.reply.specs.declared.Answer.{Answer}
 use Rattle.reply.specs.declared.Answer.TheVariants as answer
 use Rattle.reply.specs.Kinds.{kind_number}
-use Rattle.reply.specs.Replies.{expected}
 use Rattle.heard.specs.declared.Heard.{Heard}
 use Rattle.handset.specs.declared.Handset.{Handset}
 use Rattle.handset.specs.Feed.{Fed, next_answer, pushed, feed_refusal, fed_as, feed_of}

@@ -4,6 +4,7 @@ use Rattle.std.specs.Prelude.{Option, Some, None, Result, Ok, Err, ℕ, zero, su
 use Rattle.heard.specs.declared.Slot.{Slot}
 use Rattle.resource.specs.declared.ports.OnPorts.{OnPorts}
 use Rattle.resource.specs.declared.Cce.{Cce}
+use Rattle.resource.specs.declared.Resource.{Resource}
 use Rattle.frame.specs.declared.Answered.{Answered}
 use Rattle.frame.specs.declared.Settings.{Settings}
 use Rattle.frame.specs.Order.{order_of}
@@ -14,6 +15,7 @@ use Rattle.station.specs.declared.Place.TheVariants as place
 use Rattle.station.specs.declared.Reading.{Reading}
 use Rattle.station.specs.declared.Reading.TheVariants as reading
 use Rattle.claims.specs.Claims.{Checked}
+use Rattle.account.specs.Account.{Opened}
 use Rattle.confirming.specs.Blocks.{Confirmed}
 use Rattle.credit.specs.Credit.{Credited}
 use Rattle.reply.specs.declared.Answer.{Answer}
@@ -32,6 +34,7 @@ use Rattle.replaying.specs.Replay.{Replayed}
 use Rattle.spelling.specs.Writing.{Written}
 use Rattle.numbers.specs.declared.accounts.ConfirmedAnswer.{ConfirmedAnswer}
 use Rattle.numbers.specs.declared.accounts.CreditAnswer.{CreditAnswer}
+use Rattle.numbers.specs.declared.accounts.OpenedAnswer.{OpenedAnswer}
 use Rattle.numbers.specs.declared.drives.ReplayAnswer.{ReplayAnswer}
 use Rattle.numbers.specs.declared.drives.WriteAnswer.{WriteAnswer}
 use Rattle.numbers.specs.declared.claimed.ClaimsAnswer.{ClaimsAnswer}
@@ -68,9 +71,14 @@ abbrev pub answered_answer : Result Answered ℕ → AnsweredAnswer
 answered_answer (Ok a) = record { refusal = 0; n = a.n; k = a.k; position = a.position }
 answered_answer (Err k) = record { refusal = k; n = 0; k = 0; position = 0 }
 
--- Both antenna ports' resources; the second is 0 where there is one port.
+-- The second antenna port's resource as a C caller gets it: 0 where there is one port.
+abbrev pub second_number : Option Resource → ℕ
+second_number None = 0
+second_number (Some r) = r.0
+
+-- Both antenna ports' resources.
 abbrev pub resource_answer : Result OnPorts ℕ → ResourceAnswer
-resource_answer (Ok ports) = record { refusal = 0; resource = ports.first.0; second = ports.second.0 }
+resource_answer (Ok ports) = record { refusal = 0; resource = ports.first.0; second = second_number ports.second }
 resource_answer (Err k) = record { refusal = k; resource = 0; second = 0 }
 
 abbrev pub inverse_answer : Result (ℕ × Cce) ℕ → InverseAnswer
@@ -98,6 +106,10 @@ reading_answer (Err k) =
 abbrev pub confirmed_answer : Confirmed → ConfirmedAnswer
 confirmed_answer c = record { refusal = c.refusal; first = c.first; second = c.second }
 
+-- A new account, or beside a refusal one with the price that is refused.
+abbrev pub opened_answer : Opened → OpenedAnswer
+opened_answer o = record { refusal = o.refusal; account = o.account }
+
 -- The octets credited, and the account afterwards.
 abbrev pub credit_answer : Credited → CreditAnswer
 credit_answer c = record { refusal = c.refusal; octets = c.octets; account = c.account }
@@ -123,7 +135,7 @@ answer_numbers (Ok answer.Taken) h = no_reply 0 kind_taken h
 answer_numbers (Ok answer.NoWindow) h = no_reply 0 kind_no_window h
 answer_numbers (Ok answer.Silent) h = no_reply 0 kind_silent h
 answer_numbers (Ok (answer.Sent r)) h =
-    record { refusal = 0; kind = kind_number r.kind; resource = r.resource.0; b0 = r.b0; b1 = r.b1; second = r.second.0; handset = h }
+    record { refusal = 0; kind = kind_number r.kind; resource = r.resource.0; b0 = r.b0; b1 = r.b1; second = second_number r.second; handset = h }
 answer_numbers (Err k) h = no_reply k kind_refused h
 
 abbrev pub fed_answer : Fed → FedAnswer

@@ -1,10 +1,10 @@
 -- The way back from the numbers of a C answer to the answer, and that no answer of a call is lost on the way there.
--- feedback_open_account hands on the engine's own struct, `open_of`: there is no way there on which to lose something.
 -- Assumes nothing.
 use Rattle.std.specs.Prelude.{Option, Some, None, Result, Ok, Err, ℕ, zero, suc, true, cond, not, List, ◌≡◌, eqb, leb, take}
 use Rattle.heard.specs.declared.Slot.{Slot}
 use Rattle.resource.specs.declared.ports.OnPorts.{OnPorts}
 use Rattle.resource.specs.declared.Cce.{Cce}
+use Rattle.resource.specs.declared.Resource.{Resource}
 use Rattle.frame.specs.declared.Answered.{Answered}
 use Rattle.frame.specs.declared.Settings.{Settings}
 use Rattle.frame.specs.Distance.{answered_of}
@@ -25,6 +25,7 @@ use Rattle.reply.specs.declared.Answer.{Answer}
 use Rattle.reply.specs.declared.Answer.TheVariants as answer
 use Rattle.heard.specs.declared.Heard.{Heard}
 use Rattle.account.specs.declared.Account.{Account}
+use Rattle.account.specs.Account.{Opened, open_of}
 use Rattle.confirming.specs.declared.SentWindow.{SentWindow}
 use Rattle.confirming.specs.Blocks.{Confirmed, confirmed_of}
 use Rattle.credit.specs.Credit.{Credited, credit_of}
@@ -40,6 +41,7 @@ use Rattle.spelling.specs.Writing.{Written, write_of}
 use Rattle.reader.specs.Record.{record_of}
 use Rattle.numbers.specs.declared.accounts.ConfirmedAnswer.{ConfirmedAnswer}
 use Rattle.numbers.specs.declared.accounts.CreditAnswer.{CreditAnswer}
+use Rattle.numbers.specs.declared.accounts.OpenedAnswer.{OpenedAnswer}
 use Rattle.numbers.specs.declared.drives.ReplayAnswer.{ReplayAnswer}
 use Rattle.numbers.specs.declared.drives.WriteAnswer.{WriteAnswer}
 use Rattle.numbers.specs.declared.claimed.ClaimsAnswer.{ClaimsAnswer}
@@ -53,7 +55,7 @@ use Rattle.numbers.specs.declared.frames.WindowAnswer.{WindowAnswer}
 use Rattle.numbers.specs.declared.feeds.ChangedAnswer.{ChangedAnswer}
 use Rattle.numbers.specs.declared.feeds.MadeAnswer.{MadeAnswer}
 use Rattle.numbers.specs.declared.frames.AnsweredAnswer.{AnsweredAnswer}
-use Rattle.numbers.specs.Answers.{window_answer, answered_answer, made_answer, changed_answer, resource_answer, inverse_answer, reading_answer, claims_answer, fed_answer, silence_answer, record_answer, confirmed_answer, credit_answer, replay_answer, write_answer}
+use Rattle.numbers.specs.Answers.{window_answer, answered_answer, made_answer, changed_answer, resource_answer, inverse_answer, reading_answer, claims_answer, fed_answer, silence_answer, record_answer, confirmed_answer, opened_answer, credit_answer, replay_answer, write_answer}
 use Rattle.reply.specs.Kinds.{kind_bundled, kind_multiplexed, kind_number}
 use Rattle.numbers.specs.Kinds.{kind_silent, kind_taken, kind_no_window, cause_none, cause_nothing_heard, cause_miss_shown, claims_clash, record_end}
 
@@ -61,15 +63,19 @@ use Rattle.numbers.specs.Kinds.{kind_silent, kind_taken, kind_no_window, cause_n
 unfoldable pub told_window : Settings → ℕ → Result (List ℕ × List ℕ) ℕ
 told_window s n = unless_refused (window_refusal s n) (window_of s.config n, order_of (window_of s.config n))
 
--- In every answer a refusal other than 0 is the answer; where it is 0 the kind, if there is one, says what the values are.
+-- In most answers a refusal other than 0 is the answer; where it is 0 the kind, if there is one, says what the values are.
 abbrev pub window_in : WindowAnswer → Result (List ℕ × List ℕ) ℕ
 window_in a = unless_refused a.refusal (take a.size a.k, take a.size a.order)
 
 abbrev pub answered_in : AnsweredAnswer → Result Answered ℕ
 answered_in a = unless_refused a.refusal (record { n = a.n; k = a.k; position = a.position })
 
+-- No second antenna port has the resource 0, which is one above no other.
+abbrev pub second_in : ℕ → Option Resource
+second_in second = cond (eqb second 0) None (Some (record { 0 = second }))
+
 abbrev pub mapped_in : ResourceAnswer → Result OnPorts ℕ
-mapped_in a = unless_refused a.refusal (record { first = record { 0 = a.resource }; second = record { 0 = a.second } })
+mapped_in a = unless_refused a.refusal (record { first = record { 0 = a.resource }; second = second_in a.second })
 
 abbrev pub inverted_in : InverseAnswer → Result (ℕ × Cce) ℕ
 inverted_in a = unless_refused a.refusal (a.position, record { 0 = a.cce })
@@ -92,6 +98,9 @@ checked_in a = checked_as a.refusal a.index (cond (eqb a.kind claims_clash) (Ok 
 abbrev pub confirmed_in : ConfirmedAnswer → Confirmed
 confirmed_in a = record { refusal = a.refusal; first = a.first; second = a.second }
 
+abbrev pub opened_in : OpenedAnswer → Opened
+opened_in a = record { refusal = a.refusal; account = a.account }
+
 abbrev pub credited_in : CreditAnswer → Credited
 credited_in a = record { refusal = a.refusal; octets = a.octets; account = a.account }
 
@@ -102,7 +111,7 @@ made_in a = record { refusal = a.refusal; handset = a.handset }
 abbrev pub changed_in : ChangedAnswer → Changed
 changed_in a = record { refusal = a.refusal; handset = a.handset }
 
--- The kind of a reply that has this number.
+-- The kind of a reply that has this number: bundled for its own, else multiplexed.
 abbrev pub reply_kind_in : ℕ → ReplyKind
 reply_kind_in number = cond (eqb number (kind_number kind_bundled)) kind_bundled kind_multiplexed
 
@@ -113,7 +122,7 @@ answer_in a =
     (cond (eqb a.kind kind_silent) (Ok answer.Silent)
     (cond (eqb a.kind kind_taken) (Ok answer.Taken)
     (cond (eqb a.kind kind_no_window) (Ok answer.NoWindow)
-    (Ok (answer.Sent (record { kind = reply_kind_in a.kind; resource = record { 0 = a.resource }; b0 = a.b0; b1 = a.b1; second = record { 0 = a.second } }))))))
+    (Ok (answer.Sent (record { kind = reply_kind_in a.kind; resource = record { 0 = a.resource }; b0 = a.b0; b1 = a.b1; second = second_in a.second }))))))
 
 abbrev pub fed_in : FedAnswer → Fed
 fed_in a = record { answer = answer_in a; handset = a.handset }
@@ -144,6 +153,7 @@ pub record AnswersComeBack : Type 0 where
   pub reading : (s : Settings) (n : ℕ) (t : Option ℕ) (r b0 b1 : ℕ) → reading_in (reading_answer (read_of s n t r b0 b1)) ≡ read_of s n t r b0 b1
   pub confirmed : (s : Settings) (n : ℕ) (w : SentWindow) (r b0 b1 : ℕ)
       → confirmed_in (confirmed_answer (confirmed_of s n w r b0 b1)) ≡ confirmed_of s n w r b0 b1
+  pub opened : (price : ℕ) → opened_in (opened_answer (open_of price)) ≡ open_of price
   pub credit : (s : Settings) (n : ℕ) (w : SentWindow) (r b0 b1 : ℕ) (a : Account)
       → credited_in (credit_answer (credit_of s n w r b0 b1 a)) ≡ credit_of s n w r b0 b1 a
   -- in both forms of the scratch, whichever room they ask for
@@ -168,6 +178,7 @@ pub record SameNumbers : Type 0 where
   pub reading : (s s' : Settings) (n : ℕ) (t : Option ℕ) (r b0 b1 n' : ℕ) (t' : Option ℕ) (r' c0 c1 : ℕ) → Apart reading_answer (read_of s n t r b0 b1) (read_of s' n' t' r' c0 c1)
   pub confirmed : (s t : Settings) (n n' : ℕ) (v w : SentWindow) (r b0 b1 r' c0 c1 : ℕ)
       → Apart confirmed_answer (confirmed_of s n v r b0 b1) (confirmed_of t n' w r' c0 c1)
+  pub opened : (p q : ℕ) → Apart opened_answer (open_of p) (open_of q)
   pub credit : (s t : Settings) (n n' : ℕ) (v w : SentWindow) (r b0 b1 r' c0 c1 : ℕ) (a b : Account)
       → Apart credit_answer (credit_of s n v r b0 b1 a) (credit_of t n' w r' c0 c1 b)
   pub claims : (s t : Settings) (n n' : ℕ) (list list' : List ℕ) (room room' lent lent' : ℕ)

@@ -1,8 +1,9 @@
 // What a reply to a sent window confirms, and what it is worth.
 ghost use Rattle.std.specs.Prelude.{◌≡◌};
+ghost use Rattle.frame.specs.Refusals.{refusal_in};
 ghost use Rattle.confirming.specs.Blocks.{confirmed_as};
 ghost use Rattle.credit.specs.Credit.{credited_as};
-ghost use Rattle.numbers.specs.Answers.{confirmed_answer, credit_answer};
+ghost use Rattle.numbers.specs.Answers.{confirmed_answer, opened_answer, credit_answer};
 
 use account::Account;
 use confirming::Blocks;
@@ -24,13 +25,33 @@ impl From<Result<Blocks, Refusal>> for ConfirmedAnswer {
         match x {
             Ok(blocks) => ConfirmedAnswer {
                 refusal: 0,
-                first: blocks.first,
-                second: blocks.second,
+                first: blocks.first.0,
+                second: blocks.second.0,
             },
             Err(refusal) => ConfirmedAnswer {
                 refusal: refusal.into(),
                 ..ConfirmedAnswer::default()
             },
+        }
+    }
+}
+
+// A new account; beside a refusal one with the price given, which every credit refuses.
+#[repr(C)]
+#[derive(Clone, Copy)]
+pub struct OpenedAnswer {
+    pub refusal: u16,
+    pub account: Account,
+}
+
+// A new account's check, and the account.
+impl From<(Result<(), Refusal>, Account)> for OpenedAnswer {
+    ghost from_gives = { λ x a. a ≡ opened_answer (record { refusal = refusal_in x.0; account = x.1 }) };
+
+    fn from((checked, account): (Result<(), Refusal>, Account)) -> OpenedAnswer {
+        OpenedAnswer {
+            refusal: checked.map_or_else(u16::from, |()| 0),
+            account,
         }
     }
 }

@@ -5,6 +5,7 @@ ghost use Rattle.numbers.specs.Answers.{claims_answer};
 
 use crate::kinds::ClaimsKind;
 use claims::RefusedClaims;
+use frame::Refusal;
 
 // Kind 1 is clean, 2 a clash with the index of the first claim that clashes with an earlier one; 0 where refused, and 16 has the
 // index of the first bad claim.
@@ -23,7 +24,10 @@ impl From<Result<Option<usize>, RefusedClaims>> for ClaimsAnswer {
         let (refusal, kind, index) = match x {
             Ok(None) => (0, ClaimsKind::Clean, 0),
             Ok(Some(index)) => (0, ClaimsKind::Clash, index),
-            Err(refused) => (refused.refusal.into(), ClaimsKind::Refused, refused.index),
+            Err(RefusedClaims::Refused(refusal)) => (refusal.into(), ClaimsKind::Refused, 0),
+            Err(RefusedClaims::BadClaim(index)) => {
+                (Refusal::Claim.into(), ClaimsKind::Refused, index)
+            }
         };
         ClaimsAnswer {
             refusal,

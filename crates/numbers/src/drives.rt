@@ -25,8 +25,8 @@ impl From<Result<Option<Slot>, Refusal>> for RecordAnswer {
     fn from(x: Result<Option<Slot>, Refusal>) -> RecordAnswer {
         let (refusal, kind, slot) = match x {
             Ok(Some(slot)) => (0, RecordKind::Read, slot),
-            Ok(None) => (0, RecordKind::End, Slot::NOTHING),
-            Err(refusal) => (refusal.into(), RecordKind::Refused, Slot::NOTHING),
+            Ok(None) => (0, RecordKind::End, Slot::default()),
+            Err(refusal) => (refusal.into(), RecordKind::Refused, Slot::default()),
         };
         RecordAnswer {
             refusal,
@@ -37,7 +37,7 @@ impl From<Result<Option<Slot>, Refusal>> for RecordAnswer {
 }
 
 // The refusal that stopped a replay or the writing of a trace, 0 for none, the kind of its end, and the number of the record that was
-// refused.
+// refused. A function and no `From`: three numbers are no type of this crate, and a struct for them would say each field a third time.
 fn end_numbers<T: Copy>(end: Result<T, Stop>) -> (u16, u16, u16)
     ensures { result ≡ (end_refusal end, end_kind end, end_record end) }
 {

@@ -8,6 +8,7 @@ use crate::kinds::{AnswerKind, CauseKind};
 use frame::Refusal;
 use handset::Handset;
 use reply::Answer;
+use resource::Resource;
 use silence::{Cause, Explained};
 
 // A handset that was made; beside a refusal one that every feed refuses.
@@ -35,7 +36,7 @@ impl From<Result<Handset, Refusal>> for MadeAnswer {
     }
 }
 
-// The handset after a change of mode; beside a refusal as it was.
+// The handset after a change of mode; beside a refusal as it was. C has it and `MadeAnswer` under two names.
 #[repr(C)]
 #[derive(Clone, Copy)]
 pub struct ChangedAnswer {
@@ -81,7 +82,7 @@ impl From<(Result<Answer, Refusal>, Handset)> for FedAnswer {
                     resource: r.resource.number(),
                     b0: r.b0,
                     b1: r.b1,
-                    second: r.second.number(),
+                    second: r.second.map_or(0, Resource::number),
                     handset,
                 };
             }
@@ -90,6 +91,7 @@ impl From<(Result<Answer, Refusal>, Handset)> for FedAnswer {
             Ok(Answer::Silent) => (0, AnswerKind::Silent),
             Err(refusal) => (refusal.into(), AnswerKind::Refused),
         };
+        // No `..FedAnswer::default()`: a handset has no default, since settings of zeros are refused.
         FedAnswer {
             refusal,
             kind: kind as u16,

@@ -12,7 +12,7 @@ mod kinds;
 mod readings;
 mod resources;
 
-pub use accounts::{ConfirmedAnswer, CreditAnswer};
+pub use accounts::{ConfirmedAnswer, CreditAnswer, OpenedAnswer};
 pub use claimed::ClaimsAnswer;
 pub use drives::{RecordAnswer, ReplayAnswer, WriteAnswer};
 pub use feeds::{ChangedAnswer, FedAnswer, MadeAnswer, SilenceAnswer};

@@ -4,7 +4,7 @@ ghost use Rattle.frame.specs.Refusals.{numbered};
 ghost use Rattle.numbers.specs.Answers.{resource_answer, inverse_answer};
 
 use frame::Refusal;
-use resource::{Cce, OnPorts};
+use resource::{Cce, OnPorts, Resource};
 
 // `second` is the second antenna port's resource, 0 where there is one port.
 #[repr(C)]
@@ -23,7 +23,7 @@ impl From<Result<OnPorts, Refusal>> for ResourceAnswer {
             Ok(ports) => ResourceAnswer {
                 refusal: 0,
                 resource: ports.first.number(),
-                second: ports.second.number(),
+                second: ports.second.map_or(0, Resource::number),
             },
             Err(refusal) => ResourceAnswer {
                 refusal: refusal.into(),
@@ -33,6 +33,7 @@ impl From<Result<OnPorts, Refusal>> for ResourceAnswer {
     }
 }
 
+// The position and the first CCE of the PDCCH that has the resource; both 0 where refused.
 #[repr(C)]
 #[derive(Clone, Copy, Default)]
 pub struct InverseAnswer {

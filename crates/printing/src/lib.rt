@@ -51,8 +51,8 @@ fn push_window_row(line: &mut Line, c: u16)
     ensures { line.new ≡ added line.old (window_row c) }
 {
     push_cell(line, &[digit(c as u32)], 15);
-    for n in 0..10 {
-        push_cell(line, k_text(c, n).as_bytes(), WIDTHS[n as usize]);
+    for (n, &width) in (0..10).zip(&WIDTHS) {
+        push_cell(line, k_text(c, n).as_bytes(), width);
     }
 }
 
@@ -74,7 +74,7 @@ fn push_window_line(line: &mut Line, i: u16)
     }
 }
 
-// A cell of Tables 10.1-2 to 10.1-4 as the print spells it.
+// A cell of Tables 10.1-2 to 10.1-4 as the print spells it. (`Display` for `Cell` was tried: it can't promise a line; see `line`.)
 fn word(cell: Cell) -> &'static [u8]
     ensures { result.now ≡ word cell }
 {
@@ -162,7 +162,9 @@ fn push_unended(line: &mut Line, i: u16)
     }
 }
 
-// Line i of the whole text, from 0, its newline included; no text past the last line.
+// Line i of the whole text, from 0, its newline included; no text past the last line. `size_text::size_line` has the same body. A
+// function of `line` for both would have to ask, in a `requires`, that the function handed to it may be called and what it writes, and
+// no function that another crate can call has a `requires`; a trait with that law and two impls is longer than these lines.
 #[tactic(auto, using(crate::proofs::Lines::line_ended, crate::proofs::Lines::past_last))]
 pub fn table_line(i: u16) -> Line
     ensures { result ≡ line_text i }

@@ -13,11 +13,11 @@ use Rattle.std.proofs.Common.{Option, Some, None, Result, Ok, Err}
 use Rattle.std.specs.Option.{option_flatten, IfSome}
 use Rattle.std.specs.Result.{result_ok, IfOk}
 use Rattle.frame.specs.declared.refusal.Refusal.{Refusal}
-use Rattle.frame.specs.Refusals.{numbered}
+use Rattle.frame.specs.Refusals.{numbered, refused_or}
 use Rattle.heard.specs.declared.Slot.{Slot}
 use Rattle.reader.specs.declared.Reader.{Reader}
 use Rattle.reader.specs.Reading.{following_of, read_on, records_from, records_left}
-use Rattle.reader.specs.Record.{used_in, record_slot, read_as, refused_or, record_of}
+use Rattle.reader.specs.Record.{used_in, record_slot, read_as, record_of}
 use Rattle.reader.proofs.Given.{record_read_holds, next_number}
 use Rattle.trace.specs.Trace.{header_of, parts_refusal, trace_refusal}
 

@@ -1,6 +1,6 @@
 -- The reader, which keeps a lent trace and the number of the next record together: document 02, U3.
 -- Assumes nothing.
-use Rattle.std.specs.Prelude.{ℕ, zero, suc, ◌+◌, ◌-◌, cond, List, [], ◌∷◌, Option, Some, None, Result, Ok, Err, ltb}
+use Rattle.std.specs.Prelude.{ℕ, zero, suc, ◌+◌, ◌-◌, cond, List, [], ◌∷◌, Option, Some, None, Result, Ok, Err, ◌≡◌, ltb, MatchOption}
 use Rattle.heard.specs.declared.Heard.{Heard}
 use Rattle.heard.specs.declared.Heard.TheVariants.{Nothing}
 use Rattle.heard.specs.declared.Slot.{Slot}
@@ -33,3 +33,8 @@ records_from l i (suc count) = read_on (record_of l i) (records_from l (i + 1) c
 -- The records that a reader has before it.
 unfoldable pub records_left : Reader → List Slot
 records_left r = records_from r.trace.now r.next ((header_of r.trace.now).records - r.next)
+
+-- What a reader gives as an iterator: the first of the records before it, and a reader at the record after; or none, where none is left or
+-- the next one is refused, and the reader as it was.
+abbrev pub Gives : Reader → Option Slot → Reader → Type 0
+Gives r found s = MatchOption found ((records_left r ≡ []) × (s ≡ r)) (λ t. (records_left r ≡ t ∷ records_left s) × (s.trace ≡ r.trace) × (s.next ≡ following_of r.next))

@@ -1,6 +1,7 @@
 -- A record of a trace, and what of it is used: document 02, U3, whose sentences stand above the definitions.
 -- Assumes nothing.
-use Rattle.std.specs.Prelude.{ℕ, zero, suc, ◌+◌, ◌/◌, ◌%◌, cond, List, Option, Some, None, Result, Ok, Err, eqb, ltb, leb}
+use Rattle.std.specs.Prelude.{ℕ, ◌+◌, ◌/◌, ◌%◌, cond, List, Option, Some, None, Result, Ok, Err, eqb, ltb, leb}
+use Rattle.frame.specs.Refusals.{refused_or}
 use Rattle.heard.specs.declared.Heard.{Heard}
 use Rattle.heard.specs.declared.Slot.{Slot}
 use Rattle.heard.specs.Memory.{none, heard_in}
@@ -38,11 +39,6 @@ brought_at l i = brought_by (record_slot l i)
 -- A record that is read: what of it is used, or 22 for its kind.
 unfoldable pub read_as : Slot → Result (Option Slot) ℕ
 read_as t = cond (leb t.kind 3) (Ok (Some (used_in t))) (Err 22)
-
--- A refusal, or where it is 0 what is read.
-abbrev pub refused_or : ℕ → Result (Option Slot) ℕ → Result (Option Slot) ℕ
-refused_or zero read = read
-refused_or (suc k) read = Err (suc k)
 
 -- The record of number i of any bytes: 21, or 22 for their parts; none, the end, where there are no more than i records; else record i,
 -- or 22 for its own kind.

@@ -1,6 +1,7 @@
 // The records of a trace (document 02, U3), and a reader that keeps a lent trace and the number of the next record together.
 #![tactic(auto)]
 
+mod accepted;
 mod records;
 
 ghost use Rattle.std.specs.Prelude.{◌≡◌, ◌<◌, IfOk, IfSome};
@@ -8,12 +9,13 @@ ghost use Rattle.frame.specs.Refusals.{numbered};
 ghost use Rattle.reader.specs.Reading.{following_of};
 ghost use Rattle.reader.specs.Record.{record_of};
 
+pub use accepted::Trace;
 use frame::Refusal;
 use heard::Slot;
-pub use records::record_at;
+pub use records::{heard_at, record_at};
 
 // A lent trace and the number of the next record, from 0.
-#[derive(Clone, Debug, Drop)]
+#[derive(Clone, Copy, Debug)]
 pub struct Reader<'a> {
     pub trace: &'a [u8],
     pub next: usize,
@@ -45,14 +47,14 @@ impl<'a> Reader<'a> {
     }
 }
 
-// The records from the next one on, up to the end or the first that is refused.
+// The records from the next one on, up to the end or the first that is refused: `read` tells these two apart.
 impl Iterator for Reader<'_> {
-    ghost use Rattle.std.specs.Iterator.{YieldsFirst, item_count};
-    ghost use Rattle.reader.specs.Reading.{records_left};
+    ghost use Rattle.std.specs.Iterator.{item_count};
+    ghost use Rattle.reader.specs.Reading.{records_left, Gives};
 
     type Item = Slot;
 
-    ghost next_gives = { YieldsFirst records_left };
+    ghost next_gives = { Gives };
 
     ghost remaining = { item_count records_left };
 

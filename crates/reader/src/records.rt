@@ -2,10 +2,11 @@
 ghost use Rattle.std.specs.Prelude.{◌<◌, ◌^◌, ◌≡◌, cond, leb, IfOk, IfSome};
 ghost use Rattle.frame.specs.Refusals.{refusal_in, numbered};
 ghost use Rattle.heard.specs.Kinds.{kind_number};
+ghost use Rattle.reader.specs.Reading.{heard_of};
 ghost use Rattle.reader.specs.Record.{slot_at, used_results, used_in, record_of};
 
 use frame::Refusal;
-use heard::{Slot, SlotKind};
+use heard::{Heard, Slot, SlotKind};
 
 // The four bytes from `at` on.
 #[tactic(auto, unfolding(crate::specs::Record::slot_at))]
@@ -77,7 +78,17 @@ pub fn record_at(trace: &[u8], i: usize) -> Result<Option<Slot>, Refusal>
     if header.records as usize <= i {
         return Ok(None);
     }
-    let record = slot_at(trace, header.first as usize + 4 * i);
+    let record = slot_at(trace, header.first as usize + trace::RECORD * i);
     let kind = kind_of(record)?;
     Ok(Some(used_in(kind, record)))
+}
+
+// What the record of number i brings the handset; nothing where there is none or it is refused.
+pub fn heard_at(trace: &[u8], i: usize) -> Heard
+    ensures { result ≡ heard_of (record_of trace.now i) }
+{
+    match record_at(trace, i) {
+        Ok(Some(record)) => Heard::from(record),
+        Ok(None) | Err(_) => Heard::Nothing,
+    }
 }

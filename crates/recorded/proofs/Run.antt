@@ -12,6 +12,7 @@ use lib.Dec.{eqb}
 use lib.ListN.{length, get_or, take, drop}
 use lib.Seq.{take_at, drop-append-add}
 use borrow.Author.Tests.{eq-eqb, ne_eqb}
+use Rattle.frame.specs.Refusals.{number_in}
 use Rattle.frame.specs.declared.Settings.{Settings}
 use Rattle.frame.specs.Settings.{ports_refusal, settings_refusal}
 use Rattle.frame.proofs.OnePort.{ports_fine}
@@ -27,7 +28,7 @@ use Rattle.handset.specs.Change.{change_of}
 use Rattle.handset.specs.Make.{make_of}
 use Rattle.reader.specs.Record.{brought_at}
 use Rattle.trace.specs.Trace.{header_of, settings_at, settings_of}
-use Rattle.replaying.specs.Replay.{refusal_in, brought_in, Played, after as behind, stop_or, played, played_in, start_refusal, ended_as, replay_of, written, output_of}
+use Rattle.replaying.specs.Replay.{brought_in, Played, after as behind, stop_or, played, played_in, start_refusal, ended_as, replay_of, written, output_of}
 use Rattle.replaying.specs.Written.{bytes_of}
 use Rattle.replaying.proofs.Feeds.{taken_up, grows}
 use Rattle.replaying.proofs.Brought.{brought_length, brought_at_holds}
@@ -41,10 +42,10 @@ use Rattle.recorded.specs.Run.{unless_refused, feeds_from, run_of, answer_to, by
 
 module _ (set : Settings) (good : settings_refusal set ≡ 0) where
   -- The refusal of a feed after a history is the history's cause.
-  refusal_after : (l : List Heard) → ValidPast set l → (x : Heard) → refusal_in (feed_of (unchanged set l) x).answer ≡ cause_after set l x
+  refusal_after : (l : List Heard) → ValidPast set l → (x : Heard) → number_in (feed_of (unchanged set l) x).answer ≡ cause_after set l x
   refusal_after l valid x = go (cause_after set l x) refl
     where
-      go : (k : ℕ) → cause_after set l x ≡ k → refusal_in (feed_of (unchanged set l) x).answer ≡ k
+      go : (k : ℕ) → cause_after set l x ≡ k → number_in (feed_of (unchanged set l) x).answer ≡ k
       go zero e = rw (accepted_unchanged set good l valid x e) refl
       go (suc k) e = rw (refused_unchanged set good l valid x (λ z. omega arith)) e
 
@@ -119,7 +120,7 @@ module _ (set : Settings) (good : settings_refusal set ≡ 0) where
   number_later : (h : Handset) (i : ℕ) (xs : List Heard) → ((played h i xs).refusal ≡ 0) ⊎ (i ≤ (played h i xs).number)
   unfolding played
   number_later h i [] = inl refl
-  number_later h i (x ∷ xs) = go (refusal_in (feed_of h x).answer) (number_later (feed_of h x).handset (suc i) xs)
+  number_later h i (x ∷ xs) = go (number_in (feed_of h x).answer) (number_later (feed_of h x).handset (suc i) xs)
     where
       go : (k : ℕ) → ((played (feed_of h x).handset (suc i) xs).refusal ≡ 0) ⊎ (suc i ≤ (played (feed_of h x).handset (suc i) xs).number)
           → ((stop_or k i (behind (bytes_of h.next (feed_of h x).answer) (played (feed_of h x).handset (suc i) xs))).refusal ≡ 0)
@@ -159,19 +160,19 @@ module _ (set : Settings) (good : settings_refusal set ≡ 0) where
   window_at_holds : (xs l : List Heard) → ValidPast set l → (answers : ℕ → Result Answer ℕ)
       → ((i : ℕ) → i < length (feeds_from (unchanged set l) xs)
       → answers (length l + i) ≡ (feed_of (handset_after feed_of change_of (unchanged set l) (take i (feeds_from (unchanged set l) xs))) (get_or xs i Nothing)).answer)
-      → (j : ℕ) → j < length (feeds_from (unchanged set l) xs) → refusal_in (answers (length l + j)) ≡ 0 → has_window set.config ((length l + j) % 10) ≡ true
+      → (j : ℕ) → j < length (feeds_from (unchanged set l) xs) → number_in (answers (length l + j)) ≡ 0 → has_window set.config ((length l + j) % 10) ≡ true
       → (take 8 (drop (8 * windows_before set.config (length l + j) - 8 * windows_before set.config (length l)) (played (unchanged set l) (length l) xs).bytes)
       ≡ bytes_of ((length l + j) % 10) (answers (length l + j)))
       × (length (bytes_of ((length l + j) % 10) (answers (length l + j))) ≡ 8)
   window_at_holds [] l valid answers each j h none has = absurd (not-suc-le-zero (rw (feeds_none (unchanged set l)) at h))
   window_at_holds (x ∷ xs) l valid answers each j h none has = go (cause_after set l x) refl j h none has (window_at_holds xs (x ∷ l))
     where
-      go : (k : ℕ) → cause_after set l x ≡ k → (j : ℕ) → j < length (feeds_from (unchanged set l) (x ∷ xs)) → refusal_in (answers (length l + j)) ≡ 0
+      go : (k : ℕ) → cause_after set l x ≡ k → (j : ℕ) → j < length (feeds_from (unchanged set l) (x ∷ xs)) → number_in (answers (length l + j)) ≡ 0
           → has_window set.config ((length l + j) % 10) ≡ true
           → (ValidPast set (x ∷ l) → (answers : ℕ → Result Answer ℕ)
           → ((i : ℕ) → i < length (feeds_from (unchanged set (x ∷ l)) xs)
           → answers (suc (length l) + i) ≡ (feed_of (handset_after feed_of change_of (unchanged set (x ∷ l)) (take i (feeds_from (unchanged set (x ∷ l)) xs))) (get_or xs i Nothing)).answer)
-          → (j : ℕ) → j < length (feeds_from (unchanged set (x ∷ l)) xs) → refusal_in (answers (suc (length l) + j)) ≡ 0 → has_window set.config ((suc (length l) + j) % 10) ≡ true
+          → (j : ℕ) → j < length (feeds_from (unchanged set (x ∷ l)) xs) → number_in (answers (suc (length l) + j)) ≡ 0 → has_window set.config ((suc (length l) + j) % 10) ≡ true
           → (take 8 (drop (8 * windows_before set.config (suc (length l) + j) - 8 * windows_before set.config (suc (length l))) (played (unchanged set (x ∷ l)) (suc (length l)) xs).bytes)
           ≡ bytes_of ((suc (length l) + j) % 10) (answers (suc (length l) + j)))
           × (length (bytes_of ((suc (length l) + j) % 10) (answers (suc (length l) + j))) ≡ 8))
@@ -202,7 +203,7 @@ module _ (set : Settings) (good : settings_refusal set ≡ 0) where
           ≡ length new + (8 * windows_before set.config (suc (length l) + j) - 8 * windows_before set.config (suc (length l))) = omega (arith, size, rise) in
           rw (s, plays_on x xs l valid e, d, drop-append-add new (played (unchanged set (x ∷ l)) (suc (length l)) xs).bytes _) q
       go (suc k) e zero h none has next =
-          let z : suc k ≡ 0 = sym e ∙ sym (refusal_after l valid x) ∙ sym (ap refusal_in (each 0 h)) ∙ none in
+          let z : suc k ≡ 0 = sym e ∙ sym (refusal_after l valid x) ∙ sym (ap number_in (each 0 h)) ∙ none in
           absurd (omega arith)
       go (suc k) e (suc j) h none has next = absurd (omega (arith, rw (feeds_last x xs l valid k e) at h))
 
@@ -216,7 +217,7 @@ module _ (set : Settings) (good : settings_refusal set ≡ 0) where
       item : item_at items i ≡ feed (get_or xs i Nothing)
       count : length (heard_from set l (take i items)) ≡ i
       cause : cause_in set heard (length l + i) (get_or xs i Nothing) ≡ cond (eqb (length l + i) p.number) p.refusal 0
-      refused : refusal_in (feed_of (handset_after feed_of change_of (unchanged set l) (take i items)) (get_or xs i Nothing)).answer ≡ cause_in set heard (length l + i) (get_or xs i Nothing)
+      refused : number_in (feed_of (handset_after feed_of change_of (unchanged set l) (take i items)) (get_or xs i Nothing)).answer ≡ cause_in set heard (length l + i) (get_or xs i Nothing)
 
     each : (xs l : List Heard) → ValidPast set l → Past Nothing heard l → Rest l (feeds_from (unchanged set l) xs)
         → (i : ℕ) → i < length (feeds_from (unchanged set l) xs)
@@ -257,7 +258,7 @@ module _ (set : Settings) (good : settings_refusal set ≡ 0) where
               count = rw (eq-eqb (cause_after set l x) 0 e) (ap suc q.count);
               cause = rw s q.cause;
               refused = rw s
-                  (ap (λ (f : Fed). refusal_in (feed_of (handset_after feed_of change_of f.handset (take i (feeds_from (unchanged set (x ∷ l)) xs))) (get_or xs i Nothing)).answer) (accepted_unchanged set good l valid x e)
+                  (ap (λ (f : Fed). number_in (feed_of (handset_after feed_of change_of f.handset (take i (feeds_from (unchanged set (x ∷ l)) xs))) (get_or xs i Nothing)).answer) (accepted_unchanged set good l valid x e)
                   ∙ q.refused);
             })
         go (suc k) e zero h next =
@@ -269,7 +270,7 @@ module _ (set : Settings) (good : settings_refusal set ≡ 0) where
 all_feeds : (h : Handset) (xs : List Heard) → AllFeeds (feeds_from h xs)
 unfolding feeds_from
 all_feeds h [] = tt
-all_feeds h (x ∷ xs) = go (refusal_in (feed_of h x).answer) (all_feeds (feed_of h x).handset xs)
+all_feeds h (x ∷ xs) = go (number_in (feed_of h x).answer) (all_feeds (feed_of h x).handset xs)
   where
     go : (k : ℕ) → AllFeeds (feeds_from (feed_of h x).handset xs) → AllFeeds (unless_refused k (feeds_from (feed_of h x).handset xs))
     go zero rest = rest
@@ -331,9 +332,9 @@ module _ (l : List ℕ) (good : settings_refusal (settings_of l) ≡ 0) where
   unfolding windows_before
   windows i h none has =
       let cause : cause_in set (heard_in_run set (run_of l)) (0 + i) (get_or (brought_in l) i Nothing) ≡ 0 = rw (zero-add i, records_fed i h) (rw (at i h).count at none) in
-      let taken : refusal_in (answer_to l (0 + i)) ≡ 0 =
-      ap refusal_in (answered i h)
-      ∙ ap (λ (items : List Item). refusal_in (feed_of (handset_after feed_of change_of (unchanged set []) (take i items)) (get_or (brought_in l) i Nothing)).answer) (sym run_is)
+      let taken : number_in (answer_to l (0 + i)) ≡ 0 =
+      ap number_in (answered i h)
+      ∙ ap (λ (items : List Item). number_in (feed_of (handset_after feed_of change_of (unchanged set []) (take i items)) (get_or (brought_in l) i Nothing)).answer) (sym run_is)
       ∙ (at i h).refused ∙ cause in
       let q = window_at_holds set good (brought_in l) [] tt (answer_to l) (λ i h. answered i (rw (← run_is) at h)) i (rw run_is at h) taken (rw (zero-add i) has) in
       let z : 8 * windows_before set.config i - 0 ≡ 8 * windows_before set.config i = omega arith in

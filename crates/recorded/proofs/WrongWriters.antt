@@ -46,8 +46,8 @@ use native.Mathlib.Omega.{arith}
 use lib.Dec.{eqb, ltb, lit<, lit≤}
 use lib.ListN.{length, replicate, get_or}
 use borrow.Author.Tests.{ltb-true}
+use Rattle.std.proofs.lemmas.Bool.{and_parts}
 use Rattle.frame.specs.declared.Settings.{Settings}
-use Rattle.frame.proofs.Bools.{both}
 use Rattle.heard.specs.declared.Heard.{Heard}
 use Rattle.heard.specs.declared.Slot.{Slot}
 use Rattle.heard.specs.Memory.{slot_of, none}
@@ -224,8 +224,8 @@ under (x ∷ l) = ltb x 256 && under l
 
 under_bytes : (l : List ℕ) → under l ≡ true → Bytes l
 under_bytes [] e i = lit< tt
-under_bytes (x ∷ l) e zero = ltb-true x 256 (both (ltb x 256) (under l) e).0
-under_bytes (x ∷ l) e (suc i) = under_bytes l (both (ltb x 256) (under l) e).1 i
+under_bytes (x ∷ l) e zero = ltb-true x 256 (and_parts (ltb x 256) (under l) e).0
+under_bytes (x ∷ l) e (suc i) = under_bytes l (and_parts (ltb x 256) (under l) e).1 i
 
 block_bytes : Bytes block
 block_bytes = under_bytes block refl

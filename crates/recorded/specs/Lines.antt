@@ -1,9 +1,8 @@
 -- What the program `replay-text` prints of a recorded drive, said of the run: a line names the frame and the subframe in which its
 -- window was answered, and what was answered there.
 -- Assumes nothing.
-use Rattle.std.specs.Prelude.{Result, Ok, Err, ℕ, ◌/◌, ◌%◌, ◌<◌, true, List, [], ◌≡◌, length}
+use Rattle.std.specs.Prelude.{Some, None, Result, Ok, Err, ℕ, ◌/◌, ◌%◌, ◌<◌, true, List, [], ◌≡◌, length}
 use Rattle.counting.specs.Windows.{has_window, windows_before}
-use Rattle.reply.specs.Kinds.{kind_number}
 use Rattle.reply.specs.declared.Answer.{Answer}
 use Rattle.reply.specs.declared.Answer.TheVariants.{Taken, NoWindow, Silent, Sent}
 use Rattle.trace.specs.Trace.{settings_of}
@@ -15,8 +14,8 @@ use Rattle.recorded.specs.Run.{run_of, answer_to}
 
 -- The line of what subframe i was answered.
 abbrev pub answer_line : ℕ → Result Answer ℕ → List ℕ
-answer_line i (Ok Silent) = line_text (i / 10) (i % 10) 0 0 0 0
-answer_line i (Ok (Sent r)) = line_text (i / 10) (i % 10) (kind_number r.kind) r.resource.0 r.b0 r.b1
+answer_line i (Ok Silent) = line_text (i / 10) (i % 10) None 0 0 0
+answer_line i (Ok (Sent r)) = line_text (i / 10) (i % 10) (Some r.kind) r.resource.0 r.b0 r.b1
 answer_line i (Ok Taken) = []
 answer_line i (Ok NoWindow) = []
 answer_line i (Err k) = []

@@ -2,6 +2,7 @@
 -- run it says of what a replay prints.
 -- Assumes nothing.
 use Rattle.std.specs.Prelude.{Result, ℕ, zero, suc, ◌*◌, ◌%◌, ◌<◌, true, cond, List, [], ◌∷◌, ◌++◌, ◌≡◌, eqb, length, take, drop}
+use Rattle.frame.specs.Refusals.{number_in}
 use Rattle.frame.specs.Settings.{ports_refusal}
 use Rattle.counting.specs.Windows.{has_window, windows_before}
 use Rattle.confirmation.specs.declared.Send.{Send}
@@ -12,7 +13,7 @@ use Rattle.handset.specs.Feed.{feed_of}
 use Rattle.handset.specs.Make.{make_of}
 use Rattle.reader.specs.Record.{brought_at}
 use Rattle.trace.specs.Trace.{header_of, settings_of}
-use Rattle.replaying.specs.Replay.{refusal_in, brought_in, played_in, start_refusal, ended_as, replay_of, written, output_of}
+use Rattle.replaying.specs.Replay.{brought_in, played_in, start_refusal, ended_as, replay_of, written, output_of}
 use Rattle.replaying.specs.Written.{bytes_of}
 use Rattle.spelling.specs.OneSpelling.{trace_writer, Writes, bytes_written}
 use Rattle.agreement.specs.Demand3.{feedback_engine, fed_at, IsFeed, cause_at, HoldsAfter}
@@ -26,7 +27,7 @@ unless_refused (suc k) items = []
 -- The feeds that a replay makes, the refused one included.
 unfoldable pub feeds_from : Handset → List Heard → List Item
 feeds_from h [] = []
-feeds_from h (x ∷ xs) = feed x ∷ unless_refused (refusal_in (feed_of h x).answer) (feeds_from (feed_of h x).handset xs)
+feeds_from h (x ∷ xs) = feed x ∷ unless_refused (number_in (feed_of h x).answer) (feeds_from (feed_of h x).handset xs)
 
 unfoldable pub run_of : List ℕ → List Item
 run_of l = feeds_from (make_of (settings_of l)).handset (brought_in l)

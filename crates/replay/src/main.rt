@@ -10,7 +10,7 @@ fn main(rt: HostRuntime) -> io::Result<()> {
     let n = reading::read_full(&mut rt.stdin(), &mut input)?;
     let mut out = [0u8; 65536];
     let replayed = replaying::replay(&input[..n], &mut out);
-    let size = 8 * replayed.windows as usize;
+    let size = replaying::WINDOW * replayed.windows as usize;
     rt.stdout().write_all(&out[..size])?;
     if let Err(stop) = replayed.end {
         rt.stderr()

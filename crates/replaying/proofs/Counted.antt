@@ -5,6 +5,7 @@ use mathlib.Core.Path.{◌≡◌, refl, sym, ap, subst, ◌∙◌}
 use native.Mathlib.Nat.{add-zero, zero-add}
 use native.Mathlib.Omega.{arith}
 use lib.ListN.{length, length-append}
+use Rattle.frame.specs.Refusals.{number_in}
 use Rattle.frame.specs.declared.Settings.{Settings}
 use Rattle.counting.specs.Windows.{windows_before}
 use Rattle.counting.proofs.Frames.{windows_rise}
@@ -14,7 +15,7 @@ use Rattle.handset.specs.Feed.{feed_of}
 use Rattle.handset.specs.Make.{fresh, make_of}
 use Rattle.trace.specs.Trace.{header_of, settings_of}
 use Rattle.replaying.specs.Counts.{WindowsCounted}
-use Rattle.replaying.specs.Replay.{refusal_in, brought_in, Played, after, stop_or, played, played_in, output_needed}
+use Rattle.replaying.specs.Replay.{brought_in, Played, after, stop_or, played, played_in, output_needed}
 use Rattle.replaying.specs.Written.{bytes_of}
 use Rattle.replaying.proofs.Brought.{brought_length}
 use Rattle.replaying.proofs.Feeds.{taken_up, grows}
@@ -29,9 +30,9 @@ counted_from : (xs : List Heard) (h : Handset) (i : ℕ) → h.next ≡ i % 10
     → CountedFrom h.settings.config i (length xs) (played h i xs)
 unfolding played
 counted_from [] h i e = record { all = λ z. rw (add-zero i) (omega arith); stopped = λ some. absurd (some refl); most = rw (add-zero i) (omega arith) }
-counted_from (x ∷ xs) h i e = go (refusal_in (feed_of h x).answer) refl (counted_from xs (feed_of h x).handset (suc i))
+counted_from (x ∷ xs) h i e = go (number_in (feed_of h x).answer) refl (counted_from xs (feed_of h x).handset (suc i))
   where
-    go : (k : ℕ) → refusal_in (feed_of h x).answer ≡ k
+    go : (k : ℕ) → number_in (feed_of h x).answer ≡ k
         → ((feed_of h x).handset.next ≡ suc i % 10
         → CountedFrom (feed_of h x).handset.settings.config (suc i) (length xs) (played (feed_of h x).handset (suc i) xs))
         → CountedFrom h.settings.config i (suc (length xs)) (stop_or k i (after (bytes_of h.next (feed_of h x).answer) (played (feed_of h x).handset (suc i) xs)))

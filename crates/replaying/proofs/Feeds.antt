@@ -11,6 +11,7 @@ use lib.ListN.{length}
 use borrow.Author.Tests.{eqb-false}
 use Rattle.frame.specs.declared.Settings.{Settings}
 use Rattle.frame.specs.Layout.{downlink}
+use Rattle.frame.specs.Refusals.{number_in}
 use Rattle.frame.specs.Table.{window_of}
 use Rattle.frame.proofs.Bools.{either}
 use Rattle.frame.proofs.Windows.{window_uplink}
@@ -25,7 +26,6 @@ use Rattle.reply.proofs.Answered.{Answered, Told, window_answered}
 use Rattle.handset.specs.declared.Handset.{Handset}
 use Rattle.handset.specs.Feed.{answer_of, window_settings, next_answer, pushed, feed_refusal, fed_as, feed_of}
 use Rattle.handset.proofs.Told.{answer_told}
-use Rattle.replaying.specs.Replay.{refusal_in}
 use Rattle.replaying.specs.Written.{window_bytes, answer_bytes, bytes_of, FitsBytes}
 
 -- How many bytes the answer to a subframe gives, and that it goes into bytes.
@@ -74,14 +74,14 @@ pub record TakenUp (h : Handset) (x : Heard) : Type 0 where
   pub next : (feed_of h x).handset.next ≡ (h.next + 1) % 10
   pub gives : Gives h.settings.config h.next (feed_of h x).answer
 
-taken_as : (k : ℕ) (h : Handset) (x : Heard) → k ≡ feed_refusal h x → refusal_in (fed_as k h x).answer ≡ 0 → TakenUp h x
+taken_as : (k : ℕ) (h : Handset) (x : Heard) → k ≡ feed_refusal h x → number_in (fed_as k h x).answer ≡ 0 → TakenUp h x
 unfolding feed_of window_settings next_answer pushed
 taken_as zero h x e none =
     let g = gives (window_settings h) h.next (view_ago h.past) in
     record { settings = rw (← e); next = rw (← e); gives = rw (← e) g }
 taken_as (suc k) h x e none = absurd (omega arith)
 
-pub taken_up : (h : Handset) (x : Heard) → refusal_in (feed_of h x).answer ≡ 0 → TakenUp h x
+pub taken_up : (h : Handset) (x : Heard) → number_in (feed_of h x).answer ≡ 0 → TakenUp h x
 unfolding feed_of
 taken_up h x none = taken_as (feed_refusal h x) h x refl none
 

@@ -17,8 +17,10 @@ use Rattle.frame.proofs.Refused.{from_one}
 use Rattle.handset.specs.declared.Handset.{Handset}
 use Rattle.handset.specs.Make.{Made, fresh, made_as, make_of}
 use Rattle.trace.specs.Trace.{header_of, settings_of, trace_refusal}
+use Rattle.reader.specs.declared.accepted.Trace.{Trace}
 use Rattle.replaying.specs.declared.Outcome.{Outcome}
 use Rattle.replaying.specs.declared.stop.Stop.TheVariants.{Refused}
+use Rattle.replaying.specs.declared.windows.Windows.{Windows}
 use Rattle.replaying.specs.Ended.{replayed_by}
 use Rattle.replaying.specs.Ready.{Ready}
 use Rattle.replaying.specs.Replay.{Replayed, brought_in, played, played_in, output_needed, start_refusal, ended_as, replay_of, written, output_of}
@@ -52,14 +54,16 @@ module _ (l old : List ℕ) where
   refused_before r e = let one = from_one r in rw (← e, one.1) (refl, (refl, omega arith))
 
   module _ (none : 0 ≡ start_refusal l (length old)) where
-    -- Nothing is refused: the trace is in order, the handset is fresh, and the output has room.
-    pub ready : Ready l (header_of l).records (make_of (settings_of l)).handset old
+    -- Nothing is refused: the handset is fresh, and the output has room.
+    pub ready : (trace : Trace) → trace.bytes.now ≡ l → (w : Windows) → w.out.now ≡ old → w.written ≡ 0
+        → Ready trace (make_of (settings_of l)).handset w
     unfolding start_refusal make_of fresh output_needed
-    ready =
+    ready trace lent w same unwritten =
         let parts = neither (trace_refusal l) _ (sym none) in
         let rest = neither (settings_refusal (settings_of l)) _ parts.1 in
         let room = ltb-false (length old) (output_needed l) (unmet _ 22 0 rest.1).0 in
-        record { trace = parts.0; all = refl; begins = rw rest.0; room = rw rest.0 room }
+        let all = trace.counted ∙ ap (λ (b : List ℕ). (header_of b).records) lent in
+        record { begins = rw rest.0; none = unwritten; room = rw (rest.0, all, same) room }
 
     pub played_on : (o : Outcome) (new : List ℕ) → replayed_by o ≡ ended_as (played (make_of (settings_of l)).handset 0 (brought_in l))
         → new ≡ written (played (make_of (settings_of l)).handset 0 (brought_in l)).bytes old → Right o new

@@ -1,17 +1,16 @@
--- A loop over the records of a trace that is not refused, `for (number, record) in (0..records).zip(Reader::new(trace))`: the reader gives
--- record after record, and has none left when all were counted. Assumes nothing.
+-- A loop over the records of a trace that is accepted, `for (number, record) in trace.numbered()`: the reader gives record after record,
+-- and has none left when all were counted. Assumes nothing.
 use Prim.Native.Nat.{ℕ, ◌+◌, ◌-◌, ◌<◌}
-use mathlib.Core.List.{List, [], ◌∷◌}
 use mathlib.Core.Logic.{◌⊎◌, inl, inr}
-use mathlib.Core.Path.{◌≡◌, refl, ◌∙◌}
+use mathlib.Core.Path.{◌≡◌, refl, ap, ◌∙◌}
 use native.Mathlib.Omega.{arith}
-use Rattle.std.proofs.Common.{Option, Some, None}
+use Rattle.std.proofs.Common.{Bor, List, Option, Some, None}
 use Rattle.std.specs.Range.{range_steps}
 use Rattle.std.specs.declared.ops.Range.{Range}
 use Rattle.heard.specs.declared.Slot.{Slot}
-use Rattle.trace.specs.Trace.{header_of, trace_refusal}
 use Rattle.reader.specs.declared.Reader.{Reader}
-use Rattle.reader.specs.Reading.{records_left}
+use Rattle.reader.specs.declared.accepted.Trace.{Trace}
+use Rattle.reader.specs.Reading.{Gives}
 use Rattle.reader.specs.Record.{used_in, record_slot}
 use Rattle.reader.proofs.Left as reading
 
@@ -19,39 +18,42 @@ use Rattle.reader.proofs.Left as reading
 abbrev pub Counts : Range ℕ → Option ℕ → Range ℕ → Type 0
 Counts = range_steps (λ from to. to - from) (λ i next. next ≡ i + 1)
 
-module _ (l : List ℕ) (records : ℕ) where
+module _ (trace : Trace) where
   -- Before record `numbers.start`.
   pub record Before (numbers : Range ℕ) (reader : Reader) : Type 0 where
-    pub end : numbers.end ≡ records
-    pub reads : reading.Before l records numbers.start reader
+    pub end : numbers.end ≡ trace.records
+    pub reads : reading.Before trace.bytes.now trace.records numbers.start reader
 
   -- A turn: the record's number, and as much of it as is used.
   pub record Turn (numbers after : Range ℕ) (number : ℕ) (t : Slot) (reader : Reader) : Type 0 where
-    pub inside : numbers.start < records
+    pub inside : numbers.start < trace.records
     pub same : number ≡ numbers.start
     pub on : after.start ≡ numbers.start + 1
-    pub read : t ≡ used_in (record_slot l numbers.start)
+    pub read : t ≡ used_in (record_slot trace.bytes.now numbers.start)
     pub before : Before after reader
 
-  module _ (accepted : trace_refusal l ≡ 0) (all : records ≡ (header_of l).records) where
-    pub starts : (reader : Reader) → reader.trace.now ≡ l → reader.next ≡ 0 → Before (record { start = 0; end = records }) reader
-    starts reader same first = record { end = refl; reads = reading.starts l records accepted all reader same first }
+  pub starts : (reader : Reader) → reader.trace ≡ trace.bytes → reader.next ≡ 0 → Before (record { start = 0; end = trace.records }) reader
+  starts reader same first =
+      record {
+        end = refl;
+        reads = reading.starts trace.bytes.now trace.records trace.accepted trace.counted reader (ap (λ (b : Bor (List ℕ)). b.now) same) first;
+      }
 
-    module _ (numbers : Range ℕ) (reader : Reader) (p : Before numbers reader) where
-      pub turn : (number : ℕ) (t : Slot) (after : Range ℕ) (then : Reader) → Counts numbers (Some number) after × (records_left reader ≡ t ∷ records_left then)
-          → Turn numbers after number t then
-      turn number t after then step =
-          let inside : numbers.start < records = omega (arith, step.0.1.0, p.end) in
-          let this = reading.turn l records accepted all numbers.start reader p.reads t then inside step.1 in
-          record {
-            inside = inside;
-            same = step.0.1.1;
-            on = step.0.1.2;
-            read = this.0;
-            before = record { end = step.0.0 ∙ p.end; reads = rw step.0.1.2 this.1 };
-          }
+  module _ (numbers : Range ℕ) (reader : Reader) (p : Before numbers reader) where
+    pub turn : (number : ℕ) (t : Slot) (after : Range ℕ) (then : Reader) → Counts numbers (Some number) after × Gives reader (Some t) then
+        → Turn numbers after number t then
+    turn number t after then step =
+        let inside : numbers.start < trace.records = omega (arith, step.0.1.0, p.end) in
+        let this = reading.turn trace.bytes.now trace.records trace.accepted trace.counted numbers.start reader p.reads t then inside step.1.0 in
+        record {
+          inside = inside;
+          same = step.0.1.1;
+          on = step.0.1.2;
+          read = this.0;
+          before = record { end = step.0.0 ∙ p.end; reads = rw step.0.1.2 this.1 };
+        }
 
-      -- Where the count or the reader ends, all were given.
-      pub done : ((after : Range ℕ) × Counts numbers None after) ⊎ ((then : Reader) × ((records_left reader ≡ []) × (records_left then ≡ []))) → numbers.start ≡ records
-      done (inl (after, step)) = omega (arith, step.1.0, p.end, p.reads.count)
-      done (inr (then, none)) = reading.all_read l records accepted all numbers.start reader p.reads (inr none.0)
+    -- Where the count or the reader ends, all were given.
+    pub done : ((after : Range ℕ) × Counts numbers None after) ⊎ ((then : Reader) × Gives reader None then) → numbers.start ≡ trace.records
+    done (inl (after, step)) = omega (arith, step.1.0, p.end, p.reads.count)
+    done (inr (then, none)) = reading.all_read trace.bytes.now trace.records trace.accepted trace.counted numbers.start reader p.reads (inr none.0)

@@ -1,6 +1,6 @@
 -- How a replay ends, in the code's terms, and the numbers that say so (specs/Replay.antt). The writing of a trace ends by the same.
 -- Assumes nothing.
-use Rattle.std.specs.Prelude.{ℕ, ◌≡◌, Result, Ok, Err}
+use Rattle.std.specs.Prelude.{ℕ, ◌≡◌, Option, Some, None, Result, Ok, Err}
 use Rattle.frame.specs.declared.refusal.Refusal.{Refusal}
 use Rattle.frame.specs.Refusals.{number_of}
 use Rattle.reply.specs.declared.Answer.{Answer}
@@ -14,12 +14,17 @@ abbrev pub stop_refusal : Stop → ℕ
 stop_refusal (Refused r) = number_of r
 stop_refusal (AtRecord r number) = number_of r
 
--- The kind: refused before any record, or stopped at a record.
+-- The kind: refused, and by no record, or stopped at a record.
 abbrev pub stop_kind : Stop → ℕ
 stop_kind (Refused r) = replay_refused
 stop_kind (AtRecord r number) = replay_stopped
 
--- The number of the record that was refused, 0 for none.
+-- The record that was refused.
+abbrev pub stopped_at : Stop → Option ℕ
+stopped_at (Refused r) = None
+stopped_at (AtRecord r number) = Some number
+
+-- Its number, 0 for none.
 abbrev pub stop_record : Stop → ℕ
 stop_record (Refused r) = 0
 stop_record (AtRecord r number) = number

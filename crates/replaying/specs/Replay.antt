@@ -1,21 +1,16 @@
 -- The replay of a trace: document 02, U3, whose sentences stand above the definitions.
 -- Assumes nothing.
-use Rattle.std.specs.Prelude.{Result, Ok, Err, ℕ, zero, suc, ◌*◌, ◌/◌, cond, List, [], ◌∷◌, ◌++◌, eqb, ltb, length, drop}
+use Rattle.std.specs.Prelude.{ℕ, zero, suc, ◌*◌, ◌/◌, cond, List, [], ◌∷◌, ◌++◌, eqb, ltb, length, drop}
+use Rattle.frame.specs.Refusals.{number_in}
 use Rattle.frame.specs.Settings.{or_else}
 use Rattle.counting.specs.Windows.{windows_before}
 use Rattle.heard.specs.declared.Heard.{Heard}
-use Rattle.reply.specs.declared.Answer.{Answer}
 use Rattle.handset.specs.declared.Handset.{Handset}
 use Rattle.handset.specs.Feed.{feed_of}
 use Rattle.handset.specs.Make.{make_of}
 use Rattle.reader.specs.Record.{brought_at}
 use Rattle.trace.specs.Trace.{header_of, settings_of, trace_refusal}
 use Rattle.replaying.specs.Written.{bytes_of}
-
--- The refusal of an answer, 0 for none.
-abbrev pub refusal_in : Result Answer ℕ → ℕ
-refusal_in (Ok a) = 0
-refusal_in (Err k) = k
 
 -- What the records bring, from record i on, `count` of them.
 abbrev pub brought_from : List ℕ → ℕ → ℕ → List Heard
@@ -46,7 +41,7 @@ stop_or (suc k) i next = record { refusal = suc k; number = i; bytes = [] }
 unfoldable pub played : Handset → ℕ → List Heard → Played
 played h i [] = record { refusal = 0; number = 0; bytes = [] }
 played h i (x ∷ xs) =
-    stop_or (refusal_in (feed_of h x).answer) i
+    stop_or (number_in (feed_of h x).answer) i
     (after (bytes_of h.next (feed_of h x).answer) (played (feed_of h x).handset (suc i) xs))
 
 -- The feeds of a trace: a handset made from its settings, then its records.

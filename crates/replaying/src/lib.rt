@@ -18,9 +18,10 @@ ghost use Rattle.replaying.specs.Replay.{brought_in, played, start_refusal, ende
 pub use feeding::feed_record;
 use frame::Refusal;
 use handset::Handset;
-use reader::Reader;
+use reader::Trace;
 pub use stop::Stop;
-use windows::put_answer;
+pub use windows::WINDOW;
+use windows::Windows;
 
 // What a replay comes to: how many windows were written, and whether it ran to its end.
 #[derive(Clone, Copy, Debug, PartialEq, Eq)]
@@ -29,56 +30,46 @@ pub struct Outcome {
     pub end: Result<(), Stop>,
 }
 
-// The handset that the records of a trace are fed to; 21, 22, then the refusals of making one.
+// A trace that is accepted and the handset that its records are fed to; 21, 22, then the refusals of making one.
 #[tactic(auto, using(frame::proofs::Refused::first_refused, frame::proofs::Refused::first_accepted, crate::proofs::Starts::made_refusal, crate::proofs::Starts::made_handset))]
-pub fn handset_of(trace: &[u8]) -> Result<Handset, Refusal>
+pub fn begin(trace: &[u8]) -> Result<(Trace<'_>, Handset), Refusal>
     ensures refusal { refusal_in result ≡ or_else (trace_refusal trace.now) (make_of (settings_of trace.now)).refusal }
-    ensures made { IfOk result (λ h. h ≡ (make_of (settings_of trace.now)).handset) }
+    ensures made { IfOk result (λ begun. (begun.0.bytes ≡ trace.entry) × (begun.1 ≡ (make_of (settings_of trace.now)).handset)) }
 {
-    trace::check_trace(trace)?;
-    Handset::new(trace::settings_of(trace))
+    let trace = Trace::new(trace)?;
+    let handset = Handset::new(trace.settings())?;
+    Ok((trace, handset))
 }
 
 // The same before a replay: 23 then for an output of fewer bytes than the windows need that all records complete.
 #[tactic(auto, using(frame::proofs::Refused::first_refused, frame::proofs::Refused::first_accepted, crate::proofs::Starts::start_as), unfolding(crate::specs::Replay::output_needed))]
-fn start(trace: &[u8], room: usize) -> Result<Handset, Refusal>
+fn start(trace: &[u8], room: usize) -> Result<(Trace<'_>, Handset), Refusal>
     ensures refusal { refusal_in result ≡ start_refusal trace.now room }
-    ensures made { IfOk result (λ h. h ≡ (make_of (settings_of trace.now)).handset) }
+    ensures made { IfOk result (λ begun. (begun.0.bytes ≡ trace.entry) × (begun.1 ≡ (make_of (settings_of trace.now)).handset)) }
 {
-    let handset = handset_of(trace)?;
-    let records = trace::header_of(trace).records;
-    let windows = counting::windows_before(trace::settings_of(trace).config, records) as usize;
-    if room < 8 * windows {
+    let (trace, handset) = begin(trace)?;
+    let windows = counting::windows_before(trace.settings().config, trace.records) as usize;
+    if room < WINDOW * windows {
         return Err(Refusal::Output);
     }
-    Ok(handset)
+    Ok((trace, handset))
 }
 
-// Feeds the records one by one, as a reader gives them, to a fresh handset, up to the first refusal. Whatever a record brings, and
-// whatever the trace has become, a subframe writes eight bytes or none by the handset's settings and number alone, and no more records
-// are fed than were counted, so nothing is written outside.
-fn play(trace: &[u8], records: u16, mut handset: Handset, out: &mut [u8]) -> Outcome
-    requires { Ready trace.now records handset out.old }
-    ensures value { replayed_by result ≡ ended_as (played handset 0 (brought_in trace.now)) }
-    ensures out_after { out.new ≡ written (played handset 0 (brought_in trace.now)).bytes out.old }
+// Feeds the records one by one to a fresh handset, up to the first refusal. Whatever a record brings, and whatever the trace has
+// become, a subframe writes eight bytes or none by the handset's settings and number alone, and no more records are fed than were
+// counted, so nothing is written outside.
+fn play(trace: Trace, mut handset: Handset, windows: &mut Windows) -> Result<(), Stop>
+    requires { Ready trace handset windows.old }
+    ensures same_reference { windows.new.out.ghost_name ≡ windows.old.out.ghost_name }
+    ensures value { replayed_by (record { windows = windows.new.written; end = result }) ≡ ended_as (played handset 0 (brought_in trace.entry.bytes.now)) }
+    ensures out_after { windows.new.out.now ≡ written (played handset 0 (brought_in trace.entry.bytes.now)).bytes windows.old.out.now }
 {
-    let mut windows = 0;
-    for (number, record) in (0..records).zip(Reader::new(trace)) {
+    for (number, record) in trace.numbered() {
         let n = handset.next;
-        match feed_record(&mut handset, number, record) {
-            Ok(answer) => windows = put_answer(out, windows, n, answer),
-            Err(stop) => {
-                return Outcome {
-                    windows,
-                    end: Err(stop),
-                };
-            }
-        }
+        let answer = feed_record(&mut handset, number, record)?;
+        windows.push(n, answer);
     }
-    Outcome {
-        windows,
-        end: Ok(()),
-    }
+    Ok(())
 }
 
 // The replay of any bytes into any output.
@@ -89,7 +80,14 @@ pub fn replay(trace: &[u8], out: &mut [u8]) -> Outcome
     ensures windows_in_bounds { 8 * result.windows ≤ length out.new }
 {
     match start(trace, out.len()) {
-        Ok(handset) => play(trace, trace::header_of(trace).records, handset, out),
+        Ok((trace, handset)) => {
+            let mut windows = Windows::new(out);
+            let end = play(trace, handset, &mut windows);
+            Outcome {
+                windows: windows.written,
+                end,
+            }
+        }
         Err(refusal) => Outcome {
             windows: 0,
             end: Err(Stop::Refused(refusal)),

@@ -4,9 +4,12 @@ ghost use Rattle.replaying.specs.Written.{answer_bytes, given, put_at, FitsBytes
 
 use reply::Answer;
 
+// The bytes of a window.
+pub const WINDOW: usize = 8;
+
 // The eight bytes of a window, from the answer at subframe n: n, kind, resource in two, b0, b1, two zeros; none without a window.
 #[tactic(auto, unfolding(crate::specs::Written::window_bytes))]
-fn window_bytes(n: u16, answer: Answer) -> Option<[u8; 8]>
+fn window_bytes(n: u16, answer: Answer) -> Option<[u8; WINDOW]>
     requires { (n ≤ 255) × FitsBytes answer }
     ensures { given result ≡ answer_bytes n answer }
 {
@@ -29,18 +32,37 @@ fn window_bytes(n: u16, answer: Answer) -> Option<[u8; 8]>
     }
 }
 
-// Writes what the answer at subframe n gives behind as many windows, and says how many there are then.
-pub fn put_answer(out: &mut [u8], windows: u16, n: u16, answer: Answer) -> u16
-    requires n_bound { (n ≤ 255) × FitsBytes answer }
-    requires windows_bound { windows < 65535 }
-    requires answer_in_bounds { 8 * windows + length (answer_bytes n answer) ≤ length out.old }
-    ensures value { 8 * result ≡ 8 * windows + length (answer_bytes n answer) }
-    ensures out_after { out.new ≡ put_at (8 * windows) (answer_bytes n answer) out.old }
-{
-    let Some(bytes) = window_bytes(n, answer) else {
-        return windows;
-    };
-    let at = 8 * windows as usize;
-    out[at..at + 8].copy_from_slice(&bytes);
-    windows + 1
+// An output, and how many windows are written in it. `chunks_exact_mut` is no substitute for the place that `push` counts: when it is
+// done, a proof knows the output's length and not its bytes.
+#[derive(Drop)]
+pub(crate) struct Windows<'a> {
+    out: &'a mut [u8],
+    pub(crate) written: u16,
+}
+
+impl<'a> Windows<'a> {
+    // An output with no window written.
+    pub(crate) fn new(out: &'a mut [u8]) -> Windows<'a>
+        ensures same_reference { result.out.ghost_name ≡ out.entry.ghost_name }
+        ensures same { result.out.now ≡ out.old }
+        ensures none { result.written ≡ 0 }
+    {
+        Windows { out, written: 0 }
+    }
+
+    // Writes what the answer at subframe n gives behind the windows that are written.
+    pub(crate) fn push(&mut self, n: u16, answer: Answer)
+        requires n_bound { (n ≤ 255) × FitsBytes answer }
+        requires windows_bound { self.old.written < 65535 }
+        requires answer_in_bounds { 8 * self.old.written + length (answer_bytes n answer) ≤ length self.old.out.now }
+        ensures same_reference { self.new.out.ghost_name ≡ self.old.out.ghost_name }
+        ensures value { 8 * self.new.written ≡ 8 * self.old.written + length (answer_bytes n answer) }
+        ensures out_after { self.new.out.now ≡ put_at (8 * self.old.written) (answer_bytes n answer) self.old.out.now }
+    {
+        if let Some(bytes) = window_bytes(n, answer) {
+            let at = WINDOW * self.written as usize;
+            self.out[at..at + WINDOW].copy_from_slice(&bytes);
+            self.written += 1;
+        }
+    }
 }

@@ -25,7 +25,7 @@ use Rattle.reply.specs.Replies.{reply_on, miss_shown, lone_answer, window_state,
 
 -- A reply's second resource is that of the second port.
 abbrev Carries : Settings → Answer → Type 0
-Carries s (Sent r) = r.second.0 ≡ second_port s r.resource.0
+Carries s (Sent r) = r.second ≡ second_port s r.resource.0
 Carries s Silent = Unit {0}
 Carries s Taken = Unit {0}
 Carries s NoWindow = Unit {0}
@@ -54,5 +54,5 @@ module _ (s : Settings) where
       either (Carries s) (eqb (length ks) 0) _ _ tt
       (either (Carries s) (bundles s (length ks)) _ _ (bundled_carries n (seen_of view ks)) (symbol_carries n view ks (symbol_of (window_state view ks))))
 
-  pub second_carried : (n : ℕ) (view : ℕ → View) (r : Reply) → window_answer s n view ≡ Sent r → r.second.0 ≡ second_port s r.resource.0
+  pub second_carried : (n : ℕ) (view : ℕ → View) (r : Reply) → window_answer s n view ≡ Sent r → r.second ≡ second_port s r.resource.0
   second_carried n view r e = subst (Carries s) e (window_carries n view)

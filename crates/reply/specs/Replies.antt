@@ -1,7 +1,7 @@
 -- The reply of a window: document 01, "The bundled reply" and "The multiplexed reply"; document 02, U1 and U9. The settings' mode is
 -- the mode that the window is answered in.
 -- Assumes nothing.
-use Rattle.std.specs.Prelude.{Option, Some, None, Result, Ok, Err, ℕ, ◌+◌, ◌-◌, ◌%◌, Bool, cond, not, ◌&&◌, List, map, eqb, length, get_or}
+use Rattle.std.specs.Prelude.{Option, Some, None, Result, Ok, Err, ℕ, Bool, cond, not, ◌&&◌, List, map, eqb, length, get_or}
 use Rattle.resource.specs.declared.Resource.{Resource}
 use Rattle.frame.specs.declared.Settings.{Settings}
 use Rattle.frame.specs.Settings.{bundles}
@@ -18,7 +18,7 @@ use Rattle.reply.specs.declared.Answer.TheVariants.{NoWindow, Silent, Sent}
 use Rattle.fold.specs.declared.Seen.{Seen}
 use Rattle.heard.specs.declared.View.{View}
 use Rattle.heard.specs.declared.View.TheVariants.{Unheard, Pdcch, Block}
-use Rattle.fold.specs.Fold.{seen_of}
+use Rattle.fold.specs.Fold.{expected, seen_of}
 use Rattle.heard.specs.Memory.{bit}
 use Rattle.reply.specs.Kinds.{kind_bundled, kind_multiplexed}
 
@@ -27,12 +27,8 @@ use Rattle.reply.specs.Kinds.{kind_bundled, kind_multiplexed}
 -- no state that 8 accepts comes to (handset/proofs/Silences.antt).
 unfoldable pub reply_on : Settings → ReplyKind → Result Resource ℕ → ℕ → ℕ → Answer
 reply_on s kind (Ok r) b0 b1 =
-    Sent (record { kind = kind; resource = r; b0 = b0; b1 = b1; second = record { 0 = second_port s r.0 } })
+    Sent (record { kind = kind; resource = r; b0 = b0; b1 = b1; second = second_port s r.0 })
 reply_on s kind (Err k) b0 b1 = Silent
-
--- The DAI that the last of U PDCCHs has where none was missed: ((U − 1) mod 4) + 1.
-unfoldable pub expected : ℕ → ℕ
-expected u = (u - 1) % 4 + 1
 
 -- A miss is shown: configurations 1 to 6 with V unequal to the expected value. Configuration 0 doesn't read the DAI.
 unfoldable pub miss_shown : Settings → Seen → Bool

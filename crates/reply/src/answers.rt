@@ -1,17 +1,17 @@
 // The reply of a window (document 01, "The bundled reply" and "The multiplexed reply"; document 02, U1 and U9).
 ghost use Rattle.std.specs.Prelude.{◌≡◌, ◌≤◌, cond, ◌&&◌};
 ghost use Rattle.frame.specs.Refusals.{numbered};
-ghost use Rattle.frame.specs.Table.{window_of};
 ghost use Rattle.symbols.specs.declared.State.TheVariants.{Ack, Nack};
 ghost use Rattle.symbols.specs.Coded.{state_digit, code_of};
-ghost use Rattle.heard.specs.Memory.{view_ago};
+ghost use Rattle.heard.specs.Memory.{bit, ks_in, views_in};
+ghost use Rattle.reply.specs.Kinds.{kind_bundled};
 ghost use Rattle.reply.specs.Replies.{reply_on, miss_shown, second_bit, on_scheduled, lone_answer, bundled_answer};
 ghost use Rattle.reply.specs.Replies.{state_of, carrier_of, window_state, multiplexed_answer, window_answer};
 
 use crate::{Answer, Reply, ReplyKind};
-use fold::{Seen, seen_in};
+use fold::Seen;
 use frame::{Refusal, Settings};
-use heard::{Slot, View, view_in};
+use heard::{Memory, View};
 use resource::{Cce, Resource};
 use symbols::State;
 
@@ -39,12 +39,11 @@ fn reply_on(
 }
 
 // A miss is shown by V: it is not the DAI that the last of U PDCCHs has where none was missed.
-#[tactic(auto, unfolding(crate::specs::Replies::miss_shown, crate::specs::Replies::expected))]
+#[tactic(auto, unfolding(crate::specs::Replies::miss_shown))]
 fn miss_shown(s: Settings, seen: Seen) -> bool
-    requires { 1 ≤ seen.u }
     ensures { result ≡ miss_shown s seen }
 {
-    s.config != 0 && seen.v != (seen.u - 1) % 4 + 1
+    s.config != 0 && seen.v != seen.expected()
 }
 
 #[tactic(auto, using(frame::proofs::Bools::cast_bit), unfolding(crate::specs::Replies::second_bit))]
@@ -64,21 +63,30 @@ fn on_scheduled(s: Settings) -> Result<Resource, Refusal>
     Ok(Resource::new(s.scheduled))
 }
 
+// A bundled reply with each block's AND, on the resource that the map gives.
+#[tactic(auto, using(frame::proofs::Bools::cast_bit))]
+fn bundled_on(s: Settings, mapped: Result<Resource, Refusal>, seen: Seen) -> Answer
+    ensures { result ≡ reply_on s kind_bundled (numbered mapped) (bit seen.first) (second_bit s seen) }
+{
+    let b0 = seen.first as u16;
+    let b1 = second_bit(s, seen);
+    reply_on(s, ReplyKind::Bundled, mapped, b0, b1)
+}
+
 // The bundled reply where no PDCCH was heard: that of a lone scheduled block, or silence.
-#[tactic(auto, using(frame::proofs::Bools::cast_bit), unfolding(crate::specs::Replies::lone_answer))]
+#[tactic(auto, unfolding(crate::specs::Replies::lone_answer))]
 fn lone_answer(s: Settings, seen: Seen) -> Answer
     ensures { result ≡ lone_answer s seen }
 {
     if !seen.scheduled {
         return Answer::Silent;
     }
-    let b0 = seen.first as u16;
-    let b1 = second_bit(s, seen);
-    reply_on(s, ReplyKind::Bundled, on_scheduled(s), b0, b1)
+    bundled_on(s, on_scheduled(s), seen)
 }
 
-// The bundled reply, from what the fold over the window found.
-#[tactic(auto, using(frame::proofs::Bools::cast_bit), unfolding(crate::specs::Replies::bundled_answer))]
+// The bundled reply, from what the fold over the window found. Settings and n are two parameters here and below, as in the checks of
+// `heard`: the slots of a `Memory` are not asked for.
+#[tactic(auto, unfolding(crate::specs::Replies::bundled_answer))]
 fn bundled_answer(s: Settings, n: u16, seen: Seen) -> Answer
     ensures { result ≡ bundled_answer s n seen }
 {
@@ -89,9 +97,7 @@ fn bundled_answer(s: Settings, n: u16, seen: Seen) -> Answer
         return Answer::Silent;
     }
     let mapped = resource::resource_of(s, n, seen.position, seen.cce);
-    let b0 = seen.first as u16;
-    let b1 = second_bit(s, seen);
-    reply_on(s, ReplyKind::Bundled, mapped, b0, b1)
+    bundled_on(s, mapped, seen)
 }
 
 // The state of a heard position.
@@ -136,46 +142,47 @@ fn carrier_of(s: Settings, n: u16, m: u16, x: View) -> Result<Resource, Refusal>
 }
 
 // The number of the window's state: a base-3 digit for each position, position 0 first.
-#[tactic(auto, using(crate::proofs::Multiplexing::code_small, crate::proofs::Multiplexing::code_end, crate::proofs::Multiplexing::digit_most, crate::proofs::Multiplexing::k_range), unfolding(heard::specs::Memory::view_ago, crate::specs::Replies::window_state))]
-fn code_of(past: &[Slot; 13], config: u16, n: u16) -> u16
-    ensures { result ≡ code_of (window_state (view_ago past.now) (window_of config n)) }
+#[tactic(auto, using(crate::proofs::Multiplexing::code_small, crate::proofs::Multiplexing::code_end, crate::proofs::Multiplexing::digit_most), unfolding(crate::specs::Replies::window_state))]
+fn code_of(memory: Memory) -> u16
+    ensures { result ≡ code_of (window_state (views_in memory.entry) (ks_in memory.entry)) }
 {
     let mut code = 0;
-    for &k in frame::window_of(config, n) {
-        let t = past[(k - 1) as usize];
-        code = code * 3 + digit_of(view_in(t));
+    for &k in memory.ks() {
+        code = code * 3 + digit_of(memory.view_ago(k));
     }
     code
 }
 
 // The multiplexed reply: the symbol of the window's state, on the resource of its index.
-#[tactic(auto, using(crate::proofs::Multiplexing::window_small, crate::proofs::Multiplexing::index_small, crate::proofs::Multiplexing::index_k, crate::proofs::Multiplexing::symbol_silent, crate::proofs::Multiplexing::symbol_sent), unfolding(heard::specs::Memory::view_ago))]
-fn multiplexed_answer(s: Settings, n: u16, past: &[Slot; 13]) -> Answer
-    ensures { result ≡ multiplexed_answer s n (view_ago past.now) (window_of s.config n) }
+#[tactic(auto, using(crate::proofs::Multiplexing::window_small, crate::proofs::Multiplexing::index_small, crate::proofs::Multiplexing::index_k, crate::proofs::Multiplexing::symbol_silent, crate::proofs::Multiplexing::symbol_sent))]
+fn multiplexed_answer(memory: Memory) -> Answer
+    ensures { result ≡ multiplexed_answer memory.entry.settings.now memory.entry.n (views_in memory.entry) (ks_in memory.entry) }
 {
-    let ks = frame::window_of(s.config, n);
-    let code = code_of(past, s.config, n);
+    let (s, n) = (*memory.settings, memory.n);
+    let ks = memory.ks();
+    let code = code_of(memory);
     let Some(symbol) = symbols::symbol_of(ks.len() as u16, code) else {
         return Answer::Silent;
     };
-    let t = past[(ks[symbol.index as usize] - 1) as usize];
-    let mapped = carrier_of(s, n, symbol.index, view_in(t));
+    let view = memory.view_ago(ks[symbol.index as usize]);
+    let mapped = carrier_of(s, n, symbol.index, view);
     reply_on(s, ReplyKind::Multiplexed, mapped, symbol.b0, symbol.b1)
 }
 
-// The answer of subframe n, over what is remembered: the bundled or the multiplexed reply of its window, silence, or "no window"
-// where the table has none for n. Settings and memory are taken as they are: no refusal is given here, and a reply whose resource
+// The answer of the subframe that a memory stands before: the bundled or the multiplexed reply of its window, silence, or "no window"
+// where the table has none for it. Settings and slots are taken as they are: no refusal is given here, and a reply whose resource
 // the map refuses is silence. `Handset::feed` asks only of a state that 8 accepts, in an uplink subframe.
 #[tactic(auto, unfolding(crate::specs::Replies::window_answer))]
-pub fn answer_in(s: Settings, n: u16, past: &[Slot; 13]) -> Answer
-    ensures { result ≡ window_answer s n (view_ago past.now) }
+pub fn answer_in(memory: Memory) -> Answer
+    ensures { result ≡ window_answer memory.entry.settings.now memory.entry.n (views_in memory.entry) }
 {
+    let (s, n) = (*memory.settings, memory.n);
     let size = frame::size_of(s.config, n);
     if size == 0 {
         return Answer::NoWindow;
     }
-    if frame::is_bundled(s, size) {
-        return bundled_answer(s, n, seen_in(past, s.config, n));
+    if s.is_bundled(size) {
+        return bundled_answer(s, n, fold::seen_in(memory));
     }
-    multiplexed_answer(s, n, past)
+    multiplexed_answer(memory)
 }

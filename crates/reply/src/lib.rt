@@ -14,14 +14,14 @@ pub enum ReplyKind {
 }
 
 // A reply: its kind, its PUCCH resource, that of the first antenna port, its two bits, the second 0 in a one-bit reply, and the second
-// port's resource, 0 where the handset has one port.
+// port's resource, where the handset has two.
 #[derive(Clone, Copy, Debug, PartialEq, Eq)]
 pub struct Reply {
     pub kind: ReplyKind,
     pub resource: Resource,
     pub b0: u16,
     pub b1: u16,
-    pub second: Resource,
+    pub second: Option<Resource>,
 }
 
 // What a feed is answered (document 01, "The running handset").

@@ -7,4 +7,4 @@ pub mod Refused
 pub mod Room
 pub mod Search
 pub mod SecondPort
-pub mod Sized
+pub mod Mapped

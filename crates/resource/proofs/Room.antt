@@ -5,7 +5,7 @@ use mathlib.Core.Path.{◌≡◌, refl}
 use native.Mathlib.Nat.{div-lt_iff_lt-mul, div-one, mul_comm}
 use native.Mathlib.Omega.{arith}
 use Rattle.std.proofs.Common.{Option, Some}
-use Rattle.resource.specs.declared.Region.{Region}
+use Rattle.resource.specs.declared.map.Region.{Region}
 use Rattle.resource.specs.Bounds.{Bounds}
 use Rattle.resource.specs.Formula.{edge, region_of, resource_number, region_back, position_back, cce_back}
 use Rattle.resource.specs.Search.{Held, Searched}
@@ -23,8 +23,9 @@ module _ (nrb n1 size : ℕ) (bounds : Bounds nrb n1 size) where
   computed m c r h held =
       let low : ℕ = r.low in
       let high : ℕ = r.high in
-      let el : low ≡ edge nrb (region_of nrb c) = rw div-one at held.low in
-      let eh : high ≡ edge nrb (region_of nrb c + 1) = rw div-one at held.high in
+      let number : r.number ≡ region_of nrb c = rw div-one at held.number in
+      let el : low ≡ edge nrb (region_of nrb c) = rw number at held.low in
+      let eh : high ≡ edge nrb (region_of nrb c + 1) = rw number at held.high in
       let top : c < edge nrb 4 = omega (arith, held.below) in
       let f : Forth nrb n1 size m c (resource_number nrb n1 size m c) = forth nrb n1 size m c h top in
       let e : (size - m - 1) * low + m * high + c + n1 ≡ resource_number nrb n1 size m c = rw (el, eh) in
@@ -48,7 +49,7 @@ module _ (nrb n1 size : ℕ) (bounds : Bounds nrb n1 size) where
       let i : In nrb (t / size) (region_of nrb (t / size)) = region_in nrb (t / size) (quotient t held.below) in
       let b = back size (edge nrb (region_of nrb (t / size))) (edge nrb (region_of nrb (t / size) + 1)) t bounds.size_least i.low i.high in
       let top : edge nrb (region_of nrb (t / size) + 1) ≤ 134 = omega (arith, edge_top nrb (region_of nrb (t / size)) i.region, edge_most nrb bounds.nrb_most) in
-      rw (held.low, held.high)
+      rw (held.low, held.high, held.number)
       (record { rows = b.rows; width = b.width; position = refl; cce = refl; most = omega (arith, b.cce_high, top) })
 
 -- What the code knows of a region that it found.

@@ -15,13 +15,9 @@ product_most nrb size p high narrow short h e =
     mul-le-mul {n₂ = 9} {m₂ = 134} short (omega (arith, edge_top nrb p h, edge_most nrb narrow))
 
 module _ (nrb size t p low high : ℕ) where
-  -- no region is left
-  pub ended : p ≡ 4 → high ≡ edge nrb p → size * high ≤ t → Searched nrb size t None
-  ended last e h = record { above = λ _. rw (e, last) at h; held = λ r some. absurd (cc) }
-
   -- region p holds t / size
   pub found : 0 < size → p ≤ 3 → low ≡ edge nrb p → size * low ≤ t → high ≡ edge nrb (p + 1) → t < size * high
-      → Searched nrb size t (Some (record { low = low; high = high }))
+      → Searched nrb size t (Some (record { number = p; low = low; high = high }))
   found some h el from eh to =
       let lo : ℕ = edge nrb p in
       let hi : ℕ = edge nrb (p + 1) in
@@ -30,10 +26,11 @@ module _ (nrb size t p low high : ℕ) where
       let least : lo ≤ t / size = (le-div_iff_mul-le {k = size} {x = lo} {y = t} some).1 (omega (arith, mul_comm lo size)) in
       let most : t / size < hi = (div-lt_iff_lt-mul {k = size} {x = t} {y = hi} some).1 (omega (arith, mul_comm hi size)) in
       let number : p ≡ region_of nrb (t / size) = region_only nrb (t / size) p (record { region = h; low = least; high = most }) in
-      let held : Held nrb size t (record { low = low; high = high }) =
+      let held : Held nrb size t (record { number = p; low = low; high = high }) =
       record {
         below = omega (arith, mul-le-mul_left size (edge_top nrb p h));
-        low = rw (← number) el;
-        high = rw (← number) eh;
+        number = number;
+        low = el;
+        high = eh;
       } in
       record { above = λ none. absurd (cc); held = λ r same. subst (Held nrb size t) (same_Some _ _ same) held }

@@ -1,6 +1,6 @@
 -- The resources of two antenna ports: specs/Ports.antt, proved.
 -- Assumes nothing.
-use Rattle.std.proofs.Common.{Ok}
+use Rattle.std.proofs.Common.{Some, None, Ok}
 use Prim.Native.Nat.{ℕ, ◌+◌, ◌≤◌, ◌<◌}
 use mathlib.Core.Bool.{true, false}
 use mathlib.Core.Path.{◌≡◌}
@@ -16,20 +16,20 @@ use Rattle.resource.proofs.Counts.{window_resources}
 use Rattle.resource.proofs.OneToOne.{call_accepted, resource_range}
 
 -- One port has no second resource.
-pub one_port_holds : (s : Settings) (r : ℕ) → has_second_port s ≡ false → second_port s r ≡ 0
+pub one_port_holds : (s : Settings) (r : ℕ) → has_second_port s ≡ false → second_port s r ≡ None
 unfolding second_port
 one_port_holds s r one = rw one
 
 -- Two ports have one, above every resource but the last.
-pub two_ports_holds : (s : Settings) (r : ℕ) → has_second_port s ≡ true → r < 65535 → second_port s r ≡ r + 1
+pub two_ports_holds : (s : Settings) (r : ℕ) → has_second_port s ≡ true → r < 65535 → second_port s r ≡ Some (record { 0 = r + 1 })
 unfolding second_port
 two_ports_holds s r two low = rw (two, lt-ltb r 65535 low)
 
 -- By the number of ports.
-pub port_above : (s : Settings) (r : ℕ) → s.ports ≡ 2 → r < 65535 → second_port s r ≡ r + 1
+pub port_above : (s : Settings) (r : ℕ) → s.ports ≡ 2 → r < 65535 → second_port s r ≡ Some (record { 0 = r + 1 })
 port_above s r two low = two_ports_holds s r (two_have_second s two) low
 
-pub port_none : (s : Settings) (r : ℕ) → s.ports ≡ 1 → second_port s r ≡ 0
+pub port_none : (s : Settings) (r : ℕ) → s.ports ≡ 1 → second_port s r ≡ None
 port_none s r one = one_port_holds s r (one_has_none s one)
 
 module _ (s : Settings) (n m c : ℕ) where

@@ -1,9 +1,9 @@
 -- The resource call and its inverse, with their refusals: document 01, "Resources" and "Causes and their numbers".
 -- Assumes nothing.
-use Rattle.std.specs.Prelude.{ℕ, ◌+◌, ◌-◌, ◌*◌, cond, ◌&&◌, ltb, leb, length, Result, Err}
+use Rattle.std.specs.Prelude.{ℕ, ◌+◌, ◌-◌, ◌*◌, cond, ◌&&◌, ltb, leb, length, Result}
 use Rattle.frame.specs.declared.Settings.{Settings}
 use Rattle.frame.specs.Refusals.{unless_refused}
-use Rattle.frame.specs.Settings.{or_else, outside, settings_refusal, window_refusal}
+use Rattle.frame.specs.Settings.{or_else, outside, window_refusal}
 use Rattle.frame.specs.Table.{window_of}
 use Rattle.resource.specs.declared.Cce.{Cce}
 use Rattle.resource.specs.declared.Resource.{Resource}
@@ -30,6 +30,11 @@ unfoldable pub inverse_in : ℕ → ℕ → ℕ → ℕ → Result (ℕ × Cce) 
 inverse_in nrb n1 size r =
     unless_refused (range_refusal nrb n1 size r) (position_back nrb size (r - n1), record { 0 = cce_back nrb size (r - n1) })
 
+-- The map of a window of M positions, whether or not a window has as many: 7 where N_RB, N1 or M is over what settings and windows
+-- allow, or M is 0.
+unfoldable pub map_refusal : Settings → ℕ → ℕ
+map_refusal s size = cond (ltb 110 s.nrb) 7 (cond (ltb 2047 s.n1) 7 (cond (outside 1 9 size) 7 0))
+
 -- M of uplink subframe n
 abbrev pub size_of : Settings → ℕ → ℕ
 size_of s n = length (window_of s.config n)
@@ -40,37 +45,8 @@ resource_of s n m c =
     unless_refused (or_else (window_refusal s n) (pair_refusal s.nrb (size_of s n) m c))
     (record { 0 = resource_number s.nrb s.n1 (size_of s n) m c })
 
--- The resource call where M is told: 1 to 6, 17, 19 and 24, 7 where M is not 1 to 9, then 11, else the formula's resource.
-unfoldable pub resource_sized : Settings → ℕ → ℕ → ℕ → Result Resource ℕ
-resource_sized s size m c =
-    unless_refused (or_else (settings_refusal s) (or_else (cond (outside 1 9 size) 7 0) (pair_refusal s.nrb size m c)))
-    (record { 0 = resource_number s.nrb s.n1 size m c })
-
--- The resource call for a caller that has tested settings and subframe: of them only what the formula needs is asked again, and 7 is
--- answered where N_RB, N1 or M is none that they allow; then 11, else the formula's resource.
-unfoldable pub resource_within : Settings → ℕ → ℕ → ℕ → Result Resource ℕ
-resource_within s size m c =
-    cond (ltb 110 s.nrb) (Err 7)
-    (cond (ltb 2047 s.n1) (Err 7)
-    (cond (outside 1 9 size) (Err 7)
-    (resource_in s.nrb s.n1 size m c)))
-
 -- The inverse call: 1 to 6, 17, 19, 24 and 7, then 13, else the pair.
 unfoldable pub inverse_of : Settings → ℕ → ℕ → Result (ℕ × Cce) ℕ
 inverse_of s n r =
     unless_refused (or_else (window_refusal s n) (range_refusal s.nrb s.n1 (size_of s n) r))
     (position_back s.nrb (size_of s n) (r - s.n1), record { 0 = cce_back s.nrb (size_of s n) (r - s.n1) })
-
--- The inverse where M is told.
-unfoldable pub inverse_sized : Settings → ℕ → ℕ → Result (ℕ × Cce) ℕ
-inverse_sized s size r =
-    unless_refused (or_else (settings_refusal s) (or_else (cond (outside 1 9 size) 7 0) (range_refusal s.nrb s.n1 size r)))
-    (position_back s.nrb size (r - s.n1), record { 0 = cce_back s.nrb size (r - s.n1) })
-
--- The inverse for a caller that has tested settings and subframe.
-unfoldable pub inverse_within : Settings → ℕ → ℕ → Result (ℕ × Cce) ℕ
-inverse_within s size r =
-    cond (ltb 110 s.nrb) (Err 7)
-    (cond (ltb 2047 s.n1) (Err 7)
-    (cond (outside 1 9 size) (Err 7)
-    (inverse_in s.nrb s.n1 size r)))

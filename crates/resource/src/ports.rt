@@ -6,26 +6,23 @@ ghost use Rattle.resource.specs.Ports.{second_port, ports_of};
 use crate::{Cce, Resource, resource_of};
 use frame::{Refusal, Settings};
 
-// A PDCCH's resource for each antenna port: the first port's, and the second port's, 0 where there is one port.
+// A PDCCH's resource for each antenna port: the first port's, and the second port's, where there are two.
 #[derive(Clone, Copy, Debug, PartialEq, Eq)]
 pub struct OnPorts {
     pub first: Resource,
-    pub second: Resource,
+    pub second: Option<Resource>,
 }
 
-// The second port's resource, one above the first port's; 0 where there is one port. No settings that are accepted come near the last
+// The second port's resource, one above the first port's; none where there is one port. No settings that are accepted come near the last
 // number, which has none above it.
-pub fn second_port(s: Settings, first: Resource) -> Resource
-    ensures { result.0 ≡ second_port s first.0 }
+#[tactic(auto, unfolding(crate::specs::Ports::second_port))]
+pub fn second_port(s: Settings, first: Resource) -> Option<Resource>
+    ensures { result ≡ second_port s first.0 }
 {
-    let number = first.number();
-    if number == 65535 {
-        return Resource::new(0);
+    if !s.has_second_port() {
+        return None;
     }
-    if frame::has_second_port(s) {
-        return Resource::new(number + 1);
-    }
-    Resource::new(0)
+    first.number().checked_add(1).map(Resource::new)
 }
 
 // The resources of the PDCCH at position m with first CCE c, in the window of uplink subframe n: that of each port.

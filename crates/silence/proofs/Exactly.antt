@@ -1,7 +1,7 @@
 -- explain_of is what U11 asks for, and nothing else is. That a silence has the two causes alone is handset/proofs/Silences.antt; here
 -- U, V and the scheduled block of the window tell which of them it is, in a multiplexed window too.
 -- Assumes nothing.
-use Rattle.std.proofs.Common.{Option, Some, None, Result, Ok, Err}
+use Rattle.std.proofs.Common.{Some, None, Result, Ok, Err}
 use Prim.Native.Nat.{ℕ, zero, suc, ◌-◌, ◌<◌, ◌≤◌, suc-le-suc}
 use mathlib.Core.Bool.{Bool, true, false, cond, not, ◌&&◌, false≢true}
 use mathlib.Core.List.{List, [], ◌∷◌}
@@ -11,6 +11,7 @@ use native.Mathlib.Omega.{arith}
 use lib.Dec.{eqb}
 use lib.ListN.{length, get_or}
 use borrow.Author.Tests.{eq-eqb, ne_eqb, eqb-false}
+use Rattle.std.proofs.lemmas.Bool.{and_parts}
 use Rattle.frame.specs.declared.Settings.{Settings}
 use Rattle.frame.specs.Distance.{before}
 use Rattle.frame.specs.Layout.{downlink}
@@ -18,7 +19,6 @@ use Rattle.frame.specs.Order.{order_of}
 use Rattle.frame.specs.Settings.{bundles}
 use Rattle.frame.specs.Table.{window_of}
 use Rattle.frame.proofs.Accepted.{neither}
-use Rattle.frame.proofs.Bools.{both}
 use Rattle.frame.proofs.Lists.{entry}
 use Rattle.frame.proofs.Times.{order_size, order_below}
 use Rattle.symbols.specs.declared.State.{State}
@@ -32,10 +32,10 @@ use Rattle.heard.specs.Heard.{heard_refusal}
 use Rattle.heard.specs.Memory.{none, heard_in, view_in, view_ago}
 use Rattle.heard.proofs.Valid.{valid}
 use Rattle.fold.specs.declared.Seen.{Seen}
-use Rattle.fold.specs.Fold.{unseen, step_of, seen_from, seen_of}
+use Rattle.fold.specs.Fold.{expected, unseen, step_of, seen_from, seen_of}
 use Rattle.reply.specs.declared.Answer.{Answer}
 use Rattle.reply.specs.declared.Answer.TheVariants.{Taken, NoWindow, Silent, Sent}
-use Rattle.reply.specs.Replies.{expected, miss_shown, state_of, window_state, window_answer}
+use Rattle.reply.specs.Replies.{miss_shown, state_of, window_state, window_answer}
 use Rattle.reply.specs.Silence.{NoneOrMissed}
 use Rattle.reply.proofs.Silences.{Latest, latest}
 use Rattle.handset.specs.declared.Handset.{Handset}
@@ -85,7 +85,7 @@ unheard_window view c n d =
 miss_apart : (s : Settings) (seen : Seen) → miss_shown s seen ≡ true → (1 ≤ s.config) × (seen.v ≡ expected seen.u → ⊥)
 unfolding miss_shown
 miss_apart s seen e =
-    let p = both (not (eqb s.config 0)) (not (eqb seen.v (expected seen.u))) e in
+    let p = and_parts (not (eqb s.config 0)) (not (eqb seen.v (expected seen.u))) e in
     let other = differ s.config 0 p.0 in
     (omega (arith, other), differ seen.v (expected seen.u) p.1)
   where
@@ -175,9 +175,6 @@ nothing_not_missed v e p = let z : ◌≡◌ {A = ℕ} 0 1 = cc in omega arith
 
 none_not_missed : (v e : ℕ) → None ≡ Some (MissShown v e) → ⊥
 none_not_missed v e p = let z : ◌≡◌ {A = ℕ} 0 1 = cc in omega arith
-
-none_not_nothing : None ≡ (Some NothingHeard) → ⊥
-none_not_nothing p = let z : ◌≡◌ {A = ℕ} 0 1 = cc in omega arith
 
 same_values : (v e v' e' : ℕ) → Some (MissShown v e) ≡ Some (MissShown v' e') → (v ≡ v') × (e ≡ e')
 same_values v e v' e' p = (cc, cc)

@@ -5,10 +5,9 @@ use Rattle.frame.specs.Table.{window_of}
 use Rattle.heard.specs.declared.Heard.{Heard}
 use Rattle.heard.specs.Memory.{view_ago}
 use Rattle.fold.specs.declared.Seen.{Seen}
-use Rattle.fold.specs.Fold.{seen_of}
+use Rattle.fold.specs.Fold.{expected, seen_of}
 use Rattle.reply.specs.declared.Answer.{Answer}
 use Rattle.reply.specs.declared.Answer.TheVariants.{Taken, NoWindow, Silent, Sent}
-use Rattle.reply.specs.Replies.{expected}
 use Rattle.handset.specs.declared.Handset.{Handset}
 use Rattle.handset.specs.Feed.{Fed, feed_of}
 use Rattle.silence.specs.declared.Cause.{Cause}

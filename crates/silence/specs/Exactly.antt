@@ -1,13 +1,13 @@
 -- What U11 asks of a call beside the feed, in its words, for every handset and whatever it is fed: a handset that 8 refuses is not
 -- silent, so this is for every state that 8 accepts. It leaves no choice (only_explanation in proofs/Exactly.antt).
 -- Assumes nothing.
-use Rattle.std.specs.Prelude.{Option, Some, None, Result, Ok, Err, ℕ, ◌≤◌, true, false, ◌↔◌, ◌≡◌, length}
+use Rattle.std.specs.Prelude.{Some, None, Ok, ℕ, ◌≤◌, true, false, ◌↔◌, ◌≡◌, length}
 use Rattle.frame.specs.Settings.{bundles}
 use Rattle.frame.specs.Table.{window_of}
 use Rattle.heard.specs.declared.Heard.{Heard}
 use Rattle.heard.specs.declared.Heard.TheVariants.{Nothing}
+use Rattle.fold.specs.Fold.{expected}
 use Rattle.reply.specs.declared.Answer.TheVariants.{Silent}
-use Rattle.reply.specs.Replies.{expected}
 use Rattle.handset.specs.declared.Handset.{Handset}
 use Rattle.handset.specs.Feed.{window_settings, feed_of}
 use Rattle.silence.specs.declared.Cause.TheVariants.{NothingHeard, MissShown}

@@ -26,14 +26,14 @@ pub struct Explained {
 }
 
 // The cause of a silence, from what the handset saw in the window.
-#[tactic(auto, unfolding(crate::specs::Cause::silence_cause, reply::specs::Replies::expected))]
+#[tactic(auto, unfolding(crate::specs::Cause::silence_cause))]
 fn cause_of(seen: Seen) -> Cause
     ensures { result ≡ silence_cause seen }
 {
     if seen.u == 0 {
         return Cause::NothingHeard;
     }
-    Cause::MissShown(seen.v, (seen.u - 1) % 4 + 1)
+    Cause::MissShown(seen.v, seen.expected())
 }
 
 // The feed, with the cause beside a silent answer. Only a silence has the window looked at again.
@@ -46,10 +46,7 @@ pub fn explain(h: &mut Handset, x: Heard) -> Explained
     let before = *h;
     let answer = h.feed(x);
     let cause = match answer {
-        Ok(Answer::Silent) => {
-            let seen = fold::seen_in(&before.past, before.settings.config, before.next);
-            Some(cause_of(seen))
-        }
+        Ok(Answer::Silent) => Some(cause_of(fold::seen_in(before.memory()))),
         _ => None,
     };
     Explained { answer, cause }

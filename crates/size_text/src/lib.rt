@@ -3,33 +3,24 @@
 
 ghost use Rattle.std.specs.Prelude.{◌<◌, ◌≡◌};
 ghost use Rattle.line.specs.Line.{added};
-ghost use Rattle.size_text.specs.Text.{digit_or_space, aligned, number_at, columns, above, block_line, unended_line, size_line};
+ghost use Rattle.size_text.specs.Text.{aligned, number_at, columns, above, block_line, unended_line, size_line};
 
-use line::{Line, digit};
+use line::Line;
 
 // How many lines the text has.
 pub const LINES: u16 = 331;
 
-// The digit that counts units, in ASCII; a space where the number is below the unit.
-fn digit_or_space(unit: u32, x: u32) -> u8
-    requires { 0 < unit }
-    ensures { result ≡ digit_or_space unit x }
-{
-    if x < unit { b' ' } else { digit(x / unit) }
-}
-
-// Puts a number on the line in five characters, spaces before its digits.
-#[tactic(auto, unfolding(crate::specs::Text::aligned))]
+// Puts a number on the line in five characters, spaces before its digits. (`{:>5}` can't promise a line; see `line`.)
+#[tactic(auto, using(crate::proofs::Rows::spaces_digits, crate::proofs::Rows::five_digits))]
 fn push_aligned(line: &mut Line, x: u32)
+    requires { x < 100000 }
     ensures { line.new ≡ added line.old (aligned x) }
 {
-    line.extend_from_slice(&[
-        digit_or_space(10000, x),
-        digit_or_space(1000, x),
-        digit_or_space(100, x),
-        digit_or_space(10, x),
-        digit(x),
-    ]);
+    let spaces = b"     ";
+    let mut buffer = itoa::Buffer::new();
+    let digits = buffer.format(x);
+    line.extend_from_slice(&spaces[digits.len()..]);
+    line.push_str(digits);
 }
 
 // The number that row r of a block has for N_PRB n: row 0 is the heading's.
@@ -44,7 +35,7 @@ fn number_at(r: u16, n: u16) -> u32
 }
 
 // Puts the ten columns of row r in block b on the line.
-#[tactic(auto, using(crate::proofs::Rows::column_more, line::proofs::Adding::added_none), unfolding(crate::specs::Text::columns))]
+#[tactic(auto, using(crate::proofs::Rows::column_more, crate::proofs::Rows::number_small, line::proofs::Adding::added_none), unfolding(crate::specs::Text::columns))]
 fn push_columns(line: &mut Line, b: u16, r: u16)
     requires { b < 11 }
     ensures { line.new ≡ added line.old (columns b r 10) }
@@ -96,7 +87,7 @@ fn push_unended(line: &mut Line, i: u16)
     }
 }
 
-// Line i of the text, from 0, its newline included; no text past the last line.
+// Line i of the text, from 0, its newline included; no text past the last line. `printing::table_line` has the same body and says why.
 #[tactic(auto, using(crate::proofs::Lines::line_ended, crate::proofs::Lines::past_last))]
 pub fn size_line(i: u16) -> Line
     ensures { result ≡ size_line i }

@@ -214,27 +214,24 @@ const SIZES: [u32; 2970] = [
     75376, 75376, 75376, 75376, 75376, 75376, 75376, 75376,
 ];
 
-// The whole table, in the order of `SIZES`.
+// The whole table, in the order of `SIZES`: the array is the print's.
 #[tactic(auto, unfolding(crate::specs::Table::flat))]
-pub fn table() -> &'static [u32]
+fn table() -> &'static [u32]
     ensures { result.now ≡ flat }
 {
     &SIZES
 }
 
-// The size that a table has for I_TBS and N_PRB, in the order of `table`; 0 where there is no entry, so I_TBS over 26 and N_PRB 0 or
-// over 110. It speaks of whatever table is lent, so that it asks nothing of a caller.
+// The size that a table has for I_TBS and N_PRB, in the order of `SIZES`; 0 where there is no entry, so I_TBS over 26 and N_PRB 0 or
+// over 110. Its table is lent, so that the check of its body has no list of 2,970 entries in it.
 #[tactic(auto, unfolding(crate::specs::Table::size_in))]
-pub fn size_in(table: &[u32], itbs: u16, nprb: u16) -> u32
+fn size_in(table: &[u32], itbs: u16, nprb: u16) -> u32
     ensures { result ≡ size_in table.now itbs nprb }
 {
     if 26 < itbs || !(1..=110).contains(&nprb) {
         return 0;
     }
-    match table.get((110 * itbs + nprb - 1) as usize) {
-        Some(&size) => size,
-        None => 0,
-    }
+    *table.get((110 * itbs + nprb - 1) as usize).unwrap_or(&0)
 }
 
 // The size of Table 7.1.7.2.1-1 for I_TBS and N_PRB; 0 where the table has none.

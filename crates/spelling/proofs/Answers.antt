@@ -9,6 +9,7 @@ use Rattle.std.proofs.Common.{Result, Ok, Err}
 use Rattle.std.specs.Result.{IfOk}
 use Rattle.frame.specs.declared.refusal.Refusal.{Refusal}
 use Rattle.handset.specs.declared.Handset.{Handset}
+use Rattle.reader.specs.declared.accepted.Trace.{Trace}
 use Rattle.frame.specs.declared.refusal.Refusal.TheVariants.{Output}
 use Rattle.frame.specs.Refusals.{number_of}
 use Rattle.frame.specs.Settings.{or_else}
@@ -29,12 +30,12 @@ use Rattle.spelling.proofs.Small.{file_small}
 
 module _ (l : List ℕ) where
   -- A refusal before any record, and none.
-  pub refused_before : (given : Result (Unit {0}) Ending) (r : Refusal) → given ≡ Err (Refused r)
+  pub refused_before : {T : Type 0} (given : Result T Ending) (r : Refusal) → given ≡ Err (Refused r)
       → number_of r ≡ or_else (trace_refusal l) (make_of (settings_of l)).refusal → stopped_by given ≡ stop_of l
   unfolding stop_of
   refused_before given r is e = let one = from_one r in rw (is, ← e, one.1)
 
-  pub none_before : (given : Result (Unit {0}) Ending) (h : Handset) → h ≡ (make_of (settings_of l)).handset
+  pub none_before : {T : Type 0} (given : Result T Ending) (h : Handset) → h ≡ (make_of (settings_of l)).handset
       → 0 ≡ or_else (trace_refusal l) (make_of (settings_of l)).refusal → stopped_by given ≡ stop_in (ended_as (played h 0 (brought_in l)))
       → stopped_by given ≡ stop_of l
   unfolding stop_of played_in
@@ -65,23 +66,27 @@ module _ (l old : List ℕ) where
   stopped (Refused r) e = let one = from_one r in rw (← e, one.1) (refl, (refl, tt))
   stopped (AtRecord r i) e = let one = from_one r in rw (← e, one.1) (refl, (refl, tt))
 
-  module _ (none : stopped_by {T = Unit {0}} (Ok tt) ≡ stop_of l) (records : ℕ) (read : records ≡ (header_of l).records) where
+  module _ (trace : Trace) (lent : trace.bytes.now ≡ l) (none : stopped_by (Ok trace) ≡ stop_of l) where
+    read : trace.records ≡ (header_of l).records
+    read = trace.counted ∙ ap (λ (b : List ℕ). (header_of b).records) lent
+
     -- The output is too small.
-    pub too_small : length old < spelled_size records → Right (Err (Refused Output)) old
+    pub too_small : length old < spelled_size trace.records → Right (Err (Refused Output)) old
     unfolding write_of spelled_into room_refusal
     too_small p = rw (← none, ← read, lt-ltb _ _ p) (refl, (refl, tt))
 
     -- It is not.
-    module _ (room : spelled_size records ≤ length old) where
-      pub writable : Bytes l → Writable l records old
+    module _ (room : spelled_size trace.records ≤ length old) where
+      pub writable : Bytes l → Writable trace old
       unfolding make_of
       writable bytes =
           let p = nothing_before l (rw (← none)) in
-          record { trace = p.0; settings = p.1; all = read; short = omega (arith, size_least_holds l p.0, file_small l bytes, read); room = room }
+          record { settings = rw lent p.1; short = omega (arith, size_least_holds l p.0, file_small l bytes, read); room = room }
 
-      pub written_out : (new : List ℕ) → new ≡ written (spelling_of l) old → Right (Ok (spelled_size records)) new
+      pub written_out : (new : List ℕ) → new ≡ written (spelling_of trace.bytes.now) old → Right (Ok (spelled_size trace.records)) new
       unfolding write_of spelled_into room_refusal
-      written_out new e =
+      written_out new given =
+          let e : new ≡ written (spelling_of l) old = rw lent at given in
           let size = ap length e ∙ length-append (spelling_of l) (drop (length (spelling_of l)) old) in
-          let own : length (spelling_of l) ≡ spelled_size records = rw read (spelling_length l) in
+          let own : length (spelling_of l) ≡ spelled_size trace.records = rw read (spelling_length l) in
           rw (← none, ← read, le-ltb _ _ room) (refl, (e, omega (arith, size, own)))

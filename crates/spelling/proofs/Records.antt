@@ -8,6 +8,7 @@ use lib.ListN.{length}
 use Rattle.std.specs.declared.ops.Range.{Range}
 use Rattle.heard.specs.declared.Slot.{Slot}
 use Rattle.reader.specs.declared.Reader.{Reader}
+use Rattle.reader.specs.declared.accepted.Trace.{Trace}
 use Rattle.replaying.specs.Written.{put_at}
 use Rattle.replaying.proofs.Putting.{put_none, put_more, length_put}
 use Rattle.replaying.proofs.Turns.{Before, Turn, starts}
@@ -15,18 +16,24 @@ use Rattle.spelling.specs.Spelling.{slot_bytes, records_bytes}
 use Rattle.spelling.specs.Writable.{Writable}
 use Rattle.spelling.proofs.Putting.{records_length}
 
-module _ (l : List ℕ) (records : ℕ) (old : List ℕ) where
+module _ (trace : Trace) (old : List ℕ) where
+  abbrev l : List ℕ
+  l = trace.bytes.now
+
+  abbrev records : ℕ
+  records = trace.records
+
   -- Before a record: with the records that are left, all would be written.
   pub record Putting (out : List ℕ) (numbers : Range ℕ) (reader : Reader) : Type 0 where
-    pub before : Before l records numbers reader
+    pub before : Before trace numbers reader
     pub same : length out ≡ length old
     pub left : put_at (18 + 4 * numbers.start) (records_bytes l numbers.start (records - numbers.start)) out ≡ put_at 18 (records_bytes l 0 records) old
 
-  module _ (ready : Writable l records old) where
-    pub begins : (reader : Reader) → reader.trace.now ≡ l → reader.next ≡ 0 → Putting old (record { start = 0; end = records }) reader
+  module _ (ready : Writable trace old) where
+    pub begins : (reader : Reader) → reader.trace ≡ trace.bytes → reader.next ≡ 0 → Putting old (record { start = 0; end = records }) reader
     begins reader same first =
         let all : records - 0 ≡ records = omega arith in
-        record { before = starts l records ready.trace ready.all reader same first; same = refl; left = rw all }
+        record { before = starts trace reader same first; same = refl; left = rw all }
 
     module _ (out : List ℕ) (numbers : Range ℕ) (reader : Reader) (p : Putting out numbers reader) where
       abbrev i : ℕ
@@ -38,7 +45,7 @@ module _ (l : List ℕ) (records : ℕ) (old : List ℕ) where
           let none : records - i ≡ 0 = omega arith in
           put_none out (18 + 4 * i) ∙ rw none at p.left
 
-      module _ (next : Range ℕ) (number : ℕ) (t : Slot) (then : Reader) (this : Turn l records numbers next number t then) where
+      module _ (next : Range ℕ) (number : ℕ) (t : Slot) (then : Reader) (this : Turn trace numbers next number t then) where
         pub room : 18 + 4 * number + 4 ≤ length out
         room = omega (arith, this.same, this.inside, p.same, ready.room)
 

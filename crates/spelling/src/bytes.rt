@@ -7,26 +7,41 @@ ghost use Rattle.spelling.specs.Spelling.{spelled_size, header_bytes, settings_b
 ghost use Rattle.spelling.specs.Writable.{Writable};
 ghost use Rattle.spelling.specs.Writing.{write_of, written_by, spelled_into};
 
-use crate::stop_of;
+use crate::stops::accepted;
 use frame::{Refusal, Settings};
 use heard::Slot;
-use reader::Reader;
+use reader::Trace;
 use replaying::Stop;
+use trace::{HEADER, RECORD, SETTINGS};
 
-// The header.
+// Where the records begin, behind the header and the settings.
+const RECORDS_AT: usize = HEADER + SETTINGS;
+
+// The header: the settings come behind it, then the records.
 #[tactic(auto, unfolding(crate::specs::Spelling::header_bytes))]
-fn header_bytes(records: u16) -> [u8; 8]
+fn header_bytes(records: u16) -> [u8; HEADER]
     requires { spelled_size records ≤ 65535 }
     ensures { result ≡ header_bytes records }
 {
     let [records_low, records_high] = records.to_le_bytes();
-    let [size_low, size_high] = (18 + 4 * records).to_le_bytes();
-    [records_low, records_high, 18, 0, 8, 0, size_low, size_high]
+    let [first_low, first_high] = (RECORDS_AT as u16).to_le_bytes();
+    let [settings_low, settings_high] = (HEADER as u16).to_le_bytes();
+    let [size_low, size_high] = (RECORDS_AT as u16 + RECORD as u16 * records).to_le_bytes();
+    [
+        records_low,
+        records_high,
+        first_low,
+        first_high,
+        settings_low,
+        settings_high,
+        size_low,
+        size_high,
+    ]
 }
 
 // The settings. Accepted settings fit their bytes.
 #[tactic(auto, using(crate::proofs::Putting::settings_small), unfolding(crate::specs::Spelling::settings_bytes))]
-fn settings_bytes(s: Settings) -> [u8; 10]
+fn settings_bytes(s: Settings) -> [u8; SETTINGS]
     requires { settings_refusal s ≡ 0 }
     ensures { result ≡ settings_bytes s }
 {
@@ -47,33 +62,35 @@ fn settings_bytes(s: Settings) -> [u8; 10]
 }
 
 // A record.
-fn slot_bytes(t: Slot) -> [u8; 4]
+fn slot_bytes(t: Slot) -> [u8; RECORD]
     ensures { result ≡ slot_bytes t }
 {
     [t.kind, t.cce, t.dai, t.results]
 }
 
-// Writes the records, from 18 on, as a reader gives them. Should a C caller's output overlap the trace, nothing is written outside: no
-// more records are written than were counted, and a record's place is made of its number alone.
-fn put_records(trace: &[u8], records: u16, out: &mut [u8])
-    requires { Writable trace.now records out.old }
-    ensures { out.new ≡ put_at 18 (records_bytes trace.now 0 records) out.old }
+// Writes the records as a reader gives them. Should a C caller's output overlap the trace, nothing is written outside: no more records
+// are written than were counted, and a record's place is made of its number alone. `chunks_exact_mut` is no substitute for that place:
+// when it is done, a proof knows the output's length and not its bytes.
+fn put_records(trace: Trace, out: &mut [u8])
+    requires { Writable trace out.old }
+    ensures { out.new ≡ put_at 18 (records_bytes trace.entry.bytes.now 0 trace.entry.records) out.old }
 {
-    for (number, record) in (0..records).zip(Reader::new(trace)) {
-        let at = 18 + 4 * number as usize;
-        out[at..at + 4].copy_from_slice(&slot_bytes(record));
+    for (number, record) in trace.numbered() {
+        let at = RECORDS_AT + RECORD * number as usize;
+        out[at..at + RECORD].copy_from_slice(&slot_bytes(record));
     }
 }
 
 // Writes a trace.
-fn put_trace(trace: &[u8], records: u16, out: &mut [u8])
-    requires { Writable trace.now records out.old }
-    ensures { out.new ≡ written (spelling_of trace.now) out.old }
+#[tactic(auto, using(crate::proofs::Putting::trace_put))]
+fn put_trace(trace: Trace, out: &mut [u8])
+    requires { Writable trace out.old }
+    ensures { out.new ≡ written (spelling_of trace.entry.bytes.now) out.old }
 {
-    let settings = trace::settings_of(trace);
-    out[..8].copy_from_slice(&header_bytes(records));
-    out[8..18].copy_from_slice(&settings_bytes(settings));
-    put_records(trace, records, out);
+    let settings = trace.settings();
+    out[..HEADER].copy_from_slice(&header_bytes(trace.records));
+    out[HEADER..RECORDS_AT].copy_from_slice(&settings_bytes(settings));
+    put_records(trace, out);
 }
 
 // Writes any bytes that are an accepted trace into any output with room for it, and says how many; else refuses, and leaves the output
@@ -83,12 +100,11 @@ pub fn write(trace: &[u8], out: &mut [u8]) -> Result<u16, Stop>
     ensures out_after { out.new ≡ spelled_into trace.now out.old }
     ensures size_in_bounds { IfOk result (λ size. size ≤ length out.new) }
 {
-    stop_of(trace)?;
-    let records = trace::header_of(trace).records;
-    let size = 18 + 4 * records as usize;
+    let trace = accepted(trace)?;
+    let size = RECORDS_AT + RECORD * trace.records as usize;
     if out.len() < size {
         return Err(Stop::Refused(Refusal::Output));
     }
-    put_trace(trace, records, out);
+    put_trace(trace, out);
     Ok(size as u16)
 }

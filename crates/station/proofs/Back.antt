@@ -18,10 +18,9 @@ use Rattle.frame.specs.Distance.{subframe_of}
 use Rattle.frame.specs.Settings.{has_scheduled, window_refusal, bundles}
 use Rattle.frame.specs.Special.{too_short}
 use Rattle.frame.proofs.Accepted.{answered}
-use Rattle.resource.specs.Calls.{size_of, resource_of, inverse_sized}
+use Rattle.resource.specs.Calls.{size_of, resource_of}
 use Rattle.resource.proofs.OneToOne.{call_accepted, call_back, resource_range, inverse_call, inverse_refused}
 use Rattle.resource.proofs.Refused.{low_refused}
-use Rattle.resource.proofs.Sized.{inverse_told}
 use Rattle.symbols.specs.declared.State.{State}
 use Rattle.symbols.specs.Delivered.{delivered_set, delivery_of}
 use Rattle.symbols.specs.Selection.{symbol_of, symbol}
@@ -29,7 +28,7 @@ use Rattle.symbols.proofs.Reading.{sent_in_row}
 use Rattle.station.specs.declared.Place.{Place}
 use Rattle.station.specs.declared.Place.TheVariants.{Pdcch, Block}
 use Rattle.station.specs.declared.Reading.TheVariants.{Multiplexed}
-use Rattle.station.specs.Readings.{place_position, bad_bits, bundled_reading, multiplexed_reading, read_at, read_inverted, dynamic_reading, told_refusal, read_on, read_of, GivesBack}
+use Rattle.station.specs.Readings.{place_position, bad_bits, bundled_reading, multiplexed_reading, read_at, dynamic_reading, told_refusal, read_on, read_of, GivesBack}
 
 -- Each kind of reading names the pair or refuses the bits.
 bundled_gives : (s : Settings) (m c b0 b1 : ℕ) (b : Bool) → bad_bits s b0 b1 ≡ b → GivesBack m c (bundled_reading s (Pdcch m (record { 0 = c })) b0 b1)
@@ -100,12 +99,6 @@ read_dynamic s n t r b0 b1 fine on = go (window_refusal s n) refl
     go : (k : ℕ) → window_refusal s n ≡ k → read_of s n t r b0 b1 ≡ dynamic_reading s n r b0 b1
     go zero e = rw (e, fine) on
     go (suc k) e = rw (e, inverse_refused s n k e r)
-
--- The dynamic reading of a caller that has looked M up.
-pub dynamic_sized : (s : Settings) (n size : ℕ) → size ≡ size_of s n → (r b0 b1 : ℕ)
-    → read_inverted s size (inverse_sized s size r) b0 b1 ≡ dynamic_reading s n r b0 b1
-unfolding dynamic_reading
-dynamic_sized s n size looked r b0 b1 = rw (inverse_told s n size looked r, looked)
 
 -- A resource that is set lies below N1.
 below_n1 : (s : Settings) (n : ℕ) → window_refusal s n ≡ 0 → has_scheduled s ≡ true → s.scheduled < s.n1

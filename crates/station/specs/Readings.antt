@@ -1,10 +1,11 @@
 -- The station's reading: document 01, "The station's reading" and refusal 14; document 02, U1, 11 and 18, and U2, 20.
 -- U8: "The station is told the mode per window": the settings' mode is that of the reply's window.
 -- Assumes nothing.
-use Rattle.std.specs.Prelude.{Option, Some, None, Result, Ok, Err, ℕ, zero, suc, Bool, cond, ◌&&◌, ◌||◌, ◌⊎◌, ◌≡◌, ltb, eqb}
+use Rattle.std.specs.Prelude.{Option, Some, None, Result, Ok, Err, ℕ, Bool, cond, ◌&&◌, ◌||◌, ◌⊎◌, ◌≡◌, ltb, eqb}
 use Rattle.resource.specs.declared.Cce.{Cce}
 use Rattle.frame.specs.declared.Settings.{Settings}
 use Rattle.frame.specs.Distance.{subframe_of}
+use Rattle.frame.specs.Refusals.{refused_or}
 use Rattle.frame.specs.Settings.{or_else, has_scheduled, window_refusal, bundles}
 use Rattle.frame.specs.Special.{too_short}
 use Rattle.resource.specs.Calls.{size_of, inverse_of}
@@ -57,14 +58,9 @@ unfoldable pub read_on : Settings → ℕ → Option ℕ → ℕ → ℕ → ℕ
 read_on s n None r b0 b1 = dynamic_reading s n r b0 b1
 read_on s n (Some m) r b0 b1 = cond (eqb r s.scheduled) (read_at s (size_of s n) (Block m) b0 b1) (dynamic_reading s n r b0 b1)
 
--- A refusal, or where it is 0 the reading.
-abbrev pub read_as : ℕ → Result Reading ℕ → Result Reading ℕ
-read_as zero reading = reading
-read_as (suc k) reading = Err (suc k)
-
 -- The reading: 1 to 6, 17, 19, 24 and 7, then 20, 11 and 18 for what it is told, whatever the resource; then 13 and 14.
 unfoldable pub read_of : Settings → ℕ → Option ℕ → ℕ → ℕ → ℕ → Result Reading ℕ
-read_of s n told r b0 b1 = read_as (or_else (window_refusal s n) (told_refusal s n told)) (read_on s n told r b0 b1)
+read_of s n told r b0 b1 = refused_or (or_else (window_refusal s n) (told_refusal s n told)) (read_on s n told r b0 b1)
 
 -- The reading names this place.
 abbrev pub Names : Result Reading ℕ → Place → Type 0

@@ -3,14 +3,13 @@
 #![tactic(auto)]
 
 ghost use Rattle.std.specs.Prelude.{◌≡◌};
-ghost use Rattle.frame.specs.Refusals.{refusal_in, numbered, refused_or};
-ghost use Rattle.frame.specs.Settings.{window_refusal};
+ghost use Rattle.frame.specs.Refusals.{refusal_in, numbered};
 ghost use Rattle.resource.specs.Calls.{inverse_of};
-ghost use Rattle.station.specs.Coded.{pdcch_place, place_on, place_of};
+ghost use Rattle.station.specs.Coded.{pdcch_place, place_of};
 ghost use Rattle.station.specs.Readings.{place_position, bundled_reading, read_at, told_refusal, read_of};
 
-use frame::{Refusal, Settings};
-use resource::{Cce, Resource};
+use frame::{Refusal, Settings, Window};
+use resource::{Cce, Map, Resource};
 use symbols::Symbol;
 
 // What a reply is read as: the PDCCH at a position, with its first CCE, or the scheduled block at a position.
@@ -56,7 +55,7 @@ fn read_bundled(s: Settings, place: Place, b0: u16, b1: u16) -> Result<Reading, 
 fn read_at(s: Settings, size: u16, place: Place, b0: u16, b1: u16) -> Result<Reading, Refusal>
     ensures { numbered result ≡ read_at s size place b0 b1 }
 {
-    if frame::is_bundled(s, size) {
+    if s.is_bundled(size) {
         return read_bundled(s, place, b0, b1);
     }
     let symbol = Symbol {
@@ -72,60 +71,50 @@ fn read_at(s: Settings, size: u16, place: Place, b0: u16, b1: u16) -> Result<Rea
 
 // What a told position m is refused by: 11, 20 and 18.
 #[tactic(auto, unfolding(crate::specs::Readings::told_refusal))]
-fn check_told(s: Settings, n: u16, m: u16) -> Result<(), Refusal>
-    ensures { refusal_in result ≡ told_refusal s n (Some m) }
+fn check_told(window: Window, m: u16) -> Result<(), Refusal>
+    ensures { refusal_in result ≡ told_refusal window.settings window.n (Some m) }
 {
-    if frame::size_of(s.config, n) <= m {
+    let s = window.settings;
+    if window.size <= m {
         return Err(Refusal::Cce);
     }
-    if frame::position_too_short(s, n, m) {
+    if s.position_too_short(window.n, m) {
         return Err(Refusal::Short);
     }
-    if !frame::has_scheduled(s) {
+    if !s.has_scheduled() {
         return Err(Refusal::Scheduled);
     }
     Ok(())
 }
 
-// The place of a dynamic resource, in a window that was tested.
-fn dynamic_place(s: Settings, n: u16, r: Resource) -> Result<Place, Refusal>
-    requires { window_refusal s n ≡ 0 }
-    ensures { numbered result ≡ pdcch_place (inverse_of s n r.0) }
+// The place of a dynamic resource.
+#[tactic(auto, using(crate::proofs::Placed::dynamic_refused, crate::proofs::Placed::dynamic_placed))]
+fn dynamic_place(window: Window, r: Resource) -> Result<Place, Refusal>
+    ensures { numbered result ≡ pdcch_place (inverse_of window.settings window.n r.0) }
 {
-    let (m, c) = resource::inverse_within(s, frame::size_of(s.config, n), r)?;
+    let (m, c) = Map::of(window).inverse(r)?;
     Ok(Place::Pdcch(m, c))
 }
 
-// The place of a reply in a window that was tested: where a position is told, the scheduled resource is the block there, and any other
-// is dynamic.
-#[tactic(auto, using(frame::proofs::Refused::result_refused, frame::proofs::Refused::result_accepted), unfolding(crate::specs::Readings::told_refusal))]
-fn place_on(s: Settings, n: u16, told: Option<u16>, r: Resource) -> Result<Place, Refusal>
-    requires { window_refusal s n ≡ 0 }
-    ensures { numbered result ≡ refused_or (told_refusal s n told) (place_on s n told r.0) }
+// The place of a reply: where a position is told, the scheduled resource is the block there, and any other is dynamic.
+#[tactic(auto, using(frame::proofs::Refused::result_refused, frame::proofs::Refused::result_accepted, crate::proofs::Placed::place_tested), unfolding(crate::specs::Readings::told_refusal))]
+fn place_of(window: Window, told: Option<u16>, r: Resource) -> Result<Place, Refusal>
+    ensures { numbered result ≡ place_of window.settings window.n told r.0 }
 {
     let Some(m) = told else {
-        return dynamic_place(s, n, r);
+        return dynamic_place(window, r);
     };
-    check_told(s, n, m)?;
-    if r.number() == s.scheduled {
+    check_told(window, m)?;
+    if r.number() == window.settings.scheduled {
         return Ok(Place::Block(m));
     }
-    dynamic_place(s, n, r)
-}
-
-// The place of a reply.
-#[tactic(auto, using(frame::proofs::Refused::results_refused, frame::proofs::Refused::accepted_zero, crate::proofs::Placed::place_tested), unfolding(crate::specs::Coded::place_of))]
-fn place_of(s: Settings, n: u16, told: Option<u16>, r: Resource) -> Result<Place, Refusal>
-    ensures { numbered result ≡ place_of s n told r.0 }
-{
-    frame::check_window(s, n)?;
-    place_on(s, n, told, r)
+    dynamic_place(window, r)
 }
 
 // The reply that came on resource r in uplink subframe n with the bits b0 and b1, the second 0 in a one-bit reply. `told` is the
-// position of the scheduled block that was sent in the window, if one was. Resource and bits are three numbers here and in the calls
-// above, as the C interface and the definitions have them: a struct of them would be built by each call and taken apart here.
-#[tactic(auto, using(crate::proofs::Placed::place_read))]
+// position of the scheduled block that was sent in the window, if one was. Resource and bits are three numbers here, in `confirm`
+// and in `credit`, as the C interface and the definitions have them: a struct of them would be built by each call and taken apart here.
+#[tactic(auto, using(crate::proofs::Placed::window_refused, crate::proofs::Placed::place_refused, crate::proofs::Placed::place_read))]
 pub fn read(
     s: Settings,
     n: u16,
@@ -136,6 +125,7 @@ pub fn read(
 ) -> Result<Reading, Refusal>
     ensures { numbered result ≡ read_of s n told r.0 b0 b1 }
 {
-    let place = place_of(s, n, told, r)?;
-    read_at(s, frame::size_of(s.config, n), place, b0, b1)
+    let window = Window::new(s, n)?;
+    let place = place_of(window, told, r)?;
+    read_at(s, window.size, place, b0, b1)
 }

@@ -7,20 +7,18 @@ use mathlib.Core.List.{List}
 use mathlib.Core.Logic.{◌↔◌, ◌⊎◌, inl, inr}
 use mathlib.Core.Path.{◌≡◌, refl, ap}
 use native.Mathlib.Decide.{dec_le}
-use native.Mathlib.Nat.{pow-succ', div-div-eq-div-mul, le_of_suc-le-suc, lt_of_lt_of_le, not-suc-le-zero}
+use native.Mathlib.Nat.{pow-succ', div-div-eq-div-mul, le_of_suc-le-suc, not-suc-le-zero}
 use native.Mathlib.Omega.{arith}
-use lib.Dec.{T, eqb, ltb, eqb→eq, not_T}
+use lib.Dec.{T, eqb, eqb→eq, not_T}
 use lib.Ieee.Bits.{is_true}
 use lib.Ieee.Fits.{and_l, and_r}
 use lib.ListN.{length, get_or}
-use lib.Pow.{pow_mono}
-use borrow.Author.Tests.{eq-eqb, lt-ltb}
+use borrow.Author.Tests.{eq-eqb}
 use Rattle.std.proofs.Common.{Option, Some, None}
-use Rattle.std.specs.Option.{unwrap_or}
 use Rattle.symbols.specs.declared.State.{State}
 use Rattle.symbols.specs.declared.State.TheVariants.{Ack, Nack, Dtx}
 use Rattle.symbols.specs.declared.Symbol.{Symbol}
-use Rattle.symbols.specs.Delivered.{every_state, is_symbol, is_ack, in_some_row, delivered_at, set_of, delivered_set, delivery_of}
+use Rattle.symbols.specs.Delivered.{every_state, is_symbol, is_ack, in_some_row, delivered_at, set_of, delivery_of}
 use Rattle.symbols.specs.Selection.{symbol, symbol_of}
 use Rattle.symbols.proofs.Rows.{sent_size, index_heard, bits_small}
 use Rattle.symbols.proofs.States.{every_at, every_from}
@@ -135,19 +133,3 @@ in_row size i b0 b1 = go (dec_le 2 size) (dec_le size 4) (dec_le i 3) (dec_le b0
     go a b (no d) e f = outside (λ t. d t.2)
     go a b d (no e) f = outside (λ t. e t.3)
     go a b d e (no f) = outside (λ t. f t.4)
-
--- The number that a table has for a symbol gives what the symbol delivers: a set is below 16, and 16 stands for none.
-pub from_number : (size i b0 b1 set : ℕ) → size ≤ 4 → set ≡ unwrap_or (delivery_of size i b0 b1) 16
-    → cond (ltb set 16) (Some set) None ≡ delivery_of size i b0 b1
-unfolding delivery_of delivered_set
-from_number size i b0 b1 set small is = go (in_some_row size i b0 b1) is
-  where
-    whole : ℕ
-    whole = set_of size (delivered_at size i b0 b1)
-
-    below : whole < 16
-    below = lt_of_lt_of_le (set_below size (delivered_at size i b0 b1)) (pow_mono small)
-
-    go : (b : Bool) → set ≡ unwrap_or (cond b (Some whole) None) 16 → cond (ltb set 16) (Some set) None ≡ cond b (Some whole) None
-    go true e = rw (e, lt-ltb whole 16 below)
-    go false e = rw e

@@ -9,8 +9,8 @@ use native.Mathlib.Omega.{arith}
 use lib.Dec.{eqb, leb}
 use lib.ListN.{length}
 use borrow.Author.Tests.{leb-true, le-leb, eqb-true, eqb-false, eq-eqb}
+use Rattle.std.proofs.lemmas.Bool.{and_parts, false_from_ne_true}
 use Rattle.frame.specs.Settings.{or_else}
-use Rattle.frame.proofs.Bools.{both, never_true}
 use Rattle.trace.specs.declared.Header.{Header}
 use Rattle.trace.specs.Exactly.{Apart, PartsFit, RightLength, KindsKnown, RefusedExactly}
 use Rattle.trace.specs.Trace.{header_of, Part, header_part, settings_part, records_part, apart, within, settings_fit, records_fit, length_refusal, parts_refusal, kinds_known, trace_refusal}
@@ -41,7 +41,7 @@ module _ (h : Header) (long : 8 ≤ h.size) where
   fit_so : settings_fit h ≡ true → records_fit h ≡ true → PartsFit h
   unfolding settings_fit records_fit
   fit_so s r =
-      let p = both (within h.size (settings_part h)) (apart header_part (settings_part h)) s in
+      let p = and_parts (within h.size (settings_part h)) (apart header_part (settings_part h)) s in
       let settings = leb-true (h.settings + 10) h.size p.0 in
       go (eqb h.records 0) refl r settings (apart_so header_part (settings_part h) p.1)
     where
@@ -59,8 +59,8 @@ module _ (h : Header) (long : 8 ≤ h.size) where
             settings_records = λ i a b. omega (arith, b.0, b.1, none);
           }
       go false t r settings first =
-          let p = both (within h.size (records_part h)) (apart header_part (records_part h) && apart (settings_part h) (records_part h)) r in
-          let q = both (apart header_part (records_part h)) (apart (settings_part h) (records_part h)) p.1 in
+          let p = and_parts (within h.size (records_part h)) (apart header_part (records_part h) && apart (settings_part h) (records_part h)) r in
+          let q = and_parts (apart header_part (records_part h)) (apart (settings_part h) (records_part h)) p.1 in
           let records = leb-true (h.first + 4 * h.records) h.size p.0 in
           record {
             header = λ i a. omega (arith, a.1, long);
@@ -128,7 +128,7 @@ pub exactly : (l : List ℕ) → RefusedExactly l
 unfolding trace_refusal parts_refusal length_refusal
 exactly l =
     record {
-      twenty_one = (λ e r. false≢true (sym (first.0 e) ∙ so_right r), λ h. first.1 (never_true a (λ e. h (right_so e))));
+      twenty_one = (λ e r. false≢true (sym (first.0 e) ∙ so_right r), λ h. first.1 (false_from_ne_true a (λ e. h (right_so e))));
       twenty_two = (
         λ e.
             let p = later.0 e in
@@ -173,7 +173,7 @@ exactly l =
 
     parts_so : RightLength l → b ≡ true → PartsFit (header_of l)
     parts_so r e =
-        let f = both (settings_fit (header_of l)) (records_fit (header_of l)) e in
+        let f = and_parts (settings_fit (header_of l)) (records_fit (header_of l)) e in
         fit_so (header_of l) (rw r.1 at r.0) f.0 f.1
 
     so_parts : RightLength l → PartsFit (header_of l) → b ≡ true
@@ -189,7 +189,7 @@ exactly l =
 
     right_so : a ≡ true → RightLength l
     right_so e =
-        let p = both (leb 8 (length l)) (eqb (length l) (header_of l).size) e in
+        let p = and_parts (leb 8 (length l)) (eqb (length l) (header_of l).size) e in
         (leb-true 8 (length l) p.0, eqb-true (length l) (header_of l).size p.1)
 
     so_right : RightLength l → a ≡ true

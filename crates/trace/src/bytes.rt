@@ -13,7 +13,7 @@ pub fn byte_at(trace: &[u8], i: usize) -> u8
 
 // The number in the two bytes from i on.
 #[tactic(auto, unfolding(crate::specs::Trace::number_at))]
-pub fn number_at(trace: &[u8], i: usize) -> u16
+pub(crate) fn number_at(trace: &[u8], i: usize) -> u16
     requires { i < 2 ^ 32 }
     ensures { result ≡ number_at trace.now i }
 {

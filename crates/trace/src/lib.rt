@@ -10,13 +10,15 @@ ghost use Rattle.trace.specs.Trace.{header_of, settings_of, settings_part, recor
 pub use bytes::byte_at;
 use bytes::{number_at, settings_at};
 use frame::{Refusal, Settings};
+use heard::SlotKind;
 use std::ops::Range;
 
-const HEADER: usize = 8;
+// The bytes of the header, of the settings and of a record.
+pub const HEADER: usize = 8;
 
-const SETTINGS: usize = 10;
+pub const SETTINGS: usize = 10;
 
-const RECORD: usize = 4;
+pub const RECORD: usize = 4;
 
 // The header: how many records, the offset of the first, the offset of the settings, and the whole length, in bytes.
 #[derive(Clone, Copy, Debug, PartialEq, Eq)]
@@ -118,12 +120,15 @@ pub fn check_parts(trace: &[u8]) -> Result<(), Refusal>
     Ok(())
 }
 
-// Every record's kind is 0 to 3.
+// Every record's kind is one that there is, 0 to 3.
 fn kinds_known(trace: &[u8], header: Header) -> bool
     ensures { result ≡ kinds_known trace.now header.first header.records }
 {
     let first = header.first as usize;
-    (0..header.records).all(|i| byte_at(trace, first + RECORD * i as usize) <= 3)
+    (0..header.records).all(|i| SlotKind::try_from(byte_at(
+        trace,
+        first + RECORD * i as usize,
+    )).is_ok())
 }
 
 // 21, then 22 for the parts and for a kind over 3 in any record; none for a trace that can be read from end to end.

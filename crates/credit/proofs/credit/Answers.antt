@@ -4,22 +4,22 @@ use Rattle.credit.proofs.credit.Goals as goal
 
 pub returns-in_err-told : goal.returns-in_err-told
 returns-in_err-told c =
-    refused_as _ _ _ _ c.from_residual.ensures.1 (sent_refused _ _ _ _ _ _ _ _ c.check_sent.ensures _ c.in_err-told.was)
+    refused_as _ _ _ _ c.from_residual.ensures.1 (sent_refused _ _ _ _ _ _ _ _ c.check.ensures _ c.in_err-told.was)
 
 pub returns-in_err-check_charge : goal.returns-in_err-check_charge
 returns-in_err-check_charge c =
     refused_as _ _ _ _ c.from_residual-in_err-check_charge.ensures.1
-    (charge_refused _ _ _ _ _ _ _ _ c.check_sent.ensures _ c.in_ok-told.was _ c.check_charge.ensures _ c.in_err-check_charge.was)
+    (charge_refused _ _ _ _ _ _ _ _ c.check.ensures _ c.in_ok-told.was _ c.check_charge.ensures _ c.in_err-check_charge.was)
 
 pub returns-in_err-reading : goal.returns-in_err-reading
 returns-in_err-reading c =
     refused_as _ _ _ _ c.from_residual-in_err-reading.ensures.1
-    (reading_refused _ _ _ _ _ _ _ _ c.check_sent.ensures _ c.in_ok-told.was _ c.check_charge.ensures _ c.in_ok-check_charge.was _ c.read.ensures _ c.in_err-reading.was)
+    (reading_refused _ _ _ _ _ _ _ _ c.check.ensures _ c.in_ok-told.was _ c.check_charge.ensures _ c.in_ok-check_charge.was _ c.read.ensures _ c.in_err-reading.was)
 
-pub returns-in_err-account : goal.returns-in_err-account
-returns-in_err-account c =
-    refused_as _ _ _ _ c.from_residual-in_err-account.ensures.1
-    (sum_refused _ _ _ _ _ _ _ _ c.check_sent.ensures _ c.in_ok-told.was _ c.check_charge.ensures _ c.in_ok-check_charge.was _ c.read.ensures _ c.in_ok-reading.was _ c.credited_octets-octets.ensures _ c.add.ensures _ c.in_err-account.was)
+pub returns-in_err-add : goal.returns-in_err-add
+returns-in_err-add c =
+    refused_as _ _ _ _ c.from_residual-in_err-add.ensures.1
+    (sum_refused _ _ _ _ _ _ _ _ c.check.ensures _ c.in_ok-told.was _ c.check_charge.ensures _ c.in_ok-check_charge.was _ c.read.ensures _ c.in_ok-reading.was _ c.credited_octets-octets.ensures _ c.add.ensures.refusal _ c.in_err-add.was _ c.add.ensures.after)
 
 pub returns : goal.returns
-returns c = sum_credited _ _ _ _ _ _ _ _ c.check_sent.ensures _ c.in_ok-told.was _ c.check_charge.ensures _ c.in_ok-check_charge.was _ c.read.ensures _ c.in_ok-reading.was _ c.credited_octets-octets.ensures _ c.add.ensures _ c.in_ok-account.was
+returns c = sum_credited _ _ _ _ _ _ _ _ c.check.ensures _ c.in_ok-told.was _ c.check_charge.ensures _ c.in_ok-check_charge.was _ c.read.ensures _ c.in_ok-reading.was _ c.credited_octets-octets.ensures _ c.add.ensures.refusal _ c.in_ok-add.was _ c.add.ensures.after

@@ -1,40 +1,42 @@
 -- `replaying::play` meets its contract: a record is taken up, or refused, or none is left. Assumes nothing.
-use Rattle.std.proofs.Common.{Bor, List, ℕ, ap, arith}
+use Rattle.std.proofs.Common.{arith}
+use Rattle.std.proofs.lemmas.Result.{err_from_is_err_and}
 use Rattle.replaying.proofs.Plays.{begins, ends, stops, fits, few, room, goes_on}
 use Rattle.replaying.proofs.Turns.{turn, done}
 use Rattle.replaying.proofs.play.Goals as goal
 
 pub loop-number-init : goal.loop-number-init
 loop-number-init c =
-    rw (c.into_iter-number-iterator.ensures.into_iter_gives, c.zip-number-items.ensures.first, c.zip-number-items.ensures.second)
-    (begins _ _ _ _ c.requires c.new.result (ap (λ (b : Bor (List ℕ)). b.now) c.new.ensures.0) c.new.ensures.1)
+    rw (c.into_iter-number-iterator.ensures.into_iter_gives, c.numbered-number-items.ensures.numbers)
+    (begins _ _ _ c.requires _ c.numbered-number-items.ensures.trace c.numbered-number-items.ensures.first)
 
-pub put_answer-windows-requires : goal.put_answer-windows-requires
-put_answer-windows-requires c =
+pub push-requires : goal.push-requires
+push-requires c =
     let p = c.loop-number.invariant in
-    let this = turn _ _ c.requires.trace c.requires.all _ _ p.before _ _ _ _ c.in-Some.ensures.steps in
+    let this = turn _ _ _ p.before _ _ _ _ c.in-Some.ensures.steps in
     record {
-      n_bound = fits _ _ _ _ c.requires _ _ _ _ _ p _ _ _ _ this _ c.in-Ok.ensures.answer;
-      windows_bound = few _ _ _ _ c.requires _ _ _ _ _ p _ _ _ _ this _ c.in-Ok.ensures.answer (omega arith);
-      answer_in_bounds = room _ _ _ _ c.requires _ _ _ _ _ p _ _ _ _ this _ c.in-Ok.ensures.answer;
+      n_bound = fits _ _ _ c.requires _ _ _ _ p _ _ _ _ this _ c.in_ok-answer.ensures.answer;
+      windows_bound = few _ _ _ c.requires _ _ _ _ p _ _ _ _ this _ c.in_ok-answer.ensures.answer (omega arith);
+      answer_in_bounds = room _ _ _ c.requires _ _ _ _ p _ _ _ _ this _ c.in_ok-answer.ensures.answer;
     }
 
 pub loop-number-preserved : goal.loop-number-preserved
 loop-number-preserved c =
     let p = c.loop-number.invariant in
-    let this = turn _ _ c.requires.trace c.requires.all _ _ p.before _ _ _ _ c.in-Some.ensures.steps in
-    goes_on _ _ _ _ c.requires _ _ _ _ _ p _ _ _ _ this _ c.in-Ok.ensures.answer _ _ _ c.feed_record.ensures.after c.put_answer-windows.ensures.out_after
-    c.put_answer-windows.ensures.value
+    let this = turn _ _ _ p.before _ _ _ _ c.in-Some.ensures.steps in
+    goes_on _ _ _ c.requires _ _ _ _ p _ _ _ _ this _ c.in_ok-answer.ensures.answer _ _ c.feed_record.ensures.after c.push.ensures.same_reference
+    c.push.ensures.value c.push.ensures.out_after
 
-pub returns-in-Err : goal.returns-in-Err
-returns-in-Err c =
+pub returns-in_err-answer : goal.returns-in_err-answer
+returns-in_err-answer c =
     let p = c.loop-number.invariant in
-    let this = turn _ _ c.requires.trace c.requires.all _ _ p.before _ _ _ _ c.in-Some.ensures.steps in
-    let each = stops _ _ _ _ c.requires _ _ _ _ _ p _ _ _ _ this _ c.in-Err.ensures.answer in
-    record { value = each.0; out_after = each.1 }
+    let this = turn _ _ _ p.before _ _ _ _ c.in-Some.ensures.steps in
+    let given = err_from_is_err_and c.from_residual.result c.from_residual.ensures.1 in
+    let each = stops _ _ _ c.requires _ _ _ _ p _ _ _ _ this _ c.in_err-answer.ensures.answer in
+    rw (given.1, given.2) (record { same_reference = p.reference; value = each.0; out_after = each.1 })
 
 pub returns : goal.returns
 returns c =
     let p = c.loop-number.invariant in
-    let each = ends _ _ _ _ c.requires _ _ _ _ _ p (done _ _ c.requires.trace c.requires.all _ _ p.before c.in-None.ensures.steps) in
-    record { value = each.0; out_after = each.1 }
+    let each = ends _ _ _ c.requires _ _ _ _ p (done _ _ _ p.before c.in-None.ensures.steps) in
+    record { same_reference = p.reference; value = each.0; out_after = each.1 }

@@ -1,58 +1,46 @@
 -- `symbols::delivered` meets its contract: the code's sets are those that the symbols deliver. Assumes nothing.
-use Prim.Native.Nat.{ℕ, ◌+◌, ◌*◌, ◌-◌, ◌/◌, ◌%◌, ◌≤◌}
-use mathlib.Core.Bool.{cond}
+use Prim.Native.Nat.{ℕ, ◌+◌, ◌-◌, ◌≤◌}
 use mathlib.Core.List.{List, [], map}
 use mathlib.Core.Path.{◌≡◌, refl, ap, ◌∙◌}
 use native.Mathlib.Omega.{arith}
-use lib.Dec.{ltb}
 use lib.ListN.{get_or}
 use borrow.Author.Rules.{rules}
-use borrow.Author.Tests.{lt-ltb, le-ltb}
-use Rattle.std.proofs.Common.{Some, None}
+use Rattle.std.proofs.Common.{Option, None}
 use Rattle.std.proofs.lemmas.List.FromFn.{get_or-map-range_with_len}
 use Rattle.std.specs.List.{range_with_len}
-use Rattle.std.specs.Option.{unwrap_or}
 use Rattle.symbols.specs.Delivered.{in_some_row, delivered_at, delivered_set, delivery_of}
 use Rattle.symbols.specs.Selection.{table2, table3, table4, table_of, symbol_of}
 use Rattle.symbols.specs.declared.TheConstants.{DELIVERED}
-use Rattle.symbols.proofs.Reading.{from_number}
 use Rattle.symbols.proofs.delivered.Goals as goal
 
--- what the table has for symbol x and M = m + 2: the set that is delivered, or 16 where the symbol is in no row
-number : ℕ → ℕ → ℕ
-number m x = unwrap_or (delivery_of (m + 2) (x / 4) (x / 2 % 2) (x % 2)) 16
+-- what the symbols deliver for M = m + 2, by index and bits
+by_b1 : ℕ → ℕ → ℕ → List (Option ℕ)
+by_b1 m i b0 = map (delivery_of (m + 2) i b0) (range_with_len 0 2)
 
-numbers : ℕ → List ℕ
-numbers m = map (number m) (range_with_len 0 16)
+by_b0 : ℕ → ℕ → List (List (Option ℕ))
+by_b0 m i = map (by_b1 m i) (range_with_len 0 2)
 
-tested : DELIVERED ≡ map numbers (range_with_len 0 3)
-unfolding number numbers delivery_of in_some_row delivered_at delivered_set symbol_of table_of table2 table3 table4
+by_index : ℕ → List (List (List (Option ℕ)))
+by_index m = map (by_b0 m) (range_with_len 0 4)
+
+tested : DELIVERED ≡ map by_index (range_with_len 0 3)
+unfolding by_index by_b0 by_b1 delivery_of in_some_row delivered_at delivered_set symbol_of table_of table2 table3 table4
 tested = refl
 
--- The table, read at M - 2 and the symbol's number, gives what the symbol delivers.
-read : (size i b0 b1 m x set : ℕ) → (2 ≤ size) × (size ≤ 4) × (i ≤ 3) × (b0 ≤ 1) × (b1 ≤ 1) → m ≡ size - 2 → x ≡ i * 4 + b0 * 2 + b1
-    → set ≡ get_or (get_or DELIVERED m []) x 0 → cond (ltb set 16) (Some set) None ≡ delivery_of size i b0 b1
-unfolding number numbers
-read size i b0 b1 m x set h em ex es =
-    from_number size i b0 b1 set h.1
-    (es
-    ∙ ap (λ (t : List (List ℕ)). get_or (get_or t m []) x 0) tested
-    ∙ ap (λ (t : List ℕ). get_or t x 0) (get_or-map-range_with_len numbers 0 3 m m [] (omega arith) (omega arith))
-    ∙ get_or-map-range_with_len (number m) 0 16 x x 0 (omega arith) (omega arith)
-    ∙ same)
-  where
-    same : number m x ≡ unwrap_or (delivery_of size i b0 b1) 16
-    same =
-        let a : m + 2 ≡ size = omega arith in
-        let b : x / 4 ≡ i = omega arith in
-        let d : x / 2 % 2 ≡ b0 = omega arith in
-        let e : x % 2 ≡ b1 = omega arith in
-        rw (a, b, d, e)
+-- The table, read at M - 2, the index and the bits, gives what the symbol delivers.
+read : (size i b0 b1 m j x y : ℕ) → (2 ≤ size) × (size ≤ 4) × (i ≤ 3) × (b0 ≤ 1) × (b1 ≤ 1) → m ≡ size - 2 → j ≡ i → x ≡ b0 → y ≡ b1
+    → get_or (get_or (get_or (get_or DELIVERED m []) j []) x []) y None ≡ delivery_of size i b0 b1
+unfolding by_index by_b0 by_b1
+read size i b0 b1 m j x y h em ej ex ey =
+    ap (λ (t : List (List (List (List (Option ℕ))))). get_or (get_or (get_or (get_or t m []) j []) x []) y None) tested
+    ∙ ap (λ (t : List (List (List (Option ℕ)))). get_or (get_or (get_or t j []) x []) y None)
+    (get_or-map-range_with_len by_index 0 3 m m [] (omega arith) (omega arith))
+    ∙ ap (λ (t : List (List (Option ℕ))). get_or (get_or t x []) y None)
+    (get_or-map-range_with_len (by_b0 m) 0 4 j i [] (omega arith) (omega arith))
+    ∙ ap (λ (t : List (Option ℕ)). get_or t y None) (get_or-map-range_with_len (by_b1 m i) 0 2 x b0 [] (omega arith) (omega arith))
+    ∙ get_or-map-range_with_len (delivery_of (m + 2) i b0) 0 2 y b1 None (omega arith) (omega arith)
+    ∙ ap (λ (s : ℕ). delivery_of s i b0 b1) (omega arith)
 
-pub returns-then-set-lt-NO_ROW : goal.returns-then-set-lt-NO_ROW
-returns-then-set-lt-NO_ROW c = let a = c.args in
-    rw (lt-ltb _ 16 c.if-set-lt-NO_ROW.true) at (read a.size a.symbol.index a.symbol.b0 a.symbol.b1 _ _ _ (search rules) c.from.ensures c.from-2.ensures refl)
-
-pub returns-else-set-lt-NO_ROW : goal.returns-else-set-lt-NO_ROW
-returns-else-set-lt-NO_ROW c = let a = c.args in
-    rw (le-ltb _ 16 c.if-set-lt-NO_ROW.false) at (read a.size a.symbol.index a.symbol.b0 a.symbol.b1 _ _ _ (search rules) c.from.ensures c.from-2.ensures refl)
+pub returns : goal.returns
+returns c = let a = c.args in
+    read a.size a.symbol.index a.symbol.b0 a.symbol.b1 _ _ _ _ (search rules) c.from.ensures c.from-2.ensures c.from-3.ensures c.from-4.ensures

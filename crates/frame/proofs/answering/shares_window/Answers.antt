@@ -1,20 +1,16 @@
 -- `frame::answering::shares_window` meets its contract. Assumes nothing.
-use Prim.Native.Nat.{ℕ, ◌+◌, ◌*◌, ◌<◌, ◌≤◌, ◌%◌}
+use Prim.Native.Nat.{ℕ, ◌+◌, ◌<◌, ◌≤◌}
 use mathlib.Core.Path.{◌≡◌}
 use native.Mathlib.Omega.{arith}
 use lib.Dec.{eqb}
-use Rattle.frame.specs.Distance.{distance_of, shares}
+use Rattle.frame.specs.Distance.{before, distance_of, shares}
 use Rattle.frame.proofs.Distances.{distance_most}
 use Rattle.frame.proofs.Shares.{shares_far}
 use Rattle.frame.proofs.answering.shares_window.Goals as goal
 
--- The code counts from n's number in its frame.
-shares-code : (config n a x y : ℕ) → x ≡ distance_of config n → y ≡ distance_of config ((n % 10 + 9 * a) % 10)
-    → eqb (x + a) y ≡ shares config n a
+shares-code : (config n a x y d : ℕ) → x ≡ distance_of config n → d ≡ before n a → y ≡ distance_of config d → eqb (x + a) y ≡ shares config n a
 unfolding shares
-shares-code config n a x y later earlier =
-    let same : (n % 10 + 9 * a) % 10 ≡ (n + 9 * a) % 10 = omega arith in
-    rw (later, earlier, same)
+shares-code config n a x y d later at earlier = rw (later, earlier, at)
 
 small : (config n a x : ℕ) → x ≡ distance_of config n → a ≤ 13 → x + a < 65536
 small config n a x e h = omega (arith, distance_most config n)
@@ -26,4 +22,4 @@ pub overflow_add-result : goal.overflow_add-result
 overflow_add-result c = omega (arith, small _ _ _ _ c.distance_of.ensures c.if-a-gt13.false)
 
 pub returns : goal.returns
-returns c = shares-code _ _ _ _ _ c.distance_of.ensures c.distance_of-2.ensures
+returns c = shares-code _ _ _ _ _ _ c.distance_of.ensures c.before-2.ensures c.distance_of-2.ensures

@@ -1,0 +1,50 @@
+// A trace that is accepted, and its records with their numbers.
+ghost use Rattle.std.specs.Prelude.{◌≡◌, IfOk};
+ghost use Rattle.std.specs.Iterator.Adapters.{zip_first, zip_second};
+ghost use Rattle.frame.specs.Refusals.{refusal_in};
+ghost use Rattle.trace.specs.Trace.{header_of, settings_of, trace_refusal};
+
+use crate::Reader;
+use frame::{Refusal, Settings};
+use std::iter::Zip;
+use std::ops::Range;
+
+// A lent trace that can be read from end to end, and how many records it has. They are counted once: should a C caller's output overlap
+// the trace, no more are read than were counted before anything was written.
+#[derive(Clone, Copy)]
+pub struct Trace<'a> {
+    pub bytes: &'a [u8],
+    pub records: u16,
+    pub ghost accepted: { trace_refusal bytes.now ≡ 0 },
+    pub ghost counted: { records ≡ (header_of bytes.now).records },
+}
+
+impl<'a> Trace<'a> {
+    // 21, then 22 for the parts and for a kind over 3 in any record.
+    #[tactic(auto, using(frame::proofs::Refused::first_refused, frame::proofs::Refused::first_accepted))]
+    pub fn new(bytes: &'a [u8]) -> Result<Trace<'a>, Refusal>
+        ensures refusal { refusal_in result ≡ trace_refusal bytes.now }
+        ensures lent { IfOk result (λ trace. trace.bytes ≡ bytes.entry) }
+    {
+        trace::check_trace(bytes)?;
+        Ok(Trace {
+            bytes,
+            records: trace::header_of(bytes).records,
+        })
+    }
+
+    pub fn settings(self) -> Settings
+        ensures { result ≡ settings_of self.entry.bytes.now }
+    {
+        trace::settings_of(self.bytes)
+    }
+
+    // The records as a reader gives them, each with its number.
+    pub fn numbered(self) -> Zip<Range<u16>, Reader<'a>>
+        ensures numbers { zip_first result ≡ record { start = 0; end = self.entry.records } }
+        ensures trace { (zip_second result).trace ≡ self.entry.bytes }
+        ensures first { (zip_second result).next ≡ 0 }
+    {
+        (0..self.records).zip(Reader::new(self.bytes))
+    }
+}
