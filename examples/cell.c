@@ -2,9 +2,9 @@
  * A worked cell: a station that sends grants, scheduled blocks and releases, reads the replies and
  * bills a tenant for what they confirm, a radio that loses some on the way to the handset, higher
  * layers that change the mode, and a check that sees both ends. A line for each window and each
- * change; it fails if a block leaves the station's retransmission buffer undecoded, or if more
- * octets are billed in a window than were decoded there. Last comes a handset with two antenna
- * ports.
+ * change, with the cause where the handset is silent; it fails if a block leaves the station's
+ * retransmission buffer undecoded, if more octets are billed in a window than were decoded there,
+ * or if the cause of a silence is untrue. Last comes a handset with two antenna ports.
  *   cc -std=c11 -I include -o cell examples/cell.c target/staticlib/libfeedback.a
  *   ./cell 5 0 40 50 7   configuration 5, mode 0 (bundling), 40 frames, 50 % lost, seed 7
  */
@@ -212,8 +212,12 @@ struct radio {
     char marks[16][3]; /* of the blocks sent in s, at s % 16: ? lost, x undecoded, + decoded */
 };
 
-/* The handset in subframe s: it takes what it hears, or says what it sends. */
-static struct feedback_fed receive_in(struct radio *radio, unsigned s, struct feedback_sent sent)
+/*
+ * The handset in subframe s: it takes what it hears, or says what it sends, and if that is nothing,
+ * why.
+ */
+static struct feedback_silence_answer receive_in(struct radio *radio, unsigned s,
+                                                 struct feedback_sent sent)
 {
     char *marks = radio->marks[s % 16];
     bool lost = draw(&radio->random, 100) < radio->loss;
@@ -224,23 +228,24 @@ static struct feedback_fed receive_in(struct radio *radio, unsigned s, struct fe
     if (kind_of(sent) == FEEDBACK_SLOT_RELEASE && lost)
         marks[0] = '?';
     uint16_t first = marks[0] == '+', second = marks[1] == '+';
-    struct feedback_fed fed;
+    struct feedback_silence_answer told = {.cause = FEEDBACK_CAUSE_NONE};
+    struct feedback_fed *fed = &told.fed;
     switch (lost ? FEEDBACK_SLOT_NOTHING : kind_of(sent)) {
     case FEEDBACK_SLOT_GRANT:
-        fed = feedback_feed_grant(radio->handset, sent.blocks, first, second, sent.cce, sent.dai);
+        *fed = feedback_feed_grant(radio->handset, sent.blocks, first, second, sent.cce, sent.dai);
         break;
     case FEEDBACK_SLOT_SCHEDULED:
-        fed = feedback_feed_scheduled(radio->handset, sent.blocks, first, second);
+        *fed = feedback_feed_scheduled(radio->handset, sent.blocks, first, second);
         break;
     case FEEDBACK_SLOT_RELEASE:
-        fed = feedback_feed_release(radio->handset, sent.cce, sent.dai);
+        *fed = feedback_feed_release(radio->handset, sent.cce, sent.dai);
         break;
     default:
-        fed = feedback_feed_nothing(radio->handset);
+        told = feedback_silence(radio->handset); /* feedback_feed_nothing, with the cause */
     }
-    accepted(fed.refusal);
-    radio->handset = fed.handset;
-    return fed;
+    accepted(fed->refusal);
+    radio->handset = fed->handset;
+    return told;
 }
 
 /* ==== Higher layers. They change the mode of both ends between two subframes. ==== */
@@ -265,6 +270,7 @@ static const char *const acks[] = {"NACK NACK", "NACK ACK", "ACK NACK", "ACK ACK
 struct tally {
     unsigned sent, left, undecoded; /* blocks */
     unsigned octets, overpaid;      /* billed by the answers; of these beyond what was decoded */
+    unsigned misled;                /* silences with a cause that is not true */
 };
 
 /* The octets of a block that was sent: its row of sizes has its I_TBS. */
@@ -295,9 +301,41 @@ static void check_bill(struct tally *tally, const struct station *station,
     tally->overpaid += billed > decoded ? billed - decoded : 0;
 }
 
-static void check(struct tally *tally, const struct station *station, const struct radio *radio,
-                  unsigned s, struct feedback_fed fed, struct verdict verdict, int width)
+/*
+ * The cause of a silence, beside what was heard and, which the handset did not know, lost: nothing
+ * was heard; or V is the DAI of the last PDCCH heard and the value expected is by their number, and
+ * as many as these two differ by, modulo 4, were lost before it, and that is not 0.
+ */
+static bool is_cause(const struct window *window, const struct radio *radio, unsigned s,
+                     struct feedback_silence_answer told)
 {
+    unsigned blocks = 0, pdcchs = 0, dai = 0, lost = 0, lost_before = 0;
+    for (unsigned i = 0; i < window->table.size; i++) {
+        unsigned m = window->table.order[i], kind = kind_of(window->sent.at[m]);
+        bool is_lost = radio->marks[(s - window->table.k[m]) % 16][0] == '?';
+        if (kind == FEEDBACK_SLOT_SCHEDULED)
+            blocks += !is_lost;
+        else if (kind != FEEDBACK_SLOT_NOTHING && is_lost)
+            lost++;
+        else if (kind != FEEDBACK_SLOT_NOTHING) {
+            pdcchs++;
+            dai = window->sent.at[m].dai;
+            lost_before = lost;
+        }
+    }
+    if (pdcchs == 0)
+        return told.cause == FEEDBACK_CAUSE_NOTHING_HEARD && blocks == 0 && told.v == 0 &&
+               told.expected == 0;
+    return told.cause == FEEDBACK_CAUSE_MISS_SHOWN && told.v == dai &&
+           told.expected == (pdcchs - 1) % 4 + 1 && lost_before % 4 != 0 &&
+           lost_before % 4 == (told.v + 4u - told.expected) % 4;
+}
+
+static void check(struct tally *tally, const struct station *station, const struct radio *radio,
+                  unsigned s, struct feedback_silence_answer told, struct verdict verdict,
+                  int width)
+{
+    const struct feedback_fed fed = told.fed;
     const struct window *window = &station->window[s % 16];
     static const char *const kinds[] = {"-", "", "s", "r"}; /* by enum feedback_slot_kind */
     const struct feedback_window_answer *table = &window->table;
@@ -311,7 +349,10 @@ static void check(struct tally *tally, const struct station *station, const stru
         tally->sent += window->sent.at[m].blocks;
     }
     if (fed.kind == FEEDBACK_KIND_SILENT) {
-        printf("%*s| silent\n", width, "");
+        bool is_true = is_cause(window, radio, s, told);
+        printf("%*s| silent: %s%s\n", width, "",
+               feedback_cause_text(told.cause, told.v, told.expected), is_true ? "" : " UNTRUE");
+        tally->misled += !is_true;
         return;
     }
     char name[12] = "block";
@@ -374,18 +415,19 @@ static int run(const uint16_t number[ARGUMENTS])
     for (unsigned s = 0; s < number[FRAMES] * 10u; s++) {
         if (number[CHANGE] != 0 && s != 0 && s % number[CHANGE] == 0)
             change_mode(&station, &radio, s);
-        struct feedback_fed fed = receive_in(&radio, s, send_in(&station, s));
+        struct feedback_silence_answer told = receive_in(&radio, s, send_in(&station, s));
+        const struct feedback_fed fed = told.fed;
         struct verdict verdict = {0};
         if (fed.kind == FEEDBACK_KIND_TAKEN || fed.kind == FEEDBACK_KIND_NO_WINDOW ||
             station.window[s % 16].table.size == 0) /* a window that began before the run */
             continue;
         if (fed.kind != FEEDBACK_KIND_SILENT) /* the reply comes in at the station */
             verdict = conclude(&station, s, fed.resource, fed.b0, fed.b1);
-        check(&tally, &station, &radio, s, fed, verdict, width);
+        check(&tally, &station, &radio, s, told, verdict, width);
     }
     printf("of %u blocks %u left the buffer, %u of them undecoded\n", tally.sent, tally.left,
            tally.undecoded);
-    return !put_bill(station.account, &tally) || tally.undecoded != 0;
+    return !put_bill(station.account, &tally) || tally.undecoded != 0 || tally.misled != 0;
 }
 
 /* ==== Two antenna ports: a handset that replies on two resources, beside one with one port ==== */
@@ -483,7 +525,8 @@ int main(int argc, char **argv)
     puts("Blocks a and b of a subframe: + decoded, x heard but not decoded, ? lost; - none sent.\n"
          "s: they are scheduled, with no PDCCH. r: a release, which has no blocks; r? lost.\n"
          "! a grant of the second handset was held back: it would have shared the resource.\n"
-         "Reply: bits on a PUCCH resource. Reading: the PDCCH named, or the scheduled block.\n"
+         "Reply: bits on a PUCCH resource, or why the handset is silent.\n"
+         "Reading: the PDCCH named, or the scheduled block.\n"
          "Octets: billed by this reply, of blocks that leave the buffer.");
     int status = 0;
     for (size_t i = 0; i < (argc > 1 ? 1 : sizeof runs / sizeof *runs); i++)

@@ -24,8 +24,8 @@
  *   drive                   feedback_trace_write
  *
  * feedback_text.h has the refusals, the kinds and the cause of a silence as texts for a
- * log. examples/cell.c runs both ends against each other and bills for what is confirmed,
- * examples/replay.c replays a drive and spells it.
+ * log. examples/cell.c runs both ends against each other, tells why a handset is silent and
+ * bills for what is confirmed, examples/replay.c replays a drive and spells it.
  *
  *
  * TERMS
@@ -259,8 +259,8 @@
 #include <stdint.h>
 
 /* This header's version: major * 10000 + minor * 100 + patch, and the same as text. */
-#define FEEDBACK_VERSION 50100
-#define FEEDBACK_VERSION_TEXT "5.1.0"
+#define FEEDBACK_VERSION 50200
+#define FEEDBACK_VERSION_TEXT "5.2.0"
 
 #define FEEDBACK_WINDOW_MOST 9     /* the most subframes of a window: M in configuration 5 */
 #define FEEDBACK_MEMORY 13         /* the subframes that a handset remembers: the greatest k */
@@ -318,8 +318,8 @@ extern "C" {
  * A refused call changes nothing: no buffer is written, no state moves on, nothing is
  * made or credited. Beside a refusal every other number of the answer is 0. There are six
  * exceptions: a feed, feedback_silence too, and a change of mode give back the handset as
- * it was, and feedback_credit the account; feedback_open_account gives back the price that it refuses;
- * 16 comes with an index; a replay that stops at a record has the kind
+ * it was, and feedback_credit the account; feedback_open_account gives back the price that
+ * it refuses; 16 comes with an index; a replay that stops at a record has the kind
  * FEEDBACK_REPLAY_STOPPED, leaves the windows before it in the output, and tells how many
  * they are and the record's number; and where a record keeps a trace from being written,
  * the kind is FEEDBACK_WRITE_STOPPED, with the record's number.

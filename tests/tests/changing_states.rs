@@ -107,8 +107,8 @@ fn a_change_leaves_all_but_the_mode() {
     comparison.finish(13 * 10 * 8 * 3, 13 * 10 * 8 * 3 - 10 * 8);
 }
 
-/// Every value of every byte of a handset, for a feed of nothing and for changes to a mode
-/// and to another number.
+/// Every value of every byte of a handset, for a feed of nothing, with the cause of a silence
+/// too, and for changes to a mode and to another number.
 #[test]
 fn every_byte_of_a_handset() {
     let model = Model::new();
@@ -128,6 +128,7 @@ fn every_byte_of_a_handset() {
                 let handset = Handset::from_bytes(changed);
                 let fed = comparison.feed(handset, Heard::Nothing);
                 assert!(fed.refusal == 0 || fed.handset.bytes() == changed, "{handset:?}");
+                comparison.silence(handset);
                 for mode in [0, 1, 2] {
                     let changed = comparison.change_mode(handset, mode);
                     hold_bytes(handset, mode, changed);
@@ -137,7 +138,7 @@ fn every_byte_of_a_handset() {
             }
         }
     }
-    comparison.finish_with(4 * 74 * 256 * 4, &[0, 4, 5, 8, 24], &[0, 1, 2]);
+    comparison.finish_with(4 * 74 * 256 * 5, &[0, 4, 5, 8, 24], &[0, 1, 2]);
 }
 
 /// Each field of a full handset with each of its special values, in every subframe of every

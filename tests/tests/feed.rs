@@ -134,7 +134,7 @@ fn every_number_as_each_argument() {
 
 /// Each field of the handset with each of its special values, in every subframe
 /// of every configuration, empty and full, fed with nothing, an allowed grant and
-/// one that meets every cause there is.
+/// one that meets every cause there is; and asked for the cause of a silence.
 #[test]
 fn damaged_states() {
     let model = Model::new();
@@ -153,15 +153,19 @@ fn damaged_states() {
                 for heard in [None, Some(grant), Some(all_wrong)] {
                     comparison.feed(handset, heard);
                 }
+                comparison.silence(handset);
             }
             fed += comparison.total() - prepared;
         }
     }
-    assert_eq!(fed, 26 * 10 * 2 * every::DAMAGED * 3);
+    assert_eq!(fed, 26 * 10 * 2 * every::DAMAGED * (3 + 1));
     comparison.finish_with(comparison.total(), &[0, 8, 9, 10, 20], &[0, 1, 2, 3, 4, 5]);
+    println!("silences by cause {:?}", comparison.of_causes());
+    assert!(comparison.of_causes().iter().all(|number| *number > 1000));
 }
 
-/// Every byte as every field of every slot.
+/// Every byte as every field of every slot, fed with nothing and asked for the cause of a
+/// silence.
 #[test]
 fn every_byte_of_every_slot() {
     let model = Model::new();
@@ -187,12 +191,13 @@ fn every_byte_of_every_slot() {
                     let mut changed = handset;
                     set(&mut changed.past[at], byte);
                     comparison.feed(changed, None);
+                    comparison.silence(changed);
                 }
             }
         }
         fed += comparison.total() - prepared;
     }
-    assert_eq!(fed, 3 * 13 * 256 * 4);
+    assert_eq!(fed, 3 * 13 * 256 * 4 * 2);
     comparison.finish_with(comparison.total(), &[0, 8], &[0, 1, 2]);
 }
 

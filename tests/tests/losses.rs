@@ -1,13 +1,15 @@
 //! However the losses fall, the station hears the truth: runs of a handset in
 //! which every window meets every pattern of grants not sent, lost and heard.
 //! Each reply is read, and the reading is held to what was sent, heard and
-//! decoded, in the words of the papers. The model gives the windows, the symbol
-//! of a state and the positions that are A in every state with one symbol.
+//! decoded, in the words of the papers; so is the cause of each silence. The model
+//! gives the windows, the symbol of a state and the positions that are A in every
+//! state with one symbol.
 
 use feedback_tests::model::{bundles, edge, frame, Model, Window};
 use feedback_tests::random::Random;
 use feedback_tests::{
-    feed, make, reading, resource, Fed, Grant, Handset, ReadingAnswer, Settings, NOT_TOLD,
+    feed, make, reading, resource, silence, Fed, Grant, Handset, ReadingAnswer, Settings,
+    SilenceAnswer, NOT_TOLD,
 };
 use std::cmp::Reverse;
 
@@ -210,7 +212,12 @@ impl<'a> Run<'a> {
             }
             let fed = feed(handset, self.sent[s].heard());
             assert_eq!(fed.refusal, 0, "{:?}, s {s}: {:?}, {fed:?}", self.settings, self.sent[s]);
-            self.check_answer(s, fed);
+            let answer = match frame(self.settings.config).as_bytes()[s % 10] {
+                b'U' => silence(handset),
+                _ => SilenceAnswer::not_silent(fed),
+            };
+            assert_eq!(answer.fed, fed, "{:?}, s {s}: with a cause, without", self.settings);
+            self.check_answer(s, answer);
             handset = fed.handset;
         }
     }
@@ -235,12 +242,14 @@ impl<'a> Run<'a> {
         self.refused += 1;
     }
 
-    fn check_answer(&mut self, s: usize, fed: Fed) {
+    fn check_answer(&mut self, s: usize, answer: SilenceAnswer) {
+        let SilenceAnswer { fed, cause, v, expected } = answer;
         let n = (s % 10) as u16;
         let window = self.windows.iter().find(|window| window.n == n);
+        let without_cause = |kind| SilenceAnswer::not_silent(Fed::answer(kind, fed.handset));
         match (window, frame(self.settings.config).as_bytes()[s % 10]) {
-            (None, b'U') => assert_eq!(fed, Fed::answer(Fed::NO_WINDOW, fed.handset), "s {s}"),
-            (None, _) => assert_eq!(fed, Fed::answer(Fed::TAKEN, fed.handset), "s {s}"),
+            (None, b'U') => assert_eq!(answer, without_cause(Fed::NO_WINDOW), "s {s}"),
+            (None, _) => assert_eq!(answer, without_cause(Fed::TAKEN), "s {s}"),
             (Some(window), _) => {
                 let positions: Vec<(u16, Sent)> = window
                     .k
@@ -253,10 +262,12 @@ impl<'a> Run<'a> {
                     true => self.bundled(window, &positions, fed),
                     false => self.multiplexed(window, &positions, fed),
                 };
+                let problem = problem.or_else(|| self.cause(window, &positions, answer));
                 assert!(
                     problem.is_none(),
                     "{:?}, s {s}, n {n}, positions (k, sent) {positions:?}: the answer is kind {}, \
-                     resource {}, second {}, bits {} {}, its reading {:?}: {}",
+                     resource {}, second {}, bits {} {}, cause {cause}, V {v}, expected {expected}, \
+                     its reading {:?}: {}",
                     self.settings,
                     fed.kind,
                     fed.resource,
@@ -269,6 +280,42 @@ impl<'a> Run<'a> {
                 self.checked += 1;
             }
         }
+    }
+
+    /// What the papers say of the cause of a silence and is not so here.
+    fn cause(
+        &self,
+        window: &Window,
+        positions: &[(u16, Sent)],
+        answer: SilenceAnswer,
+    ) -> Option<&'static str> {
+        let SilenceAnswer { fed, cause, v, expected } = answer;
+        if (cause != SilenceAnswer::NOT_SILENT) != (fed.kind == Fed::SILENT) {
+            return Some("a cause is given exactly beside a silent answer");
+        }
+        let heard = |sent: &Sent| sent.heard().is_some();
+        if (cause == SilenceAnswer::NOTHING_HEARD) == positions.iter().any(|(_, sent)| heard(sent))
+        {
+            return Some("it is the first exactly if nothing was heard in the window");
+        }
+        if cause > SilenceAnswer::MISS_SHOWN {
+            return Some("a cause is 0, 1 or 2");
+        }
+        if cause != SilenceAnswer::MISS_SHOWN {
+            return ((v, expected) != (0, 0)).then_some("values without a miss");
+        }
+        if self.settings.config == 0 || !bundles(self.settings, window.size()) {
+            return Some("a miss is shown in bundled windows of configurations 1 to 6");
+        }
+        let latest = positions.iter().filter(|(_, sent)| heard(sent)).min_by_key(|(k, _)| *k);
+        let (latest, dai) = latest.map(|(k, sent)| (*k, sent.heard().map(|grant| grant.dai)))?;
+        if Some(v) != dai || v == expected || !(1..=4).contains(&expected) {
+            return Some("V is the DAI of the last heard grant, and another value was expected");
+        }
+        let lost = positions.iter().filter(|(k, sent)| *k > latest && sent.is_lost()).count();
+        let beyond = usize::from((v + 4 - expected) % 4);
+        let counted = if window.size() <= 4 { lost } else { lost % 4 };
+        (beyond != counted).then_some("V is beyond the value expected by the lost ones, modulo 4")
     }
 
     /// What the papers say of a bundled window and is not so here.

@@ -5,11 +5,11 @@ use feedback_tests::form::FORMS;
 use feedback_tests::trace::{put_number, Trace, LENGTH_AT, SETTINGS_AT};
 use feedback_tests::{
     answered, change_mode, confirmed, credit, feed_grant, feed_nothing, feed_release,
-    feed_scheduled, inverse, make, open_account, reading, record, replay, resource, trace_write,
-    window, Account, AnsweredAnswer, Block, Changed, ClaimsAnswer, ConfirmedAnswer, CreditAnswer,
-    Exchange, Fed, Grant, Handset, InverseAnswer, Made, Opened, ReadingAnswer, RecordAnswer,
-    Release, ReplayAnswer, ResourceAnswer, Sent, SentWindow, Settings, Slot, WindowAnswer,
-    WriteAnswer, NONE, NOT_TOLD,
+    feed_scheduled, inverse, make, open_account, reading, record, replay, resource, silence,
+    trace_write, window, Account, AnsweredAnswer, Block, Changed, ClaimsAnswer, ConfirmedAnswer,
+    CreditAnswer, Exchange, Fed, Grant, Handset, InverseAnswer, Made, Opened, ReadingAnswer,
+    RecordAnswer, Release, ReplayAnswer, ResourceAnswer, Sent, SentWindow, Settings, SilenceAnswer,
+    Slot, WindowAnswer, WriteAnswer, NONE, NOT_TOLD,
 };
 use std::fmt::Debug;
 
@@ -207,9 +207,12 @@ impl Count {
         self.due(number, record(trace, next), RecordAnswer::refused(number));
     }
 
-    /// The handset is left as it was, whatever it is fed, and keeps its mode.
+    /// The handset is left as it was, whatever it is fed, and keeps its mode. A refusal has no
+    /// cause.
     fn bad_state(&mut self, handset: Handset) {
-        self.due(8, feed_nothing(handset), Fed::refused(8, handset));
+        let fed = Fed::refused(8, handset);
+        self.due(8, feed_nothing(handset), fed);
+        self.due(8, silence(handset), SilenceAnswer { fed, cause: 0, v: 0, expected: 0 });
         self.feed_grant(8, handset, GRANT);
         self.feed_grant(8, handset, Grant { blocks: 0, cce: 61, dai: 0, ..GRANT });
         self.feed_scheduled(8, handset, BLOCK);
@@ -342,8 +345,8 @@ fn every_number_occurs() {
     let at_records = |causes: u64| 3 * causes;
     // The confirmed blocks, and a credit.
     let both = |causes: u64| 2 * causes;
-    // Seven feeds and a mode change.
-    let bad_states = |states: u64| 8 * states;
+    // Seven feeds, the cause of a silence and a mode change.
+    let bad_states = |states: u64| 9 * states;
     let states = bad_states(28 + 9 * 7 + 4 + 3) + 1;
     let remembering = bad_states(9 * 6 + 4 * 2 + 2) + 2;
     let shorts = 4;

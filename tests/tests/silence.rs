@@ -1,8 +1,8 @@
 //! The cause of a silence. Every window meets every way in which PDCCHs and a scheduled block are
 //! not sent, lost and heard, and every DAI in every place, and what is told of it is held to the
-//! model and to the papers' words. Nothing is sampled: a window of nine has 3^9 ways to send
-//! nothing, lose a grant or hear it. Rules that differ from the papers' in one point are shown to
-//! tell otherwise.
+//! papers' words and to plain Rust, and to the model, which of the two largest counts sees a part
+//! or none. No window is sampled: one of nine has 3^9 ways to send nothing, lose a grant or hear
+//! it. Rules that differ from the papers' in one point are shown to tell otherwise.
 
 use feedback_tests::compare::{hold_beside_the_feed, Comparison};
 use feedback_tests::every;
@@ -359,6 +359,7 @@ fn every_pattern_of_other_cells() {
         };
         all.add(tried.finish(3u64.pow(size as u32), OF_THIRDS.unheard(size), misses));
     }
+    all.assert_caught_all_but(&[]);
     // Four pairs of prefix and special configuration in two modes with one block or two, and two
     // ports with one or two.
     let compared = (4 * 4 + 2) * in_windows([3, 9, 27, 81]) + 2 * 19_683;

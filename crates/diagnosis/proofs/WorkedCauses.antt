@@ -1,5 +1,5 @@
 -- Causes on numbers: what is told beside every answer of runs that meet the hypotheses of demand 3, so that the theorem is about
--- something, and of lent states that no run comes to. The runs that are not here are those of engines/proofs, whose cells these are:
+-- something, and of lent states, two of which no run comes to. The runs that are not here are those of engines/proofs, whose cells these are:
 -- N_RB 50, N1 10, the scheduled resource 7 where one is set.
 -- Assumes nothing.
 use Rattle.std.proofs.Common.{Option, Some, None, Result, Ok, Err}

@@ -1,16 +1,16 @@
 -- What the statement of the causes shuts out, field by field, by the runs of WorkedCauses.antt and engines/proofs.
 --
---   fed            the cause alone: the handset is not fed                               not_unfed
+--   fed             the cause alone: the handset is not fed                               not_unfed
 --   not_silent      a cause beside every answer, a lone scheduled block's too             not_everywhere
---                  no cause at all                                                       not_never
---                  a cause where the mode that stands would be silent                    not_standing_mode
+--                   no cause at all                                                       not_never
+--                   a cause where the mode that stands would be silent                    not_standing_mode
 --   nothing_heard   a miss told of every silence                                          not_always_missed
 --   miss_shown      nothing heard told of every silence                                   not_always_nothing
---   values         U counts the scheduled block                                          not_block_counted
---                  the value expected without the modulus                                not_unwrapped
---                  V of the last position of K, which need not be the latest subframe    not_by_position
+--   values          U counts the scheduled block                                          not_block_counted
+--                   the value expected without the modulus                                not_unwrapped
+--                   V of the last position of K, which need not be the latest subframe    not_by_position
 --   how_many        V and the value expected exchanged                                    not_exchanged
---   exactly        the value expected always 1                                           not_always_one
+--   exactly         the value expected always 1                                           not_always_one
 -- Assumes nothing.
 use Rattle.std.proofs.Common.{Option, Some, None, Result, Ok, Err}
 use Prim.Native.Nat.{ℕ, suc, ◌+◌}

@@ -17,7 +17,6 @@ use Rattle.frame.proofs.Causes.{window_accepted}
 use Rattle.frame.proofs.Earliest.{earliest_most, earliest_least}
 use Rattle.frame.proofs.Windows.{window_uplink}
 use Rattle.resource.specs.Calls.{size_of}
-use Rattle.resource.specs.Formula.{edge}
 use Rattle.resource.proofs.OneToOne.{calls_one_to_one}
 use Rattle.reply.specs.declared.Answer.TheVariants.{Silent}
 use Rattle.heard.specs.declared.Control.{Control}
@@ -49,10 +48,6 @@ seen_valid s n (Released p) e g v =
     let cce : p.cce ≡ g.cce = cc in
     let dai : p.dai ≡ g.dai = cc in
     rw (cce, dai) at (valid s n (Released p) e).1
-
--- The first CCE that a reply sees of what is valid lies below N_4.
-seen_low : (s : Settings) (n : ℕ) (x : Heard) → heard_refusal s n x ≡ 0 → (g : Control) → view_of x ≡ Pdcch g → g.cce.0 < edge s.nrb 4
-seen_low s n x e g v = (seen_valid s n x e g v).cce_low
 
 module _ (h : Handset) (accepted : state_refusal h ≡ 0) (window : 0 < size_of h.settings h.next) where
   -- The window's settings are accepted: its mode is one that 8 looked at.

@@ -2,7 +2,7 @@
 -- Assumes nothing.
 use mathlib.Core.Path.{◌≡◌, refl, sym, ap, ◌∙◌}
 use Rattle.numbers.specs.Answers.{answered_answer, made_answer, changed_answer, resource_answer, inverse_answer, reading_answer, claims_answer, fed_answer, silence_answer, record_answer, confirmed_answer, opened_answer, credit_answer, replay_answer, write_answer}
-use Rattle.numbers.specs.Back.{window_in, answered_in, made_in, changed_in, mapped_in, inverted_in, reading_in, checked_in, fed_in, explained_in, record_in, AnswersComeBack, Apart, SameNumbers, KindsOfAnswers, SilenceNumbers, confirmed_in, opened_in, credited_in, replayed_in, written_in}
+use Rattle.numbers.specs.Back.{window_in, answered_in, made_in, changed_in, mapped_in, inverted_in, reading_in, checked_in, fed_in, explained_in, record_in, AnswersComeBack, Apart, SameNumbers, KindsOfAnswers, confirmed_in, opened_in, credited_in, replayed_in, written_in}
 use Rattle.numbers.proofs.WindowKept.{window_back, answered_back}
 use Rattle.numbers.proofs.ResourceKept.{resource_back}
 use Rattle.numbers.proofs.InverseKept.{inverse_back}
@@ -27,6 +27,7 @@ answers_come_back =
       make = λ s. refl;
       change = λ h mode. refl;
       feed = λ h x. (feed_kept h x).0;
+      silence = silence_back;
       reader = λ l i. (reader_kept l i).0;
       replay = λ l room. refl;
       writing = λ l room. refl;
@@ -51,6 +52,7 @@ same_numbers =
       make = λ s t. alike made_answer made_in (l.make s) (l.make t);
       change = λ h i m n. alike changed_answer changed_in (l.change h m) (l.change i n);
       feed = λ h i x y. alike fed_answer fed_in (l.feed h x) (l.feed i y);
+      silence = λ h i x y. alike silence_answer explained_in (l.silence h x) (l.silence i y);
       reader = λ a b i j. alike record_answer record_in (l.reader a i) (l.reader b j);
       replay = λ a b room room'. alike replay_answer replayed_in (l.replay a room) (l.replay b room');
       writing = λ a b room room'. alike write_answer written_in (l.writing a room) (l.writing b room');
@@ -62,15 +64,8 @@ kinds_of_answers =
       reading = λ s n t r b0 b1. (reading_kept s n t r b0 b1).1;
       claims = λ s n list room lent. (claims_kept s n list room lent).1;
       feed = λ h x. (feed_kept h x).1;
+      silence = silence_told;
       reader = λ l i. (reader_kept l i).1;
       replay = replay_told;
       writing = writing_told;
-    }
-
-pub silence_numbers : SilenceNumbers
-silence_numbers =
-    record {
-      back = silence_back;
-      apart = λ h i x y. alike silence_answer explained_in (silence_back h x) (silence_back i y);
-      told = silence_told;
     }

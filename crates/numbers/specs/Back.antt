@@ -57,7 +57,7 @@ use Rattle.numbers.specs.declared.feeds.MadeAnswer.{MadeAnswer}
 use Rattle.numbers.specs.declared.frames.AnsweredAnswer.{AnsweredAnswer}
 use Rattle.numbers.specs.Answers.{window_answer, answered_answer, made_answer, changed_answer, resource_answer, inverse_answer, reading_answer, claims_answer, fed_answer, silence_answer, record_answer, confirmed_answer, opened_answer, credit_answer, replay_answer, write_answer}
 use Rattle.reply.specs.Kinds.{kind_bundled, kind_multiplexed, kind_number}
-use Rattle.numbers.specs.Kinds.{kind_silent, kind_taken, kind_no_window, cause_none, cause_nothing_heard, cause_miss_shown, claims_clash, record_end}
+use Rattle.numbers.specs.Kinds.{kind_silent, kind_taken, kind_no_window, cause_nothing_heard, cause_miss_shown, claims_clash, record_end}
 
 -- What feedback_window answers before it stands in arrays of nine: a refusal, or K as printed and its positions in time order.
 unfoldable pub told_window : Settings → ℕ → Result (List ℕ × List ℕ) ℕ
@@ -162,6 +162,7 @@ pub record AnswersComeBack : Type 0 where
   pub make : (s : Settings) → made_in (made_answer (make_of s)) ≡ make_of s
   pub change : (h : Handset) (mode : ℕ) → changed_in (changed_answer (change_of h mode)) ≡ change_of h mode
   pub feed : (h : Handset) (x : Heard) → fed_in (fed_answer (feed_of h x)) ≡ feed_of h x
+  pub silence : (h : Handset) (x : Heard) → explained_in (silence_answer (explain_of h x)) ≡ explain_of h x
   pub reader : (l : List ℕ) (i : ℕ) → record_in (record_answer (record_of l i)) ≡ record_of l i
   pub replay : (l : List ℕ) (room : ℕ) → replayed_in (replay_answer (replay_of l room)) ≡ replay_of l room
   pub writing : (l : List ℕ) (room : ℕ) → written_in (write_answer (write_of l room)) ≡ write_of l room
@@ -186,6 +187,7 @@ pub record SameNumbers : Type 0 where
   pub make : (s t : Settings) → Apart made_answer (make_of s) (make_of t)
   pub change : (h i : Handset) (m n : ℕ) → Apart changed_answer (change_of h m) (change_of i n)
   pub feed : (h i : Handset) (x y : Heard) → Apart fed_answer (feed_of h x) (feed_of i y)
+  pub silence : (h i : Handset) (x y : Heard) → Apart silence_answer (explain_of h x) (explain_of i y)
   pub reader : (l m : List ℕ) (i j : ℕ) → Apart record_answer (record_of l i) (record_of m j)
   pub replay : (l m : List ℕ) (room room' : ℕ) → Apart replay_answer (replay_of l room) (replay_of m room')
   pub writing : (l m : List ℕ) (room room' : ℕ) → Apart write_answer (write_of l room) (write_of m room')
@@ -200,23 +202,17 @@ KindFor most kind refusal = (eqb kind 0 ≡ not (eqb refusal 0)) × (leb kind mo
 abbrev pub DoneFor : ℕ → ℕ → Type 0
 DoneFor kind refusal = (eqb kind replay_done ≡ eqb refusal 0) × (leb kind replay_stopped ≡ true)
 
+-- A silence has a cause, and no other answer has one: the cause is 0 exactly where the kind is not that of a silence.
+abbrev pub CauseFor : ℕ → ℕ → Type 0
+CauseFor cause kind = (eqb cause 0 ≡ not (eqb kind kind_silent)) × (leb cause cause_miss_shown ≡ true)
+
 pub record KindsOfAnswers : Type 0 where
   pub reading : (s : Settings) (n : ℕ) (t : Option ℕ) (r b0 b1 : ℕ)
       → KindFor (kind_number kind_multiplexed) (reading_answer (read_of s n t r b0 b1)).kind (reading_answer (read_of s n t r b0 b1)).refusal
   pub claims : (s : Settings) (n : ℕ) (list : List ℕ) (room lent : ℕ)
       → KindFor claims_clash (claims_answer (checked_with s n list room lent)).kind (claims_answer (checked_with s n list room lent)).refusal
   pub feed : (h : Handset) (x : Heard) → KindFor kind_no_window (fed_answer (feed_of h x)).kind (fed_answer (feed_of h x)).refusal
+  pub silence : (h : Handset) (x : Heard) → CauseFor (silence_answer (explain_of h x)).cause (silence_answer (explain_of h x)).fed.kind
   pub reader : (l : List ℕ) (i : ℕ) → KindFor record_end (record_answer (record_of l i)).kind (record_answer (record_of l i)).refusal
   pub replay : (l : List ℕ) (room : ℕ) → DoneFor (replay_answer (replay_of l room)).kind (replay_answer (replay_of l room)).refusal
   pub writing : (l : List ℕ) (room : ℕ) → DoneFor (write_answer (write_of l room)).kind (write_answer (write_of l room)).refusal
-
--- A silence has a cause, and no other answer has one: the cause is 0 exactly where the kind is not that of a silence.
-abbrev pub CauseFor : ℕ → ℕ → Type 0
-CauseFor cause kind = (eqb cause cause_none ≡ not (eqb kind kind_silent)) × (leb cause cause_miss_shown ≡ true)
-
--- The numbers of the call that tells the cause of a silence: its answers come back, no two look alike, and a cause stands beside a
--- silence alone.
-pub record SilenceNumbers : Type 0 where
-  pub back : (h : Handset) (x : Heard) → explained_in (silence_answer (explain_of h x)) ≡ explain_of h x
-  pub apart : (h i : Handset) (x y : Heard) → Apart silence_answer (explain_of h x) (explain_of i y)
-  pub told : (h : Handset) (x : Heard) → CauseFor (silence_answer (explain_of h x)).cause (silence_answer (explain_of h x)).fed.kind
