@@ -359,7 +359,16 @@ fn every_pattern_of_other_cells() {
         };
         all.add(tried.finish(3u64.pow(size as u32), OF_THIRDS.unheard(size), misses));
     }
-    all.assert_caught_all_but(&[]);
+    // No scheduled block is sent here, nothing beside the window, and the mode never changes. In
+    // a window of one DAI 1 is sent.
+    all.assert_caught_all_but(&[
+        "a lone scheduled block is nothing heard",
+        "the scheduled block counted in U",
+        "all that is remembered for the window",
+        "the standing mode",
+        "the mode at the last subframe",
+        "a miss told in configuration 0",
+    ]);
     // Four pairs of prefix and special configuration in two modes with one block or two, and two
     // ports with one or two.
     let compared = (4 * 4 + 2) * in_windows([3, 9, 27, 81]) + 2 * 19_683;
