@@ -11,15 +11,15 @@ use lib.Dec.{eqb, lit≤}
 use borrow.Author.Tests.{eq-eqb, ne_eqb}
 use Rattle.account.specs.declared.Account.{Account}
 use Rattle.account.specs.Account.{account_refusal, open_of, add_of}
-use Rattle.account.specs.Credits.{Answer, Booked, after, credited_in, OverAnyList}
+use Rattle.account.specs.Credits.{Credited, Booked, after, credited_in, OverAnyList}
 use Rattle.account.specs.Laws.{Grown}
 use Rattle.account.proofs.Totals.{accounts}
 
 -- The two ways to answer a call: refused, with the account as it was; or with the octets added, unless that is refused.
-pub refused_booked : (a : Account) (r : Answer) → (r.refusal ≡ 0 → ⊥) → r.account ≡ a → Booked a r
+pub refused_booked : (a : Account) (r : Credited) → (r.refusal ≡ 0 → ⊥) → r.account ≡ a → Booked a r
 refused_booked a r h same = record { leaves = λ _. same; adds = λ e. absurd (h e) }
 
-pub added_booked : (a : Account) (octets : ℕ) (r : Answer)
+pub added_booked : (a : Account) (octets : ℕ) (r : Credited)
     → r.refusal ≡ (add_of a octets).refusal → r.account ≡ (add_of a octets).account → (r.refusal ≡ 0 → r.octets ≡ octets)
     → Booked a r
 added_booked a octets r refusal account counted =
@@ -32,7 +32,7 @@ added_booked a octets r refusal account counted =
 still : (a : Account) → account_refusal a ≡ 0 → a.octets ≤ 1000000000000 → Grown a 0 a
 still a h le = record { accepted = h; octets = sym (add-zero a.octets); most = le; price = refl }
 
-module _ {C : Type 0} (credit : C → Account → Answer) (booked : (c : C) (a : Account) → Booked a (credit c a)) where
+module _ {C : Type 0} (credit : C → Account → Credited) (booked : (c : C) (a : Account) → Booked a (credit c a)) where
   one : (c : C) (a : Account) → account_refusal a ≡ 0 → a.octets ≤ 1000000000000
       → Grown a (cond (eqb (credit c a).refusal 0) (credit c a).octets 0) (credit c a).account
   one c a h le = go (ℕ_discrete (credit c a).refusal 0)

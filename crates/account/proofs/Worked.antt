@@ -6,11 +6,11 @@ use mathlib.Core.Path.{◌≡◌, refl}
 use lib.Dec.{lit≤}
 use Rattle.account.specs.declared.Account.{Account}
 use Rattle.account.specs.Account.{balanced, out_of_order, account_refusal, open_of, account_at, add_refusal, add_of}
-use Rattle.account.specs.Credits.{Answer, Booked, after, credited_in, Charged}
+use Rattle.account.specs.Credits.{Credited, Booked, after, credited_in, Charged}
 use Rattle.account.proofs.Credits.{added_booked, over_any_list}
 
 -- A call that asks for octets to be added, refused or not.
-abbrev pub adding : ℕ → Account → Answer
+abbrev pub adding : ℕ → Account → Credited
 adding octets a = record { refusal = (add_of a octets).refusal; octets = octets; account = (add_of a octets).account }
 
 pub adding_booked : (octets : ℕ) (a : Account) → Booked a (adding octets a)

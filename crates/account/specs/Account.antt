@@ -17,14 +17,14 @@ out_of_order a = ltb 1000000 a.price || leb 1000000 a.carry || not (balanced a)
 unfoldable pub account_refusal : Account → ℕ
 account_refusal a = cond (out_of_order a) 25 0
 
--- What is opened: the refusal, 0 for none, and the account.
-pub record Opened : Type 0 where
+-- What opening an account and adding to it give: the refusal, 0 for none, and the account.
+pub record AccountAnswer : Type 0 where
   pub refusal : ℕ
   pub account : Account
 
 -- A new account has no octets, nothing charged and nothing left over. 25 is "a price, out of range"; the account beside it has that
 -- price, so that 25 is met by it too.
-unfoldable pub open_of : ℕ → Opened
+unfoldable pub open_of : ℕ → AccountAnswer
 open_of price =
     record { refusal = cond (ltb 1000000 price) 25 0; account = record { octets = 0; charged = 0; price = price; carry = 0 } }
 
@@ -37,13 +37,8 @@ account_at price octets =
 unfoldable pub add_refusal : Account → ℕ → ℕ
 add_refusal a octets = or_else (account_refusal a) (cond (ltb 1000000000000 (a.octets + octets)) 26 0)
 
--- What adding octets gives: the refusal, 0 for none, and the account.
-pub record Added : Type 0 where
-  pub refusal : ℕ
-  pub account : Account
-
 -- Octets added to an account; "with nothing credited" where there is a refusal.
-unfoldable pub add_of : Account → ℕ → Added
+unfoldable pub add_of : Account → ℕ → AccountAnswer
 add_of a octets =
     record {
       refusal = add_refusal a octets;

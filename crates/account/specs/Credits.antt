@@ -5,18 +5,18 @@ use Rattle.std.specs.Prelude.{ℕ, ◌+◌, ◌*◌, ◌<◌, ◌≤◌, cond, L
 use Rattle.account.specs.declared.Account.{Account}
 use Rattle.account.specs.Account.{open_of, add_of}
 
--- What a call answers: the refusal, 0 for none, the octets that it credits, and the account afterwards.
-pub record Answer : Type 0 where
+-- What a credit answers: the refusal, 0 for none, the octets that it credits, and the account afterwards.
+pub record Credited : Type 0 where
   pub refusal : ℕ
   pub octets : ℕ
   pub account : Account
 
 -- One call on the account `a`: a refusal leaves it as it was; else the octets that are answered are added to it.
-pub record Booked (a : Account) (r : Answer) : Type 0 where
+pub record Booked (a : Account) (r : Credited) : Type 0 where
   pub leaves : (r.refusal ≡ 0 → ⊥) → r.account ≡ a
   pub adds : r.refusal ≡ 0 → ((add_of a r.octets).refusal ≡ 0) × (r.account ≡ (add_of a r.octets).account)
 
-module _ {C : Type 0} (credit : C → Account → Answer) where
+module _ {C : Type 0} (credit : C → Account → Credited) where
   -- The account after the calls, each on the account that the one before it left.
   abbrev pub after : Account → List C → Account
   after a [] = a
@@ -43,7 +43,7 @@ module _ {C : Type 0} (credit : C → Account → Answer) where
 -- "Over any list of credits from a new account".
 abbrev pub OverAnyList : Type 1
 OverAnyList =
-    (C : Type 0) (credit : C → Account → Answer)
+    (C : Type 0) (credit : C → Account → Credited)
     → ((c : C) (a : Account) → Booked a (credit c a))
     → (price : ℕ) → price ≤ 1000000
     → (cs : List C) → Charged credit price cs

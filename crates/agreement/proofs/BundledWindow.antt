@@ -43,11 +43,11 @@ use Rattle.station.specs.declared.Reading.{Reading}
 use Rattle.station.specs.declared.Reading.TheVariants as reading
 use Rattle.station.specs.Readings.{bad_bits, bundled_reading, read_at}
 use Rattle.agreement.specs.Run.{RuleFrom, Brings}
-use Rattle.agreement.specs.Window.{Entry, is_pdcch, any_of, BlockAt, lost_before, unheard, heard_at, as_last, last_heard, decoded_first, decoded_second, EveryHeard, BundledReply, Bundled}
+use Rattle.agreement.specs.Window.{Entry, is_pdcch, any_of, BlockAt, lost_before, heard_pdcchs, unheard, heard_at, as_last, last_heard, decoded_first, decoded_second, EveryHeard, BundledReply, Bundled}
 use Rattle.agreement.proofs.Counted.{seen_folded, u_counted, v_numbered, entries_few, block_heard_holds}
 use Rattle.agreement.proofs.Entries.{OfWindow, of_window, in_time_holds, entry, last_of, some_last, none_last, block_at, some_of}
 use Rattle.agreement.proofs.Exactly.{sent_exactly}
-use Rattle.agreement.proofs.Folded.{fold_in, last_kept, all_decoded, some_counted, none_counted, none_lost, heard_count}
+use Rattle.agreement.proofs.Folded.{fold_in, last_kept, all_decoded, some_counted, none_counted, none_lost}
 
 same_last : (k c k' c' : ℕ) → heard_at k c ≡ heard_at k' c' → (k ≡ k') × (c ≡ c')
 same_last k c k' c' e = (cc, cc)
@@ -139,15 +139,15 @@ module _ (set : Settings) (n : ℕ) (good : window_refusal set n ≡ 0) (ok : Ac
   unfolding seen
   folded = seen_folded set.config n S H F view
 
-  u_is : seen.u ≡ heard_count es
+  u_is : seen.u ≡ heard_pdcchs es
   unfolding seen es
   u_is = u_counted set.config n S H
 
-  v_is : any_of is_pdcch es ≡ true → seen.v ≡ (0 + heard_count es + lost_before es - 1) % 4 + 1
+  v_is : any_of is_pdcch es ≡ true → seen.v ≡ (0 + heard_pdcchs es + lost_before es - 1) % 4 + 1
   unfolding seen es
   v_is = v_numbered set.config n S H rule brings
 
-  es_few : heard_count es + lost_before es ≤ size_of set n
+  es_few : heard_pdcchs es + lost_before es ≤ size_of set n
   unfolding es
   es_few = entries_few set.config n S H
 
@@ -184,8 +184,8 @@ module _ (set : Settings) (n : ℕ) (good : window_refusal set n ≡ 0) (ok : Ac
   due : any_of is_pdcch es ≡ true → Fours (lost_before es) → bundled_answer set n seen ≡ reply_on set kind_bundled (resource_of set n seen.position seen.cce.0) (bit seen.first) (second_bit set seen)
   unfolding bundled_answer miss_shown expected
   due some lost =
-      let least : 1 ≤ heard_count es = some_counted es some in
-      let match : seen.v ≡ (seen.u - 1) % 4 + 1 = v_is some ∙ rw u_is (fits (heard_count es) (lost_before es) least lost) in
+      let least : 1 ≤ heard_pdcchs es = some_counted es some in
+      let match : seen.v ≡ (seen.u - 1) % 4 + 1 = v_is some ∙ rw u_is (fits (heard_pdcchs es) (lost_before es) least lost) in
       rw (ne_eqb seen.u 0 (λ z. omega (arith, u_is)), eq-eqb seen.v ((seen.u - 1) % 4 + 1) match) (never (not (eqb set.config 0)))
     where
       never : (b : Bool) → cond (b && false) answer.Silent (reply_on set kind_bundled (resource_of set n seen.position seen.cce.0) (bit seen.first) (second_bit set seen))
@@ -213,9 +213,9 @@ module _ (set : Settings) (n : ℕ) (good : window_refusal set n ≡ 0) (ok : Ac
       go false t true b = absurd (none (inr (t, b)))
       go false t false b = rw (eq-eqb seen.u 0 (u_is ∙ none_counted es t), block_is ∙ b)
       go true t b e =
-          let least : 1 ≤ heard_count es = some_counted es t in
+          let least : 1 ≤ heard_pdcchs es = some_counted es t in
           let other : seen.v ≡ (seen.u - 1) % 4 + 1 → ⊥ = λ e.
-          none (inl (t, fits_only (heard_count es) (lost_before es) least (omega (arith, es_few, window_size set.config n)) (sym (v_is t) ∙ rw u_is at e))) in
+          none (inl (t, fits_only (heard_pdcchs es) (lost_before es) least (omega (arith, es_few, window_size set.config n)) (sym (v_is t) ∙ rw u_is at e))) in
           let some : set.config ≡ 0 → ⊥ = λ e. none (inl (t, inl (one_subframe e))) in
           rw (ne_eqb seen.u 0 (λ z. omega (arith, u_is)), ne_eqb set.config 0 some, ne_eqb seen.v ((seen.u - 1) % 4 + 1) other)
 

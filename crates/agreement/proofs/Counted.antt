@@ -17,9 +17,9 @@ use Rattle.heard.specs.Heard.{is_block, view_of}
 use Rattle.fold.specs.declared.Seen.{Seen}
 use Rattle.fold.specs.Fold.{unseen, seen_of}
 use Rattle.agreement.specs.Run.{RuleFrom, Brings}
-use Rattle.agreement.specs.Window.{Entry, is_pdcch, any_of, lost_before}
+use Rattle.agreement.specs.Window.{Entry, is_pdcch, any_of, lost_before, heard_pdcchs}
 use Rattle.agreement.proofs.Entries.{all_of, of_window, in_time_holds, entry, seen_entries, ruled, brought, entries_length}
-use Rattle.agreement.proofs.Folded.{fold_in, heard_count, counted, block_seen, numbered, few}
+use Rattle.agreement.proofs.Folded.{fold_in, counted, block_seen, numbered, few}
 
 module _ (c n : ℕ) (S : ℕ → Send) (H : ℕ → Heard) where
   -- The window's subframes in time order, and the fold over them.
@@ -38,11 +38,11 @@ module _ (c n : ℕ) (S : ℕ → Send) (H : ℕ → Heard) where
       let w = of_window c n k (in_time_holds c n k e) in
       (w.back, view k w.least w.most)))
 
-  pub u_counted : seen_in.u ≡ heard_count entries
+  pub u_counted : seen_in.u ≡ heard_pdcchs entries
   u_counted = counted (window_of c n) entries unseen ∙ omega arith
 
   pub v_numbered : RuleFrom 0 (map S (times_of (window_of c n))) → ((k : ℕ) → 1 ≤ k → k ≤ 13 → Brings (S k) (H k))
-      → any_of is_pdcch entries ≡ true → seen_in.v ≡ (0 + heard_count entries + lost_before entries - 1) % 4 + 1
+      → any_of is_pdcch entries ≡ true → seen_in.v ≡ (0 + heard_pdcchs entries + lost_before entries - 1) % 4 + 1
   v_numbered rule brings some =
       numbered (window_of c n) entries unseen 0
       (ruled S H (times_of (window_of c n)) 0 rule)
@@ -51,7 +51,7 @@ module _ (c n : ℕ) (S : ℕ → Send) (H : ℕ → Heard) where
       (λ k e. let w = of_window c n k (in_time_holds c n k e) in brings k w.least w.most)))
       some
 
-  pub entries_few : heard_count entries + lost_before entries ≤ length (window_of c n)
+  pub entries_few : heard_pdcchs entries + lost_before entries ≤ length (window_of c n)
   entries_few = omega (arith, few entries, entries_length S H (times_of (window_of c n)), (in_time_order c n).size)
 
   pub block_heard_holds : seen_in.scheduled ≡ any_of is_block entries

@@ -22,7 +22,6 @@ use Rattle.heard.specs.declared.Heard.TheVariants.{Nothing, Scheduled}
 use Rattle.heard.specs.declared.ScheduledBlock.{ScheduledBlock}
 use Rattle.heard.specs.Heard.{heard_refusal}
 use Rattle.reply.specs.declared.Answer.{Answer}
-use Rattle.reply.specs.declared.Answer.TheVariants as answer
 use Rattle.handset.specs.Change.{Changed}
 use Rattle.handset.specs.Feed.{Fed}
 use Rattle.handset.specs.declared.Handset.{Handset}

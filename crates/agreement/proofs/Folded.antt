@@ -19,7 +19,7 @@ use Rattle.fold.specs.declared.Seen.{Seen}
 use Rattle.fold.specs.Fold.{step_of}
 use Rattle.heard.specs.Heard.{is_block, view_of}
 use Rattle.agreement.specs.Run.{sent_of, Brings}
-use Rattle.agreement.specs.Window.{Entry, at, is_heard, is_pdcch, any_of, is_lost, lost_before, Last, unheard, heard_at, as_last, later, last_heard, EveryHeard}
+use Rattle.agreement.specs.Window.{Entry, at, is_heard, is_pdcch, any_of, is_lost, lost_before, heard_pdcchs, Last, unheard, heard_at, as_last, later, last_heard, EveryHeard}
 
 -- The fold over entries.
 unfoldable pub fold_in : List ℕ → Seen → List Entry → Seen
@@ -36,16 +36,12 @@ abbrev pub Ruled : ℕ → List Entry → Type 0
 Ruled j [] = Unit {0}
 Ruled j (at k sent heard ∷ es) = (is_sent_pdcch sent ≡ true → dai_of sent ≡ j % 4 + 1) × Ruled (cond (is_sent_pdcch sent) 1 0 + j) es
 
-abbrev pub heard_count : List Entry → ℕ
-heard_count [] = 0
-heard_count (at k sent heard ∷ es) = cond (is_pdcch heard) 1 0 + heard_count es
-
 -- No PDCCH heard is U = 0.
-pub none_counted : (es : List Entry) → any_of is_pdcch es ≡ false → heard_count es ≡ 0
+pub none_counted : (es : List Entry) → any_of is_pdcch es ≡ false → heard_pdcchs es ≡ 0
 none_counted [] e = refl
 none_counted (at k sent x ∷ es) e = go (is_pdcch x) e (none_counted es)
   where
-    go : (h : Bool) → (h || any_of is_pdcch es) ≡ false → (any_of is_pdcch es ≡ false → heard_count es ≡ 0) → cond h 1 0 + heard_count es ≡ 0
+    go : (h : Bool) → (h || any_of is_pdcch es) ≡ false → (any_of is_pdcch es ≡ false → heard_pdcchs es ≡ 0) → cond h 1 0 + heard_pdcchs es ≡ 0
     go true e rest = absurd (false≢true (sym e))
     go false e rest = omega (arith, rest e)
 
@@ -65,7 +61,7 @@ module _ (ks : List ℕ) where
   quiet (at k sent (Released p) ∷ es) seen e = absurd (false≢true (sym e))
 
   -- U counts the heard PDCCHs.
-  pub counted : (es : List Entry) (seen : Seen) → (fold_in ks seen es).u ≡ seen.u + heard_count es
+  pub counted : (es : List Entry) (seen : Seen) → (fold_in ks seen es).u ≡ seen.u + heard_pdcchs es
   unfolding fold_in step_of view_of
   counted [] seen = omega arith
   counted (at k sent Nothing ∷ es) seen = omega (arith, counted es seen)
@@ -85,27 +81,27 @@ module _ (ks : List ℕ) where
 
   -- What comes after a heard PDCCH, by its DAI: it is the last one, or the rest is numbered on from it.
   numbered_on : (es : List Entry) (next : Seen) (j : ℕ)
-      → (any_of is_pdcch es ≡ true → (fold_in ks next es).v ≡ (1 + j + heard_count es + lost_before es - 1) % 4 + 1)
+      → (any_of is_pdcch es ≡ true → (fold_in ks next es).v ≡ (1 + j + heard_pdcchs es + lost_before es - 1) % 4 + 1)
       → next.v ≡ j % 4 + 1
-      → (fold_in ks next es).v ≡ (j + (1 + heard_count es) + cond (any_of is_pdcch es) (0 + lost_before es) 0 - 1) % 4 + 1
+      → (fold_in ks next es).v ≡ (j + (1 + heard_pdcchs es) + cond (any_of is_pdcch es) (0 + lost_before es) 0 - 1) % 4 + 1
   numbered_on es next j = go (any_of is_pdcch es) refl
     where
-      go : (t : Bool) → any_of is_pdcch es ≡ t → (any_of is_pdcch es ≡ true → (fold_in ks next es).v ≡ (1 + j + heard_count es + lost_before es - 1) % 4 + 1)
+      go : (t : Bool) → any_of is_pdcch es ≡ t → (any_of is_pdcch es ≡ true → (fold_in ks next es).v ≡ (1 + j + heard_pdcchs es + lost_before es - 1) % 4 + 1)
           → next.v ≡ j % 4 + 1
-          → (fold_in ks next es).v ≡ (j + (1 + heard_count es) + cond (any_of is_pdcch es) (0 + lost_before es) 0 - 1) % 4 + 1
+          → (fold_in ks next es).v ≡ (j + (1 + heard_pdcchs es) + cond (any_of is_pdcch es) (0 + lost_before es) 0 - 1) % 4 + 1
       go true t rest dai = rw t (rest t ∙ omega arith)
       go false t rest dai = rw (t, quiet es next t) (dai ∙ omega (arith, none_counted es t))
 
   -- V is the DAI of the last heard PDCCH: the heard and the lost ones before it are all that the rule counts.
   pub numbered : (es : List Entry) (seen : Seen) (j : ℕ) → Ruled j es → Brought es → any_of is_pdcch es ≡ true
-      → (fold_in ks seen es).v ≡ (j + heard_count es + lost_before es - 1) % 4 + 1
+      → (fold_in ks seen es).v ≡ (j + heard_pdcchs es + lost_before es - 1) % 4 + 1
   unfolding fold_in step_of view_of
   numbered [] seen j r b e = absurd (false≢true e)
   numbered (at k sent Nothing ∷ es) seen j r b e =
       go (is_sent_pdcch sent) (numbered es seen (cond (is_sent_pdcch sent) 1 0 + j) r.1 b.1 e)
     where
-      go : (t : Bool) → (fold_in ks seen es).v ≡ (cond t 1 0 + j + heard_count es + lost_before es - 1) % 4 + 1
-          → (fold_in ks seen es).v ≡ (j + (0 + heard_count es) + cond (any_of is_pdcch es) (cond (t && true) 1 0 + lost_before es) 0 - 1) % 4 + 1
+      go : (t : Bool) → (fold_in ks seen es).v ≡ (cond t 1 0 + j + heard_pdcchs es + lost_before es - 1) % 4 + 1
+          → (fold_in ks seen es).v ≡ (j + (0 + heard_pdcchs es) + cond (any_of is_pdcch es) (cond (t && true) 1 0 + lost_before es) 0 - 1) % 4 + 1
       go true rest = rw e (rest ∙ omega arith)
       go false rest = rw e (rest ∙ omega arith)
   numbered (at k sent (Scheduled x) ∷ es) seen j r b e =
@@ -174,12 +170,12 @@ module _ (ks : List ℕ) where
         )
 
 -- The heard ones and the lost ones before the last of them are not more than the entries.
-pub few : (es : List Entry) → heard_count es + lost_before es ≤ length es
+pub few : (es : List Entry) → heard_pdcchs es + lost_before es ≤ length es
 few [] = omega arith
 few (at k sent x ∷ es) = go (any_of is_pdcch es) refl (is_sent_pdcch sent) x (few es) (none_counted es)
   where
-    go : (t : Bool) → any_of is_pdcch es ≡ t → (s : Bool) (x : Heard) → heard_count es + lost_before es ≤ length es → (any_of is_pdcch es ≡ false → heard_count es ≡ 0)
-        → cond (is_pdcch x) 1 0 + heard_count es + cond (any_of is_pdcch es) (cond (s && not (is_heard x)) 1 0 + lost_before es) 0 ≤ suc (length es)
+    go : (t : Bool) → any_of is_pdcch es ≡ t → (s : Bool) (x : Heard) → heard_pdcchs es + lost_before es ≤ length es → (any_of is_pdcch es ≡ false → heard_pdcchs es ≡ 0)
+        → cond (is_pdcch x) 1 0 + heard_pdcchs es + cond (any_of is_pdcch es) (cond (s && not (is_heard x)) 1 0 + lost_before es) 0 ≤ suc (length es)
     go true t true Nothing h z = rw t (omega arith)
     go true t false Nothing h z = rw t (omega arith)
     go true t true (Granted g) h z = rw t (omega arith)
@@ -194,11 +190,11 @@ few (at k sent x ∷ es) = go (any_of is_pdcch es) refl (is_sent_pdcch sent) x (
     go false t s (Released p) h z = rw t (omega (arith, z t))
 
 -- A PDCCH was heard exactly if U is above 0.
-pub some_counted : (es : List Entry) → any_of is_pdcch es ≡ true → 1 ≤ heard_count es
+pub some_counted : (es : List Entry) → any_of is_pdcch es ≡ true → 1 ≤ heard_pdcchs es
 some_counted [] e = absurd (false≢true e)
 some_counted (at k sent x ∷ es) e = go (is_pdcch x) e (some_counted es)
   where
-    go : (h : Bool) → (h || any_of is_pdcch es) ≡ true → (any_of is_pdcch es ≡ true → 1 ≤ heard_count es) → 1 ≤ cond h 1 0 + heard_count es
+    go : (h : Bool) → (h || any_of is_pdcch es) ≡ true → (any_of is_pdcch es ≡ true → 1 ≤ heard_pdcchs es) → 1 ≤ cond h 1 0 + heard_pdcchs es
     go true e rest = omega arith
     go false e rest = omega (arith, rest e)
 

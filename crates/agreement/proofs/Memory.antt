@@ -22,7 +22,6 @@ use Rattle.heard.specs.Heard.{is_block, heard_refusal, second_refusal, cause_of,
 use Rattle.heard.specs.Memory.{none, bit, slot_of, heard_in, view_in, view_ago, block_ago}
 use Rattle.heard.proofs.Before.{cause_same, cause_none_holds, cause_fewer}
 use Rattle.heard.proofs.Valid.{ValidBlocks, Valid, valid}
-use Rattle.reply.specs.declared.Answer.TheVariants as answer
 use Rattle.handset.specs.declared.Handset.{Handset}
 use Rattle.handset.specs.Change.{change_refusal, changed_as, change_of}
 use Rattle.handset.specs.Feed.{next_answer, pushed, feed_refusal, fed_as, feed_of}

@@ -57,6 +57,11 @@ abbrev pub lost_before : List Entry → ℕ
 lost_before [] = 0
 lost_before (at k sent heard ∷ es) = cond (any_of is_pdcch es) (cond (is_lost sent heard) 1 0 + lost_before es) 0
 
+-- U: the PDCCHs heard.
+abbrev pub heard_pdcchs : List Entry → ℕ
+heard_pdcchs [] = 0
+heard_pdcchs (at k sent heard ∷ es) = cond (is_pdcch heard) 1 0 + heard_pdcchs es
+
 -- The last heard PDCCH, by its k and its first CCE.
 pub data Last : Type 0 where
   unheard : Last

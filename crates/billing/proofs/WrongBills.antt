@@ -46,7 +46,7 @@ use Rattle.confirmation.specs.Sent.{is_pdcch, is_sent, blocks_of}
 use Rattle.confirming.specs.Records.{nothing_sent, send_of, sent_in}
 use Rattle.account.specs.declared.Account.{Account}
 use Rattle.account.specs.Account.{account_at}
-use Rattle.credit.specs.Credit.{Credited}
+use Rattle.account.specs.Credits.{Credited}
 use Rattle.credit.specs.Credit.{own_bit, credited, octets_where, credited_octets, added_of, refused_or, credit_by, credit_reading, credit_of}
 use Rattle.agreement.specs.Demand3.{Engine, feedback_engine}
 use Rattle.engines.proofs.Computing.{schedules}

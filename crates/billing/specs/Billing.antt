@@ -12,9 +12,8 @@ use Rattle.confirming.specs.Records.{send_of, record_at}
 use Rattle.reply.specs.declared.Reply.{Reply}
 use Rattle.account.specs.declared.Account.{Account}
 use Rattle.account.specs.Account.{account_refusal}
-use Rattle.account.specs.Credits.{Answer, from_new, Charged}
+use Rattle.account.specs.Credits.{Credited, from_new, Charged}
 use Rattle.account.specs.Laws.{Grown}
-use Rattle.credit.specs.Credit.{Credited}
 use Rattle.credit.specs.Credit.{credited, sizes_refusal, octets_where}
 use Rattle.agreement.specs.Confirmation.{Replied, reading_at, heard_there, decoded_block}
 use Rattle.agreement.specs.Demand3.{Engine}
@@ -89,10 +88,9 @@ module _ {e : Engine} (b : Billable e) where
     pub grown : c.refusal ≡ 0 → Grown a c.octets c.account
     pub left : (c.refusal ≡ 0 → ⊥) → (c.octets ≡ 0) × (c.account ≡ a)
 
--- A crediting call's answer as one of a list of calls (account/specs/Credits.antt).
-abbrev pub answered : {e : Engine} → Crediting → Billable e → Account → Answer
-answered credit b a =
-    record { refusal = (credit_at b credit a).refusal; octets = (credit_at b credit a).octets; account = (credit_at b credit a).account }
+-- The same with the call first, for the law over any list of credits (account/specs/Credits.antt).
+abbrev pub answered : {e : Engine} → Crediting → Billable e → Account → Credited
+answered credit b a = credit_at b credit a
 
 -- The octets that were decoded in the windows of a list.
 abbrev pub decoded_in : {e : Engine} → List (Billable e) → ℕ

@@ -23,7 +23,7 @@ use Rattle.account.specs.Account.{account_refusal, add_refusal, add_of}
 use Rattle.account.specs.Laws.{InOrder, Grown}
 use Rattle.account.proofs.Equation.{one_or_none}
 use Rattle.account.proofs.Totals.{accounts, within}
-use Rattle.credit.specs.Credit.{Credited}
+use Rattle.account.specs.Credits.{Credited}
 use Rattle.credit.specs.Credit.{bad_records, sizes_refusal, prior_refusal, credited_octets, added_of, refused_or, credit_by, credit_reading, credit_of}
 use Rattle.credit.specs.Exactly.{SizeOut, CreditAnswers}
 use Rattle.credit.proofs.OutOfRange.{size_says, says_size}

@@ -23,7 +23,8 @@ use Rattle.confirming.specs.Records.{sent_in}
 use Rattle.confirming.specs.Refusals.{call_refusal}
 use Rattle.account.specs.declared.Account.{Account}
 use Rattle.account.specs.Account.{account_refusal, add_of}
-use Rattle.credit.specs.Credit.{Credited, credited_as, sizes_refusal, prior_refusal, credited_octets, added_of, credit_by, credit_reading, credit_of}
+use Rattle.account.specs.Credits.{Credited}
+use Rattle.credit.specs.Credit.{credited_as, sizes_refusal, prior_refusal, credited_octets, added_of, credit_by, credit_reading, credit_of}
 
 -- What is answered beside a refusal.
 abbrev refused : Refusal → Account → Credited

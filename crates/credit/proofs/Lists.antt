@@ -11,11 +11,11 @@ use Rattle.account.specs.Account.{add_of}
 use Rattle.account.specs.Credits.{Booked}
 use Rattle.account.proofs.Credits.{refused_booked, added_booked, over_any_list}
 use Rattle.credit.specs.Credit.{credited_octets, added_of, refused_or, credit_by, credit_reading, credit_of}
-use Rattle.credit.specs.Exactly.{Call, answered, answer_of, CreditsCharged}
+use Rattle.credit.specs.Exactly.{Call, answer_of, CreditsCharged}
 
-booked_or : (k octets : ℕ) (a : Account) → Booked a (answered (refused_or k a (added_of a octets)))
-booked_or zero octets a = added_booked a octets (answered (added_of a octets)) refl refl (λ e. rw (eq-eqb (add_of a octets).refusal 0 e))
-booked_or (suc k) octets a = refused_booked a (answered (refused_or (suc k) a (added_of a octets))) (λ e. omega (arith, e)) refl
+booked_or : (k octets : ℕ) (a : Account) → Booked a (refused_or k a (added_of a octets))
+booked_or zero octets a = added_booked a octets (added_of a octets) refl refl (λ e. rw (eq-eqb (add_of a octets).refusal 0 e))
+booked_or (suc k) octets a = refused_booked a (refused_or (suc k) a (added_of a octets)) (λ e. omega (arith, e)) refl
 
 booked : (c : Call) (a : Account) → Booked a (answer_of c a)
 unfolding credit_of credit_by

@@ -1,7 +1,7 @@
 -- A size out of range, in words (specs/Exactly.antt): some block that a record of the window carries has one, both ways.
 -- Assumes nothing.
 use Prim.Native.Nat.{ℕ, zero, suc, ◌<◌, ◌≤◌}
-use mathlib.Core.Bool.{true, false, ◌&&◌, false≢true, or-true}
+use mathlib.Core.Bool.{true, ◌&&◌, false≢true, or-true}
 use mathlib.Core.List.{List, [], ◌∷◌}
 use mathlib.Core.Logic.{◌⊎◌, inl, inr, ⊎_elim}
 use mathlib.Core.Path.{◌≡◌}

@@ -27,7 +27,7 @@ use Rattle.confirming.specs.Refusals.{rank_of, earlier, lowest, blocks_sent, sen
 use Rattle.sizes.specs.Table.{blocks, printed, block_size, table_column}
 use Rattle.account.specs.declared.Account.{Account}
 use Rattle.account.specs.Account.{balanced, out_of_order, account_refusal, account_at, add_refusal, add_of}
-use Rattle.credit.specs.Credit.{Credited}
+use Rattle.account.specs.Credits.{Credited}
 use Rattle.credit.specs.Credit.{credited, octets_of, bad_size, bad_record, bad_records, sizes_refusal, prior_refusal, sum_below, octets_at, octets_where, credited_octets, credit_by, credit_reading, credit_of}
 
 -- Configuration, mode, scheduled resource (65535: none is set) and antenna ports.

@@ -22,12 +22,7 @@ use Rattle.confirming.specs.Refusals.{call_refusal}
 use Rattle.sizes.specs.Table.{block_size, table_column}
 use Rattle.account.specs.declared.Account.{Account}
 use Rattle.account.specs.Account.{account_refusal, add_of}
-
--- What a call answers: the refusal, 0 for none, the octets credited, and the account afterwards; beside a refusal it is as it was.
-pub record Credited : Type 0 where
-  pub refusal : ℕ
-  pub octets : ℕ
-  pub account : Account
+use Rattle.account.specs.Credits.{Credited}
 
 -- What a result of the code, which leaves the account `a`, is in these terms.
 abbrev pub credited_as : Result ℕ Refusal → Account → Credited

@@ -20,9 +20,8 @@ use Rattle.confirming.specs.Exactly.{send_at, reply_read}
 use Rattle.confirming.specs.Records.{record_at}
 use Rattle.confirming.specs.Refusals.{call_refusal}
 use Rattle.account.specs.declared.Account.{Account}
-use Rattle.account.specs.Credits.{Answer, Charged}
+use Rattle.account.specs.Credits.{Credited, Charged}
 use Rattle.account.specs.Laws.{InOrder, Grown}
-use Rattle.credit.specs.Credit.{Credited}
 use Rattle.credit.specs.Credit.{credited, itbs_of, nprb_of, credited_octets, credit_of}
 
 -- The block's own bit: bit 0 for "that block" where it is the first, "a sole block being the first", bit 1 for the second.
@@ -108,11 +107,8 @@ pub record Call : Type 0 where
   pub b1 : ℕ
 
 -- Its answer on an account, for the law over any list of credits (account/specs/Credits.antt).
-abbrev pub answered : Credited → Answer
-answered r = record { refusal = r.refusal; octets = r.octets; account = r.account }
-
-abbrev pub answer_of : Call → Account → Answer
-answer_of c a = answered (credit_of c.settings c.n c.sent c.resource c.b0 c.b1 a)
+abbrev pub answer_of : Call → Account → Credited
+answer_of c a = credit_of c.settings c.n c.sent c.resource c.b0 c.b1 a
 
 -- "Over any list of credits from a new account, octets × price = 1,000,000 × charged + carry, the carry below 1,000,000 and the octets
 -- those of the list's credits not refused." The price is "0 to 1,000,000".

@@ -26,12 +26,12 @@ use Rattle.silence.specs.Cause.{window_seen, explain_of}
 use Rattle.silence.proofs.Exactly.{explains, was_silent}
 use Rattle.agreement.specs.Demand3.{feedback_engine, handset_at, IsSubframe}
 use Rattle.agreement.specs.Run.{Item, heard_in_run, sent_ago, heard_ago, window_at, Schedule, BringsSent}
-use Rattle.agreement.specs.Window.{Entry, at, is_heard, is_pdcch, any_of, lost_before}
+use Rattle.agreement.specs.Window.{Entry, at, is_heard, is_pdcch, any_of, lost_before, heard_pdcchs}
 use Rattle.agreement.proofs.Counted.{seen_in, seen_folded, u_counted, v_numbered, entries_few, block_heard_holds}
 use Rattle.agreement.proofs.Demand3.{run_remembers}
 use Rattle.agreement.proofs.Feeds.{ago_brings}
-use Rattle.agreement.proofs.Folded.{fold_in, heard_count, none_counted, some_counted, none_lost}
-use Rattle.diagnosis.specs.Diagnosis.{entries_at, heard_pdcchs, heard_dai, last_dai, Diagnosed}
+use Rattle.agreement.proofs.Folded.{fold_in, none_counted, some_counted, none_lost}
+use Rattle.diagnosis.specs.Diagnosis.{entries_at, heard_dai, last_dai, Diagnosed}
 
 -- Nothing heard is no PDCCH and no scheduled block heard.
 none_heard_holds : (es : List Entry) → (any_of is_heard es ≡ false) ↔ ((any_of is_pdcch es ≡ false) × (any_of is_block es ≡ false))
@@ -40,11 +40,6 @@ none_heard_holds (at k sent Nothing ∷ es) = none_heard_holds es
 none_heard_holds (at k sent (Granted g) ∷ es) = (λ e. absurd (false≢true (sym e)), λ p. absurd (false≢true (sym p.0)))
 none_heard_holds (at k sent (Scheduled b) ∷ es) = (λ e. absurd (false≢true (sym e)), λ p. absurd (false≢true (sym p.1)))
 none_heard_holds (at k sent (Released p) ∷ es) = (λ e. absurd (false≢true (sym e)), λ p. absurd (false≢true (sym p.0)))
-
--- U is what the claim counts.
-same_count : (es : List Entry) → heard_count es ≡ heard_pdcchs es
-same_count [] = refl
-same_count (at k sent x ∷ es) = ap (λ (n : ℕ). cond (is_pdcch x) 1 0 + n) (same_count es)
 
 -- V is the DAI of the last heard PDCCH.
 last_dai_holds : (ks : List ℕ) (es : List Entry) (seen : Seen) → (fold_in ks seen es).v ≡ cond (any_of is_pdcch es) (last_dai es) seen.v
@@ -86,14 +81,14 @@ module _ (set : Settings) (good : settings_refusal set ≡ 0) (sent : ℕ → Se
       rw (r.config, r.next, at-s.counted)
       (seen_folded set.config (s % 10) (sent_ago sent s) (heard_ago (heard_in_run set items) s) _ (rw at-s.counted at r.views))
 
-  u_there : (window_seen h).u ≡ heard_count es
+  u_there : (window_seen h).u ≡ heard_pdcchs es
   u_there = ap (λ (seen : Seen). seen.u) seen_there ∙ u_counted set.config (s % 10) (sent_ago sent s) (heard_ago (heard_in_run set items) s)
 
   block_there : (window_seen h).scheduled ≡ any_of is_block es
   block_there =
       ap (λ (seen : Seen). seen.scheduled) seen_there ∙ block_heard_holds set.config (s % 10) (sent_ago sent s) (heard_ago (heard_in_run set items) s)
 
-  v_there : any_of is_pdcch es ≡ true → (window_seen h).v ≡ (0 + heard_count es + lost_before es - 1) % 4 + 1
+  v_there : any_of is_pdcch es ≡ true → (window_seen h).v ≡ (0 + heard_pdcchs es + lost_before es - 1) % 4 + 1
   v_there some =
       ap (λ (seen : Seen). seen.v) seen_there
       ∙ v_numbered set.config (s % 10) (sent_ago sent s) (heard_ago (heard_in_run set items) s) (schedule.rule s)
@@ -126,8 +121,8 @@ module _ (set : Settings) (good : settings_refusal set ≡ 0) (sent : ℕ → Se
   same_there : 1 ≤ (window_seen h).u → ((window_seen h).v ≡ expected (window_seen h).u) ↔ (lost_before es % 4 ≡ 0)
   unfolding expected
   same_there some =
-      let least : 1 ≤ heard_count es = rw u_there at some in
-      rw (v_there (some_there some), u_there) (fits (heard_count es) (lost_before es) least)
+      let least : 1 ≤ heard_pdcchs es = rw u_there at some in
+      rw (v_there (some_there some), u_there) (fits (heard_pdcchs es) (lost_before es) least)
 
   miss_shown_holds : (feed_of h x).answer ≡ (Ok Silent) → ((v w : ℕ) × ((explain_of h x).cause ≡ Some (MissShown v w))) ↔ (lost_before es % 4 ≡ 0 → ⊥)
   miss_shown_holds silent =
@@ -153,20 +148,20 @@ module _ (set : Settings) (good : settings_refusal set ≡ 0) (sent : ℕ → Se
         let told = explains.values h x v w shown in
         let last : (seen_in set.config (s % 10) (sent_ago sent s) (heard_ago (heard_in_run set items) s)).v ≡ last_dai es =
         last_dai_holds (window_at set s) es unseen ∙ ap (λ (b : Bool). cond b (last_dai es) 0) (some_there some) in
-        (told.0 ∙ ap (λ (seen : Seen). seen.v) seen_there ∙ last, told.1 ∙ ap (λ (u : ℕ). (u - 1) % 4 + 1) (u_there ∙ same_count es))
+        (told.0 ∙ ap (λ (seen : Seen). seen.v) seen_there ∙ last, told.1 ∙ ap (λ (u : ℕ). (u - 1) % 4 + 1) u_there)
 
     how_many_holds : lost_before es % 4 ≡ (v + 4 - w) % 4
     unfolding expected
     how_many_holds =
         let told = explains.values h x v w shown in
-        let least : 1 ≤ heard_count es = rw u_there at some in
-        let v_is : v ≡ (0 + heard_count es + lost_before es - 1) % 4 + 1 = told.0 ∙ v_there (some_there some) in
-        let w-is : w ≡ (heard_count es - 1) % 4 + 1 = told.1 ∙ ap (λ (u : ℕ). (u - 1) % 4 + 1) u_there in
-        rw (v_is, w-is) (apart_by (heard_count es) (lost_before es) least)
+        let least : 1 ≤ heard_pdcchs es = rw u_there at some in
+        let v_is : v ≡ (0 + heard_pdcchs es + lost_before es - 1) % 4 + 1 = told.0 ∙ v_there (some_there some) in
+        let w-is : w ≡ (heard_pdcchs es - 1) % 4 + 1 = told.1 ∙ ap (λ (u : ℕ). (u - 1) % 4 + 1) u_there in
+        rw (v_is, w-is) (apart_by (heard_pdcchs es) (lost_before es) least)
 
     exactly_many : length (window_at set s) ≤ 4 → lost_before es ≡ (v + 4 - w) % 4
     exactly_many few =
-        let least : 1 ≤ heard_count es = rw u_there at some in
+        let least : 1 ≤ heard_pdcchs es = rw u_there at some in
         omega (arith, how_many_holds, least, few, entries_few set.config (s % 10) (sent_ago sent s) (heard_ago (heard_in_run set items) s))
 
 -- The theorem: in every run the causes told are true.

@@ -15,7 +15,7 @@ use Rattle.silence.specs.Cause.{Explained}
 use Rattle.silence.specs.Exactly.{Explaining}
 use Rattle.agreement.specs.Demand3.{Engine, handset_at, fed_at, IsFeed, IsSubframe}
 use Rattle.agreement.specs.Run.{Item, heard_in_run, sent_ago, heard_ago, window_at, Schedule, BringsSent}
-use Rattle.agreement.specs.Window.{Entry, at, in_time, is_heard, is_pdcch, any_of, lost_before}
+use Rattle.agreement.specs.Window.{Entry, at, in_time, is_heard, is_pdcch, any_of, lost_before, heard_pdcchs}
 
 -- What the call tells of item i, which brings x to the handset that the items before it left.
 abbrev pub explained_at : Engine → Explaining → Settings → List Item → ℕ → Heard → Explained
@@ -24,11 +24,6 @@ explained_at e explain set items i x = explain (handset_at e set items i) x
 -- The subframes of the window of s in time order, with what was sent and what was heard in each.
 abbrev pub entries_at : Settings → (ℕ → Send) → List Item → ℕ → List Entry
 entries_at set sent items s = in_time (sent_ago sent s) (heard_ago (heard_in_run set items) s) (window_at set s)
-
--- U: the PDCCHs heard in the window.
-abbrev pub heard_pdcchs : List Entry → ℕ
-heard_pdcchs [] = 0
-heard_pdcchs (at k sent heard ∷ es) = cond (is_pdcch heard) 1 0 + heard_pdcchs es
 
 -- The DAI of a PDCCH; 0 of all else.
 abbrev pub heard_dai : Heard → ℕ

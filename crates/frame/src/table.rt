@@ -149,8 +149,7 @@ fn positions_of(config: u16) -> u64
 }
 
 // Derived from the rows: the positions of the window of subframe n with k falling, that is in time order; a table, since a sort would need
-// room for its list. It is no part of a caller:
-// with it `feedback_window` would take more stack than the header states.
+// room for its list. It is no part of a caller: with it `feedback_window` would take more stack than the header states.
 #[inline(never)]
 pub fn order_of(config: u16, n: u16) -> &'static [u16]
     ensures { result.now ≡ order_of (window_of config n) }

@@ -1,17 +1,16 @@
 -- What is told of a tested window is what is told of the settings and the subframe that it was made of.
 -- Assumes nothing.
-use Prim.Native.Nat.{ℕ, zero, suc}
-use mathlib.Core.Path.{◌≡◌, refl, sym, ◌∙◌}
+use Prim.Native.Nat.{ℕ}
+use mathlib.Core.Path.{◌≡◌}
 use Rattle.std.proofs.Common.{Result, Ok, Err}
 use Rattle.std.specs.Result.{IfOk}
 use Rattle.frame.specs.declared.Settings.{Settings}
 use Rattle.frame.specs.declared.refusal.Refusal.{Refusal}
 use Rattle.frame.specs.declared.window.Window.{Window}
-use Rattle.frame.specs.Refusals.{number_of, refusal_in}
+use Rattle.frame.specs.Refusals.{refusal_in}
 use Rattle.frame.specs.Settings.{window_refusal}
-use Rattle.frame.specs.Table.{window_of}
 use Rattle.frame.proofs.Refused.{from_one}
-use Rattle.numbers.specs.Answers.{window_as, window_answer}
+use Rattle.numbers.specs.Answers.{window_answer}
 use Rattle.numbers.specs.Windows.{tested_answer}
 
 pub window_told : (s : Settings) (n : ℕ) (x : Result Window Refusal) → refusal_in x ≡ window_refusal s n → IfOk x (λ w. (w.settings ≡ s) × (w.n ≡ n))

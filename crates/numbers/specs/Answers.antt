@@ -15,9 +15,9 @@ use Rattle.station.specs.declared.Place.TheVariants as place
 use Rattle.station.specs.declared.Reading.{Reading}
 use Rattle.station.specs.declared.Reading.TheVariants as reading
 use Rattle.claims.specs.Claims.{Checked}
-use Rattle.account.specs.Account.{Opened}
+use Rattle.account.specs.Account.{AccountAnswer}
 use Rattle.confirming.specs.Blocks.{Confirmed}
-use Rattle.credit.specs.Credit.{Credited}
+use Rattle.account.specs.Credits.{Credited}
 use Rattle.reply.specs.declared.Answer.{Answer}
 use Rattle.reply.specs.declared.Answer.TheVariants as answer
 use Rattle.heard.specs.declared.Heard.{Heard}
@@ -107,7 +107,7 @@ abbrev pub confirmed_answer : Confirmed → ConfirmedAnswer
 confirmed_answer c = record { refusal = c.refusal; first = c.first; second = c.second }
 
 -- A new account, or beside a refusal one with the price that is refused.
-abbrev pub opened_answer : Opened → OpenedAnswer
+abbrev pub opened_answer : AccountAnswer → OpenedAnswer
 opened_answer o = record { refusal = o.refusal; account = o.account }
 
 -- The octets credited, and the account afterwards.

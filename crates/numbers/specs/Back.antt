@@ -25,10 +25,11 @@ use Rattle.reply.specs.declared.Answer.{Answer}
 use Rattle.reply.specs.declared.Answer.TheVariants as answer
 use Rattle.heard.specs.declared.Heard.{Heard}
 use Rattle.account.specs.declared.Account.{Account}
-use Rattle.account.specs.Account.{Opened, open_of}
+use Rattle.account.specs.Account.{AccountAnswer, open_of}
 use Rattle.confirming.specs.declared.SentWindow.{SentWindow}
 use Rattle.confirming.specs.Blocks.{Confirmed, confirmed_of}
-use Rattle.credit.specs.Credit.{Credited, credit_of}
+use Rattle.account.specs.Credits.{Credited}
+use Rattle.credit.specs.Credit.{credit_of}
 use Rattle.handset.specs.declared.Handset.{Handset}
 use Rattle.handset.specs.Change.{Changed, change_of}
 use Rattle.handset.specs.Feed.{Fed, feed_of}
@@ -98,7 +99,7 @@ checked_in a = checked_as a.refusal a.index (cond (eqb a.kind claims_clash) (Ok 
 abbrev pub confirmed_in : ConfirmedAnswer → Confirmed
 confirmed_in a = record { refusal = a.refusal; first = a.first; second = a.second }
 
-abbrev pub opened_in : OpenedAnswer → Opened
+abbrev pub opened_in : OpenedAnswer → AccountAnswer
 opened_in a = record { refusal = a.refusal; account = a.account }
 
 abbrev pub credited_in : CreditAnswer → Credited
