@@ -78,9 +78,9 @@ static inline const char *feedback_refusal_text(unsigned refusal)
         return "Refused 24: the antenna ports are neither 1 nor 2, or they are 2 with multiplexing "
                "or with a resource set for scheduled blocks.";
     case FEEDBACK_REFUSED_SIZE_OR_ACCOUNT:
-        return "Refused 25: a block's I_TBS is over 26 or its N_PRB not 1 to 110, or the price is over "
-               "1000000, or the account's carry is not below 1000000 or its octets * price not "
-               "1000000 * charged + carry.";
+        return "Refused 25: a block's I_TBS is over 26 or its N_PRB not 1 to 110, or the price is "
+               "over 1000000, or the account's carry is not below 1000000 or its octets * price "
+               "not 1000000 * charged + carry.";
     case FEEDBACK_REFUSED_TOTAL:
         return "Refused 26: the account would have more than 1000000000000 octets.";
     default:

@@ -1092,7 +1092,10 @@ static void confirmed_scheduled(void)
     CONFIRMS(settings, 7, sent, 17, 1, 0, 1, 0);
 }
 
-/* Table 10.1-4 on position 3: 01 delivers 2 and 3, 10 delivers 1 and 3; on position 1, 11 all four. */
+/*
+ * Table 10.1-4 on position 3: 01 delivers 2 and 3, 10 delivers 1 and 3; on position 1, 11 all
+ * four.
+ */
 static void confirmed_multiplexed(void)
 {
     struct feedback_settings settings = with_scheduled(settings_of(2, 1, 2), 6);
@@ -1321,7 +1324,7 @@ static void credit_scheduled(void)
     account = CREDITS(settings, 7, sent, 104, 1, 1, account, 0);
 }
 
-/* The refusals of confirmed_refused, with 25 between 18 and 13, and 26 where 13 and 14 are not met. */
+/* What confirmed_refused has, with 25 between 18 and 13, and 26 where 13 and 14 are not met. */
 static void credit_refused(void)
 {
     struct feedback_settings settings = with_special(settings_of(2, 0, 2), 0, 5);
@@ -1349,7 +1352,7 @@ static void credit_refused(void)
     (void)CREDITS(settings, 7, sent, 37, 1, 1, opened(1), 9710);
 }
 
-/* One size of a window at a time; the reply is a NACK, and what is not credited is looked at too. */
+/* One size of a window at a time; the reply is a NACK, and what isn't credited is looked at too. */
 static void sizes_refused(void)
 {
     struct feedback_settings settings = with_scheduled(FEEDBACK_SETTINGS(2, 6, 10, 0, 2), 6);
@@ -1929,7 +1932,10 @@ static void changed_between(void)
     EQUAL(feedback_reading(settings, 3, FEEDBACK_NONE, 13, 0, 1).refusal, FEEDBACK_REFUSED_BITS);
 }
 
-/* Configuration 2: 7 answers for -1, 0, 1 and 3, so in the mode of feedback_make; 12 for 4, 5, 6, 8. */
+/*
+ * Configuration 2: 7 answers for -1, 0, 1 and 3, so in the mode of feedback_make; 12 for 4, 5, 6
+ * and 8.
+ */
 static void changed_first(void)
 {
     struct feedback_handset handset = fresh(settings_of(2, FEEDBACK_MODE_MULTIPLEXING, 1));
@@ -2093,8 +2099,12 @@ static void silences(void)
     struct feedback_handset handset = fresh(with_scheduled(cell, 7)), nine;
     static const struct feedback_slot block = {FEEDBACK_SLOT_SCHEDULED, 0, 0, 1};
     static const struct feedback_slot five[] = {
-        {FEEDBACK_SLOT_GRANT, 3, 2, 0}, {FEEDBACK_SLOT_GRANT, 3, 1, 0}, {FEEDBACK_SLOT_GRANT, 3, 4, 0},
-        {FEEDBACK_SLOT_GRANT, 3, 3, 0}, {FEEDBACK_SLOT_RELEASE, 3, 2, 0}};
+        {FEEDBACK_SLOT_GRANT, 3, 2, 0},
+        {FEEDBACK_SLOT_GRANT, 3, 1, 0},
+        {FEEDBACK_SLOT_GRANT, 3, 4, 0},
+        {FEEDBACK_SLOT_GRANT, 3, 3, 0},
+        {FEEDBACK_SLOT_RELEASE, 3, 2, 0},
+    };
     unsigned i;
     NO_CAUSE(handset); /* a downlink subframe, taken */
     handset = grant(handset, 1, 1, 0, 3, 1);

@@ -261,10 +261,10 @@ static void fill_windows(void)
         {
             unsigned cce = w % 2 == 0 ? 0 : draw(7), blocks = 1 + draw(1 + w / 12);
             if (draw(WINDOWS) <= w)
-                windows[w].at[m] = draw(5) == 0
-                                       ? feedback_sent_release(cce, 1 + draw(4))
-                                       : feedback_sent_grant(blocks, cce, 1 + draw(4), draw(27),
-                                                             1 + draw(110), draw(27), 1 + draw(110));
+                windows[w].at[m] =
+                    draw(5) == 0 ? feedback_sent_release(cce, 1 + draw(4))
+                                 : feedback_sent_grant(blocks, cce, 1 + draw(4), draw(27),
+                                                       1 + draw(110), draw(27), 1 + draw(110));
         }
         if (w % 3 == 0)
             windows[w].at[draw(9)] = feedback_sent_scheduled(1, draw(27), 1 + draw(110), 0, 0);
