@@ -41,6 +41,7 @@ in_order =
     ∷ refusal.Ports
     ∷ refusal.SizeOrAccount
     ∷ refusal.Total
+    ∷ refusal.Game
     ∷ []
 
 -- the refusal with a number
@@ -77,6 +78,7 @@ found_again refusal.Output = refl
 found_again refusal.Ports = refl
 found_again refusal.SizeOrAccount = refl
 found_again refusal.Total = refl
+found_again refusal.Game = refl
 
 pub from_one : (r : Refusal) → (k : ℕ) × (number_of r ≡ suc k)
 from_one refusal.Configuration = (0, refl)
@@ -105,6 +107,7 @@ from_one refusal.Output = (22, refl)
 from_one refusal.Ports = (23, refl)
 from_one refusal.SizeOrAccount = (24, refl)
 from_one refusal.Total = (25, refl)
+from_one refusal.Game = (26, refl)
 
 pub numbers_apart : NumbersApart
 numbers_apart =

@@ -41,6 +41,8 @@ pub enum Refusal {
     // Accounts: a size, a price or the account itself; and its limit.
     SizeOrAccount = 25,
     Total = 26,
+    // The game of a scheduler and the radio: its window's size, its grants or its losses.
+    Game = 27,
 }
 
 // The number that a C caller gets.
