@@ -7,12 +7,13 @@ ghost use Rattle.account.specs.Account.{open_of};
 ghost use Rattle.confirming.specs.Blocks.{confirmed_of};
 ghost use Rattle.credit.specs.Credit.{credit_of};
 ghost use Rattle.frame.specs.Distance.{answered_of};
+ghost use Rattle.playing.specs.Game.{game_of};
 ghost use Rattle.resource.specs.Calls.{inverse_of};
 ghost use Rattle.resource.specs.Ports.{ports_of};
 ghost use Rattle.station.specs.Readings.{read_of};
 ghost use Rattle.claims.specs.Bits.{bit_checked_of, bit_scratch_of};
 ghost use Rattle.claims.specs.Claims.{checked_of, scratch_of};
-ghost use Rattle.numbers.specs.Answers.{window_answer, answered_answer, resource_answer, inverse_answer, told_position, reading_answer, confirmed_answer, opened_answer, credit_answer, claims_answer, made_answer, changed_answer, fed_answer, silence_answer, grant_of, block_of, release_of, replay_answer, record_answer, write_answer};
+ghost use Rattle.numbers.specs.Answers.{window_answer, answered_answer, resource_answer, inverse_answer, told_position, reading_answer, confirmed_answer, opened_answer, credit_answer, claims_answer, made_answer, changed_answer, fed_answer, silence_answer, grant_of, block_of, release_of, replay_answer, record_answer, write_answer, game_answer};
 ghost use Rattle.handset.specs.Change.{change_of};
 ghost use Rattle.handset.specs.Feed.{feed_of};
 ghost use Rattle.handset.specs.Make.{make_of};
@@ -29,7 +30,7 @@ use handset::Handset;
 use heard::{Grant, Heard, Release, ScheduledBlock};
 use numbers::{
     AnsweredAnswer, ChangedAnswer, ClaimsAnswer, ConfirmedAnswer, CreditAnswer, FedAnswer,
-    InverseAnswer, MadeAnswer, OpenedAnswer, ReadingAnswer, RecordAnswer, ReplayAnswer,
+    GameAnswer, InverseAnswer, MadeAnswer, OpenedAnswer, ReadingAnswer, RecordAnswer, ReplayAnswer,
     ResourceAnswer, SilenceAnswer, WindowAnswer, WriteAnswer,
 };
 use resource::{Cce, Resource};
@@ -268,4 +269,11 @@ pub extern "C" fn feedback_trace_write(trace: &[u8], out: &mut [u8]) -> WriteAns
     ensures out_after { out.new ≡ spelled_into trace.now out.old }
 {
     spelling::write(trace, out).into()
+}
+
+#[unsafe(no_mangle)]
+pub extern "C" fn feedback_game(size: u16, grants: u16, losses: u16) -> GameAnswer
+    ensures { result ≡ game_answer (game_of size grants losses) }
+{
+    playing::radio_wins(size, grants, losses).into()
 }

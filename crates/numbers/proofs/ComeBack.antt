@@ -1,8 +1,8 @@
 -- The C numbers lose nothing, so that answers that look alike from C are the same; and a refusal is told by the kind too.
 -- Assumes nothing.
 use mathlib.Core.Path.{◌≡◌, refl, sym, ap, ◌∙◌}
-use Rattle.numbers.specs.Answers.{answered_answer, made_answer, changed_answer, resource_answer, inverse_answer, reading_answer, claims_answer, fed_answer, silence_answer, record_answer, confirmed_answer, opened_answer, credit_answer, replay_answer, write_answer}
-use Rattle.numbers.specs.Back.{window_in, answered_in, made_in, changed_in, mapped_in, inverted_in, reading_in, checked_in, fed_in, explained_in, record_in, AnswersComeBack, Apart, SameNumbers, KindsOfAnswers, confirmed_in, opened_in, credited_in, replayed_in, written_in}
+use Rattle.numbers.specs.Answers.{answered_answer, made_answer, changed_answer, resource_answer, inverse_answer, reading_answer, claims_answer, fed_answer, silence_answer, record_answer, confirmed_answer, opened_answer, credit_answer, replay_answer, write_answer, game_answer}
+use Rattle.numbers.specs.Back.{window_in, answered_in, made_in, changed_in, mapped_in, inverted_in, reading_in, checked_in, fed_in, explained_in, record_in, AnswersComeBack, Apart, SameNumbers, KindsOfAnswers, confirmed_in, opened_in, credited_in, replayed_in, written_in, game_in}
 use Rattle.numbers.proofs.WindowKept.{window_back, answered_back}
 use Rattle.numbers.proofs.ResourceKept.{resource_back}
 use Rattle.numbers.proofs.InverseKept.{inverse_back}
@@ -10,6 +10,7 @@ use Rattle.numbers.proofs.ReadingKept.{reading_kept}
 use Rattle.numbers.proofs.ClaimsKept.{claims_kept}
 use Rattle.numbers.proofs.FeedKept.{feed_kept}
 use Rattle.numbers.proofs.SilenceKept.{silence_back, silence_told}
+use Rattle.numbers.proofs.GameKept.{game_back}
 use Rattle.numbers.proofs.ReaderKept.{reader_kept, replay_told, writing_told}
 
 pub answers_come_back : AnswersComeBack
@@ -31,6 +32,7 @@ answers_come_back =
       reader = λ l i. (reader_kept l i).0;
       replay = λ l room. refl;
       writing = λ l room. refl;
+      game = game_back;
     }
 
 alike : {A N : Type 0} (numbers : A → N) (back : N → A) {x y : A} → back (numbers x) ≡ x → back (numbers y) ≡ y → Apart numbers x y
@@ -56,6 +58,7 @@ same_numbers =
       reader = λ a b i j. alike record_answer record_in (l.reader a i) (l.reader b j);
       replay = λ a b room room'. alike replay_answer replayed_in (l.replay a room) (l.replay b room');
       writing = λ a b room room'. alike write_answer written_in (l.writing a room) (l.writing b room');
+      game = λ s g m s' g' m'. alike game_answer game_in (l.game s g m) (l.game s' g' m');
     }
 
 pub kinds_of_answers : KindsOfAnswers

@@ -1,6 +1,7 @@
 pub mod ClaimsKept
 pub mod ComeBack
 pub mod FeedKept
+pub mod GameKept
 pub mod InverseKept
 pub mod ReaderKept
 pub mod ReadingKept

@@ -1,6 +1,6 @@
 -- The papers' refusal number and values for each case of an answer, as a C caller gets them.
 -- Assumes nothing.
-use Rattle.std.specs.Prelude.{Option, Some, None, Result, Ok, Err, ℕ, zero, suc, cond, not, List, [], ◌∷◌, eqb, length}
+use Rattle.std.specs.Prelude.{Option, Some, None, Result, Ok, Err, ℕ, zero, suc, Bool, cond, not, List, [], ◌∷◌, eqb, length}
 use Rattle.heard.specs.declared.Slot.{Slot}
 use Rattle.resource.specs.declared.ports.OnPorts.{OnPorts}
 use Rattle.resource.specs.declared.Cce.{Cce}
@@ -48,6 +48,7 @@ use Rattle.numbers.specs.declared.feeds.ChangedAnswer.{ChangedAnswer}
 use Rattle.numbers.specs.declared.feeds.MadeAnswer.{MadeAnswer}
 use Rattle.numbers.specs.declared.frames.AnsweredAnswer.{AnsweredAnswer}
 use Rattle.numbers.specs.declared.frames.WindowAnswer.{WindowAnswer}
+use Rattle.numbers.specs.declared.games.GameAnswer.{GameAnswer}
 use Rattle.reply.specs.Kinds.{kind_bundled, kind_multiplexed, kind_number}
 use Rattle.numbers.specs.Kinds.{kind_refused, kind_silent, kind_taken, kind_no_window, cause_none, cause_nothing_heard, cause_miss_shown, claims_clean, claims_clash, claims_refused, record_refused, record_read, record_end}
 
@@ -149,6 +150,11 @@ cause_numbers (Some (cause.MissShown v expected)) f = record { fed = f; cause = 
 
 abbrev pub silence_answer : Explained → SilenceAnswer
 silence_answer e = cause_numbers e.cause (fed_answer e.fed)
+
+-- U12: 1 where the radio can force the outcome, 0 where the scheduler can.
+abbrev pub game_answer : Result Bool ℕ → GameAnswer
+game_answer (Ok forced) = record { refusal = 0; radio = cond forced 1 0 }
+game_answer (Err k) = record { refusal = k; radio = 0 }
 
 -- A grant as a C caller feeds it: a block is decoded unless its flag is 0.
 abbrev pub grant_of : ℕ → ℕ → ℕ → ℕ → ℕ → Heard

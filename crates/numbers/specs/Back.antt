@@ -1,6 +1,6 @@
 -- The way back from the numbers of a C answer to the answer, and that no answer of a call is lost on the way there.
 -- Assumes nothing.
-use Rattle.std.specs.Prelude.{Option, Some, None, Result, Ok, Err, ℕ, zero, suc, true, cond, not, List, ◌≡◌, eqb, leb, take}
+use Rattle.std.specs.Prelude.{Option, Some, None, Result, Ok, Err, ℕ, zero, suc, Bool, true, cond, not, List, ◌≡◌, eqb, leb, take}
 use Rattle.heard.specs.declared.Slot.{Slot}
 use Rattle.resource.specs.declared.ports.OnPorts.{OnPorts}
 use Rattle.resource.specs.declared.Cce.{Cce}
@@ -25,6 +25,7 @@ use Rattle.reply.specs.declared.Answer.{Answer}
 use Rattle.reply.specs.declared.Answer.TheVariants as answer
 use Rattle.heard.specs.declared.Heard.{Heard}
 use Rattle.account.specs.declared.Account.{Account}
+use Rattle.playing.specs.Game.{game_of}
 use Rattle.account.specs.Account.{AccountAnswer, open_of}
 use Rattle.confirming.specs.declared.SentWindow.{SentWindow}
 use Rattle.confirming.specs.Blocks.{Confirmed, confirmed_of}
@@ -56,7 +57,8 @@ use Rattle.numbers.specs.declared.frames.WindowAnswer.{WindowAnswer}
 use Rattle.numbers.specs.declared.feeds.ChangedAnswer.{ChangedAnswer}
 use Rattle.numbers.specs.declared.feeds.MadeAnswer.{MadeAnswer}
 use Rattle.numbers.specs.declared.frames.AnsweredAnswer.{AnsweredAnswer}
-use Rattle.numbers.specs.Answers.{window_answer, answered_answer, made_answer, changed_answer, resource_answer, inverse_answer, reading_answer, claims_answer, fed_answer, silence_answer, record_answer, confirmed_answer, opened_answer, credit_answer, replay_answer, write_answer}
+use Rattle.numbers.specs.declared.games.GameAnswer.{GameAnswer}
+use Rattle.numbers.specs.Answers.{window_answer, answered_answer, made_answer, changed_answer, resource_answer, inverse_answer, reading_answer, claims_answer, fed_answer, silence_answer, record_answer, confirmed_answer, opened_answer, credit_answer, replay_answer, write_answer, game_answer}
 use Rattle.reply.specs.Kinds.{kind_bundled, kind_multiplexed, kind_number}
 use Rattle.numbers.specs.Kinds.{kind_silent, kind_taken, kind_no_window, cause_nothing_heard, cause_miss_shown, claims_clash, record_end}
 
@@ -145,6 +147,9 @@ replayed_in a = record { refusal = a.refusal; kind = a.kind; number = a.number; 
 abbrev pub written_in : WriteAnswer → Written
 written_in a = record { refusal = a.refusal; kind = a.kind; number = a.number; size = a.size }
 
+abbrev pub game_in : GameAnswer → Result Bool ℕ
+game_in a = unless_refused a.refusal (eqb a.radio 1)
+
 -- Every answer of every call comes back from its numbers.
 pub record AnswersComeBack : Type 0 where
   pub window : (s : Settings) (n : ℕ) → window_in (window_answer s n) ≡ told_window s n
@@ -167,6 +172,7 @@ pub record AnswersComeBack : Type 0 where
   pub reader : (l : List ℕ) (i : ℕ) → record_in (record_answer (record_of l i)) ≡ record_of l i
   pub replay : (l : List ℕ) (room : ℕ) → replayed_in (replay_answer (replay_of l room)) ≡ replay_of l room
   pub writing : (l : List ℕ) (room : ℕ) → written_in (write_answer (write_of l room)) ≡ write_of l room
+  pub game : (size grants losses : ℕ) → game_in (game_answer (game_of size grants losses)) ≡ game_of size grants losses
 
 -- So no two answers of a call look alike from C: where their numbers are equal, the answers are.
 abbrev pub Apart : {A N : Type 0} → (A → N) → A → A → Type 0
@@ -192,6 +198,7 @@ pub record SameNumbers : Type 0 where
   pub reader : (l m : List ℕ) (i j : ℕ) → Apart record_answer (record_of l i) (record_of m j)
   pub replay : (l m : List ℕ) (room room' : ℕ) → Apart replay_answer (replay_of l room) (replay_of m room')
   pub writing : (l m : List ℕ) (room room' : ℕ) → Apart write_answer (write_of l room) (write_of m room')
+  pub game : (size grants losses size' grants' losses' : ℕ) → Apart game_answer (game_of size grants losses) (game_of size' grants' losses')
 
 -- Where an answer has a kind, it is 0 exactly where the refusal is not 0, and it is one of those that Kinds.antt names, the last of
 -- which is `most`: a caller may look at either, and a struct of zeros is no such answer. So a feed's answer that is not

@@ -1,0 +1,2 @@
+pub mod Inputs
+pub mod Lines

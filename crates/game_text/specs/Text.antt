@@ -1,0 +1,45 @@
+-- The text that the program `game` prints, as bytes: for the size of a window the table of document 02, U12, a row for each number of grants
+-- G and a column for each most of losses L, and a line that says what it means for configuration 5.
+-- Assumes nothing.
+use Rattle.std.specs.Prelude.{Option, Some, None, Result, Ok, Err, ℕ, zero, suc, ◌+◌, ◌-◌, Bool, true, false, cond, ◌&&◌, List, [], ◌∷◌, ◌++◌, eqb, leb, length, get_or, codes, decimal}
+use Rattle.playing.specs.Game.{game_of}
+
+-- The input is one digit 1 to 9 (49 to 57) and a newline (10), nothing more, and names a size by it.
+unfoldable pub size_in : List ℕ → Option ℕ
+size_in input =
+    cond (eqb (length input) 2 && leb 49 (get_or input 0 0) && leb (get_or input 0 0) 57 && eqb (get_or input 1 0) 10)
+    (Some (get_or input 0 0 - 48))
+    None
+
+-- The letter of an answer: R (82) the radio can force the outcome, S (83) the scheduler can, a hyphen (45) the game is refused, as none of
+-- a row is.
+abbrev pub letter : Result Bool ℕ → ℕ
+letter (Ok true) = 82
+letter (Ok false) = 83
+letter (Err k) = 45
+
+-- The letters for so many grants and at most 0, 1, .. losses, the first `count` of them, a space (32) before each.
+unfoldable pub cells : ℕ → ℕ → ℕ → List ℕ
+cells size grants zero = []
+cells size grants (suc losses) = cells size grants losses ++ 32 ∷ letter (game_of size grants losses) ∷ []
+
+unfoldable pub row : ℕ → ℕ → List ℕ
+row size grants = (codes "G " ++ decimal grants) ++ cells size grants 10
+
+unfoldable pub title : ℕ → List ℕ
+title size =
+    (codes "Window size " ++ decimal size)
+    ++ codes ": R the radio can force a reply that hides a loss, S the scheduler can prevent it"
+
+-- Line i of the text, without its newline: the title, the columns' heading, the rows of 0 to `size` grants, and the line for configuration 5
+-- (which hiding/specs/Hiding.antt states of its runs).
+unfoldable pub unended_line : ℕ → ℕ → List ℕ
+unended_line size zero = title size
+unended_line size (suc zero) = codes "L   0 1 2 3 4 5 6 7 8 9"
+unended_line size (suc (suc grants)) =
+    cond (leb grants size) (row size grants)
+    (codes "Configuration 5, window size 9: with 4 grants or fewer, or 3 losses or fewer, no reply hides a loss")
+
+-- Line i of the text for a size, from 0, with its newline (10); nothing past the line for configuration 5.
+unfoldable pub game_line : ℕ → ℕ → List ℕ
+game_line size i = cond (leb i (size + 3)) (unended_line size i ++ 10 ∷ []) []

@@ -1,0 +1,284 @@
+-- Who can force the outcome: specs/Decided.antt, proved of radio_forces. The radio wins by losing the first four grants; without five
+-- grants and four losses no play is won.
+-- Assumes nothing.
+use Prim.Native.Nat.{ℕ, zero, suc, ◌+◌, ◌-◌, ◌<◌, ◌≤◌}
+use mathlib.Core.Bool.{Bool, true, false, cond, not, ◌&&◌, ◌||◌, or-true, false≢true}
+use mathlib.Core.List.{List, [], ◌∷◌}
+use mathlib.Core.Logic.{◌⊎◌, inl, inr, ◌↔◌}
+use mathlib.Core.Path.{◌≡◌, refl, sym, ap, ◌∙◌}
+use native.Mathlib.Decide.{dec_le}
+use native.Mathlib.Omega.{arith}
+use lib.Dec.{leb, ltb}
+use lib.ListN.{length}
+use borrow.Author.Tests.{ltb-true, lt-ltb, le-ltb, le-leb, lt-leb}
+use Rattle.std.proofs.lemmas.Bool.{and_parts}
+use Rattle.std.proofs.Common.{Ok}
+use Rattle.frame.specs.Settings.{outside}
+use Rattle.playing.specs.Game.{Turn, held, passed, lost, grants_in, losses_in, won, radio_forces, game_refusal, game_of}
+use Rattle.playing.specs.Decided.{RadioRule, against_moves, SchedulerRule, against_answers, RadioWins, SchedulerPrevents, Decided}
+use Rattle.playing.proofs.Plays.{granted_are, won_needs, FirstLost, first_none, first_held, first_lost, first_passed, first_won}
+
+either_true : (b c : Bool) → (b || c) ≡ true → (b ≡ true) ⊎ (c ≡ true)
+either_true true c e = inl refl
+either_true false c e = inr e
+
+-- With so many subframes left, what the radio can force needs five grants and four losses.
+abbrev Needs : ℕ → Type 0
+Needs left =
+    (owed losses : ℕ) (play : List Turn) → owed ≤ left → radio_forces left owed losses play ≡ true
+    → (5 ≤ grants_in play + owed) × (4 ≤ losses_in play + losses)
+
+needs : (left : ℕ) → Needs left
+unfolding radio_forces
+needs zero owed losses play h e = let w = won_needs play e in (omega (arith, w.0), omega (arith, w.1))
+needs (suc left) owed losses play h e = go (dec_le owed left) (needs left)
+  where
+    wins_held : Bool
+    wins_held = radio_forces left owed losses (held ∷ play)
+
+    wins_passed : Bool
+    wins_passed = radio_forces left (owed - 1) losses (passed ∷ play)
+
+    wins_lost : Bool
+    wins_lost = radio_forces left (owed - 1) (losses - 1) (lost ∷ play)
+
+    both : ((not (leb owed left) || wins_held) ≡ true) × ((not (ltb 0 owed) || wins_passed || (ltb 0 losses && wins_lost)) ≡ true)
+    both = and_parts _ _ e
+
+    answered : (owed ≤ left → ⊥) → Needs left → (wins_passed ≡ true) ⊎ ((ltb 0 losses && wins_lost) ≡ true)
+        → (5 ≤ grants_in play + owed) × (4 ≤ losses_in play + losses)
+    answered full rest (inl p) = let n = rest (owed - 1) losses (passed ∷ play) (omega (arith, h)) p in (omega (arith, n.0, full), n.1)
+    answered full rest (inr q) =
+        let b = and_parts (ltb 0 losses) wins_lost q in
+        let n = rest (owed - 1) (losses - 1) (lost ∷ play) (omega (arith, h)) b.1 in
+        (omega (arith, n.0, full), omega (arith, n.1, ltb-true 0 losses b.0))
+
+    go : Dec (owed ≤ left) → Needs left → (5 ≤ grants_in play + owed) × (4 ≤ losses_in play + losses)
+    go (yes room) rest = rest owed losses (held ∷ play) room (rw (le-leb owed left room) at both.0)
+    go (no full) rest = answered full rest (either_true _ _ (rw (lt-ltb 0 owed (omega (arith, full))) at both.1))
+
+-- Where they can be had, the radio can force it from every play in which the first four were lost.
+abbrev Forces : ℕ → Type 0
+Forces left =
+    (owed losses : ℕ) (play : List Turn) → owed ≤ left → FirstLost play
+    → 5 ≤ grants_in play + owed → 4 ≤ losses_in play + losses → radio_forces left owed losses play ≡ true
+
+forced : (left : ℕ) → Forces left
+unfolding radio_forces
+forced zero owed losses play h f five four = first_won play f (omega (arith, h, five))
+forced (suc left) owed losses play h f five four =
+    rw (hold (dec_le owed left) (forced left)) (grant (dec_le 1 owed) (dec_le 4 (grants_in play)) (forced left))
+  where
+    hold : Dec (owed ≤ left) → Forces left → (not (leb owed left) || radio_forces left owed losses (held ∷ play)) ≡ true
+    hold (yes room) rest = rw (le-leb owed left room) (rest owed losses (held ∷ play) room (first_held play f) five four)
+    hold (no full) rest = rw (lt-leb owed left (omega (arith, full)))
+
+    grant : Dec (1 ≤ owed) → Dec (4 ≤ grants_in play) → Forces left
+        → (not (ltb 0 owed)
+        || radio_forces left (owed - 1) losses (passed ∷ play)
+        || (ltb 0 losses && radio_forces left (owed - 1) (losses - 1) (lost ∷ play))) ≡ true
+    grant (no none) p rest = rw (le-ltb 0 owed (omega (arith, none)))
+    grant (yes some) (yes past) rest =
+        let passes = rest (owed - 1) losses (passed ∷ play) (omega (arith, h)) (first_passed play past f) (omega (arith, five)) four in
+        rw (lt-ltb 0 owed some, passes)
+    grant (yes some) (no first) rest =
+        let few : losses_in play ≤ grants_in play = omega (arith, granted_are play) in
+        let loses =
+        rest (owed - 1) (losses - 1) (lost ∷ play) (omega (arith, h)) (first_lost play (omega (arith, first)) f)
+        (omega (arith, five)) (omega (arith, four, first, few)) in
+        rw (lt-ltb 0 owed some, lt-ltb 0 losses (omega (arith, four, first, few)), loses) (or-true _)
+
+forces_enough : (size grants losses : ℕ) → grants ≤ size → radio_forces size grants losses [] ≡ true → (5 ≤ grants) × (4 ≤ losses)
+forces_enough size grants losses h e = let n = needs size grants losses [] h e in (omega (arith, n.0), omega (arith, n.1))
+
+enough_forces : (size grants losses : ℕ) → grants ≤ size → 5 ≤ grants → 4 ≤ losses → radio_forces size grants losses [] ≡ true
+enough_forces size grants losses h five four = forced size grants losses [] h first_none (omega (arith, five)) (omega (arith, four))
+
+pub exactly : (size grants losses : ℕ) → grants ≤ size → radio_forces size grants losses [] ≡ (leb 5 grants && leb 4 losses)
+exactly size grants losses h = go (dec_le 5 grants) (dec_le 4 losses) (radio_forces size grants losses []) refl
+  where
+    go : Dec (5 ≤ grants) → Dec (4 ≤ losses) → (b : Bool) → radio_forces size grants losses [] ≡ b → b ≡ (leb 5 grants && leb 4 losses)
+    go (yes five) (yes four) b e = rw (le-leb 5 grants five, le-leb 4 losses four) (sym e ∙ enough_forces size grants losses h five four)
+    go (yes five) (no n) true e = absurd (n (forces_enough size grants losses h e).1)
+    go (yes five) (no n) false e = rw (le-leb 5 grants five, lt-leb 4 losses (omega (arith, n)))
+    go (no n) four true e = absurd (n (forces_enough size grants losses h e).0)
+    go (no n) four false e = rw (lt-leb 5 grants (omega (arith, n)))
+
+-- The radio's rule: it loses the first four grants.
+loses_four : RadioRule
+loses_four play = ltb (grants_in play) 4
+
+first_answered : (play : List Turn) → FirstLost play → FirstLost (cond (ltb (grants_in play) 4) lost passed ∷ play)
+first_answered play f = go (dec_le 4 (grants_in play))
+  where
+    go : Dec (4 ≤ grants_in play) → FirstLost (cond (ltb (grants_in play) 4) lost passed ∷ play)
+    go (yes past) = rw (le-ltb (grants_in play) 4 past) (first_passed play past f)
+    go (no first) = rw (lt-ltb (grants_in play) 4 (omega (arith, first))) (first_lost play (omega (arith, first)) f)
+
+four_against : (moves : List Bool) → FirstLost (against_moves loses_four moves)
+unfolding loses_four
+four_against [] = first_none
+four_against (false ∷ moves) = first_held (against_moves loses_four moves) (four_against moves)
+four_against (true ∷ moves) = first_answered (against_moves loses_four moves) (four_against moves)
+
+-- Moves with so many grants, the newest ones.
+granting : ℕ → ℕ → List Bool
+granting zero grants = []
+granting (suc size) zero = false ∷ granting size zero
+granting (suc size) (suc grants) = true ∷ granting size grants
+
+granting_size : (size grants : ℕ) → length (granting size grants) ≡ size
+unfolding granting
+granting_size zero grants = refl
+granting_size (suc size) zero = ap suc (granting_size size zero)
+granting_size (suc size) (suc grants) = ap suc (granting_size size grants)
+
+answered_grant : (lose : Bool) (play : List Turn) → grants_in (cond lose lost passed ∷ play) ≡ suc (grants_in play)
+answered_grant true play = omega arith
+answered_grant false play = omega arith
+
+granting_grants : (loses : RadioRule) (size grants : ℕ) → grants ≤ size → grants_in (against_moves loses (granting size grants)) ≡ grants
+unfolding granting
+granting_grants loses zero grants h = omega (arith, h)
+granting_grants loses (suc size) zero h = granting_grants loses size zero (omega arith)
+granting_grants loses (suc size) (suc grants) h =
+    answered_grant (loses (against_moves loses (granting size grants))) (against_moves loses (granting size grants))
+    ∙ ap suc (granting_grants loses size grants (omega (arith, h)))
+
+radio_holds : (size grants losses : ℕ) → grants ≤ size → (radio_forces size grants losses [] ≡ true) ↔ RadioWins size grants losses
+radio_holds size grants losses h = (
+  λ e.
+      let n = forces_enough size grants losses h e in (
+        loses_four,
+        λ moves l g.
+            let f = four_against moves in
+            let five : 5 ≤ grants_in (against_moves loses_four moves) = rw g n.0 in
+            (omega (arith, (f.many five).0, n.1), first_won _ f five),
+      ),
+  λ w.
+      let moves : List Bool = granting size grants in
+      let g = granting_grants w.0 size grants h in
+      let p = w.1 moves (granting_size size grants) g in
+      let n = won_needs (against_moves w.0 moves) p.1 in
+      enough_forces size grants losses h (omega (arith, n.0, g)) (omega (arith, n.1, p.0)),
+)
+
+-- The scheduler's rule: it grants while it owes a grant.
+grants_first : ℕ → SchedulerRule
+grants_first grants play = ltb (grants_in play) grants
+
+grants_made : (grants : ℕ) (answers : List Bool)
+    → ((grants_in (against_answers (grants_first grants) answers) ≡ length answers) × (length answers ≤ grants))
+    ⊎ ((grants_in (against_answers (grants_first grants) answers) ≡ grants) × (grants ≤ length answers))
+unfolding grants_first
+grants_made grants [] = inl (refl, omega arith)
+grants_made grants (answer ∷ answers) = go (grants_made grants answers)
+  where
+    before : List Turn
+    before = against_answers (grants_first grants) answers
+
+    more : grants_in before < grants
+        → grants_in (cond (ltb (grants_in before) grants) (cond answer lost passed) held ∷ before) ≡ suc (grants_in before)
+    more h = rw (lt-ltb (grants_in before) grants h) (answered_grant answer before)
+
+    enough : grants ≤ grants_in before
+        → grants_in (cond (ltb (grants_in before) grants) (cond answer lost passed) held ∷ before) ≡ grants_in before
+    enough h = rw (le-ltb (grants_in before) grants h)
+
+    go : ((grants_in before ≡ length answers) × (length answers ≤ grants)) ⊎ ((grants_in before ≡ grants) × (grants ≤ length answers))
+        → ((grants_in (cond (ltb (grants_in before) grants) (cond answer lost passed) held ∷ before) ≡ suc (length answers)) × (suc (length answers) ≤ grants))
+        ⊎ ((grants_in (cond (ltb (grants_in before) grants) (cond answer lost passed) held ∷ before) ≡ grants) × (grants ≤ suc (length answers)))
+    go (inl p) = at_all (dec_le grants (length answers))
+      where
+        at_all : Dec (grants ≤ length answers)
+            → ((grants_in (cond (ltb (grants_in before) grants) (cond answer lost passed) held ∷ before) ≡ suc (length answers)) × (suc (length answers) ≤ grants))
+            ⊎ ((grants_in (cond (ltb (grants_in before) grants) (cond answer lost passed) held ∷ before) ≡ grants) × (grants ≤ suc (length answers)))
+        at_all (yes done) = inr (enough (omega (arith, p.0, done)) ∙ omega (arith, p.0, p.1, done), omega (arith, done))
+        at_all (no owed) = inl (more (omega (arith, p.0, owed)) ∙ ap suc p.0, omega (arith, owed))
+    go (inr p) = inr (enough (omega (arith, p.0)) ∙ p.0, omega (arith, p.1))
+
+-- The radio's answers that lose the first four grants of a scheduler's rule.
+losing : SchedulerRule → ℕ → List Bool
+losing rule zero = []
+losing rule (suc left) = ltb (grants_in (against_answers rule (losing rule left))) 4 ∷ losing rule left
+
+losing_size : (rule : SchedulerRule) (size : ℕ) → length (losing rule size) ≡ size
+unfolding losing
+losing_size rule zero = refl
+losing_size rule (suc size) = ap suc (losing_size rule size)
+
+four_of : (rule : SchedulerRule) (size : ℕ) → FirstLost (against_answers rule (losing rule size))
+unfolding losing
+four_of rule zero = first_none
+four_of rule (suc size) = go (rule (against_answers rule (losing rule size))) (four_of rule size)
+  where
+    go : {play : List Turn} (b : Bool) → FirstLost play → FirstLost (cond b (cond (ltb (grants_in play) 4) lost passed) held ∷ play)
+    go false f = first_held _ f
+    go true f = first_answered _ f
+
+-- A play of a game that the radio cannot force is not won.
+not_won : (size grants losses : ℕ) → grants ≤ size → radio_forces size grants losses [] ≡ false
+    → (play : List Turn) → grants_in play ≡ grants → losses_in play ≤ losses → won play ≡ false
+not_won size grants losses h e play g l = go (won play) refl
+  where
+    go : (b : Bool) → won play ≡ b → won play ≡ false
+    go false w = w
+    go true w =
+        let n = won_needs play w in
+        absurd (false≢true (sym e ∙ enough_forces size grants losses h (omega (arith, n.0, g)) (omega (arith, n.1, l))))
+
+scheduler_holds : (size grants losses : ℕ) → grants ≤ size → (radio_forces size grants losses [] ≡ false) ↔ SchedulerPrevents size grants losses
+scheduler_holds size grants losses h = (
+  λ e. (
+    grants_first grants,
+    λ answers l.
+        let g = made answers (grants_made grants answers) l in
+        (g, λ few. not_won size grants losses h e (against_answers (grants_first grants) answers) g few),
+  ),
+  λ p. go p (radio_forces size grants losses []) refl,
+)
+  where
+    made : (answers : List Bool)
+        → ((grants_in (against_answers (grants_first grants) answers) ≡ length answers) × (length answers ≤ grants))
+        ⊎ ((grants_in (against_answers (grants_first grants) answers) ≡ grants) × (grants ≤ length answers))
+        → length answers ≡ size → grants_in (against_answers (grants_first grants) answers) ≡ grants
+    made answers (inl p) l = omega (arith, p.0, p.1, l, h)
+    made answers (inr p) l = p.0
+
+    go : SchedulerPrevents size grants losses → (b : Bool) → radio_forces size grants losses [] ≡ b → radio_forces size grants losses [] ≡ false
+    go p false e = e
+    go p true e =
+        let n = forces_enough size grants losses h e in
+        let play : List Turn = against_answers p.0 (losing p.0 size) in
+        let r = p.1 (losing p.0 size) (losing_size p.0 size) in
+        let f = four_of p.0 size in
+        let five : 5 ≤ grants_in play = rw r.0 n.0 in
+        absurd (false≢true (sym (r.1 (omega (arith, (f.many five).0, n.1))) ∙ first_won play f five))
+
+pub decided : Decided (λ (size grants losses : ℕ). radio_forces size grants losses [])
+decided =
+    record {
+      exactly = exactly;
+      radio = radio_holds;
+      scheduler = scheduler_holds;
+      no_play = λ size grants losses h e play l. not_won size grants losses h e play l.granted l.few_lost;
+    }
+
+-- The answer of a game that is not refused, where five grants are made and where not.
+not_more : (size grants losses : ℕ) → game_refusal size grants losses ≡ 0 → grants ≤ size
+unfolding game_refusal
+not_more size grants losses e = go (dec_le grants size)
+  where
+    go : Dec (grants ≤ size) → grants ≤ size
+    go (yes h) = h
+    go (no n) = absurd (omega (arith, rw (lt-ltb size grants (omega (arith, n)), or-true (outside 1 9 size)) at e))
+
+pub many_granted : (size grants losses : ℕ) → game_refusal size grants losses ≡ 0 → 5 ≤ grants → game_of size grants losses ≡ Ok (leb 4 losses)
+unfolding game_of
+many_granted size grants losses e h =
+    rw (e, exactly size grants losses (not_more size grants losses e), le-leb 5 grants h)
+
+pub few_granted : (size grants losses : ℕ) → game_refusal size grants losses ≡ 0 → grants < 5 → game_of size grants losses ≡ Ok (leb 5 grants)
+unfolding game_of
+few_granted size grants losses e h =
+    rw (e, exactly size grants losses (not_more size grants losses e), lt-leb 5 grants h)

@@ -1,0 +1,4 @@
+pub mod Decided
+pub mod Plays
+mod Worked
+mod WrongGames
