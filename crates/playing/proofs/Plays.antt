@@ -1,14 +1,14 @@
 -- What the handset has after a play, by what was passed and what was lost in it: which plays are won, and that one is won in which the
 -- first four grants are lost and the others passed.
 -- Assumes nothing.
-use Prim.Native.Nat.{ℕ, ◌+◌, ◌-◌, ◌%◌, ◌<◌, ◌≤◌}
-use mathlib.Core.Bool.{Bool, true, false, not, false≢true}
+use Prim.Native.Nat.{ℕ, suc, ◌+◌, ◌-◌, ◌%◌, ◌<◌, ◌≤◌}
+use mathlib.Core.Bool.{Bool, true, false, cond, not, false≢true}
 use mathlib.Core.List.{List, [], ◌∷◌}
 use mathlib.Core.Path.{◌≡◌, refl, sym, ap, ◌∙◌}
 use native.Mathlib.Decide.{dec_le}
 use native.Mathlib.Omega.{arith}
-use lib.Dec.{eqb}
-use borrow.Author.Tests.{eq-eqb, ne_eqb, eqb-true, eqb-false}
+use lib.Dec.{eqb, ltb}
+use borrow.Author.Tests.{lt-ltb, le-ltb, eq-eqb, ne_eqb, eqb-true, eqb-false}
 use Rattle.std.proofs.lemmas.Bool.{and_parts}
 use Rattle.fold.specs.Fold.{expected, step_of}
 use Rattle.playing.specs.Game.{Turn, held, passed, lost, count, grants_in, losses_in, seen_after, replied, some_lost, hidden, won}
@@ -126,6 +126,19 @@ first_passed play h f = record { few = λ l. absurd (omega (arith, h, l)); many 
     go : Dec (5 ≤ grants_in play) → losses_in play ≡ 4
     go (yes more) = (f.many more).0
     go (no most) = omega (arith, granted_are play, f.few (omega arith))
+
+-- The radio's answer to a grant is to lose it while fewer than four were made.
+pub first_answered : (play : List Turn) → FirstLost play → FirstLost (cond (ltb (grants_in play) 4) lost passed ∷ play)
+first_answered play f = go (dec_le 4 (grants_in play))
+  where
+    go : Dec (4 ≤ grants_in play) → FirstLost (cond (ltb (grants_in play) 4) lost passed ∷ play)
+    go (yes past) = rw (le-ltb (grants_in play) 4 past) (first_passed play past f)
+    go (no first) = rw (lt-ltb (grants_in play) 4 (omega (arith, first))) (first_lost play (omega (arith, first)) f)
+
+-- Lost or passed, it is a grant more.
+pub answered_grant : (lose : Bool) (play : List Turn) → grants_in (cond lose lost passed ∷ play) ≡ suc (grants_in play)
+answered_grant true play = omega arith
+answered_grant false play = omega arith
 
 -- With five grants such a play is won.
 pub first_won : (play : List Turn) → FirstLost play → 5 ≤ grants_in play → won play ≡ true

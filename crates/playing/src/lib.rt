@@ -22,7 +22,7 @@ fn check(size: u16, grants: u16, losses: u16) -> Result<(), Refusal>
 // True if the radio can force that a bundled reply is sent though a grant before the last heard was lost; false if the scheduler can
 // prevent it. The plays of nine subframes are not gone through: that V is the value expected takes four losses before a grant that is
 // heard, and four losses are enough.
-#[tactic(auto, using(crate::proofs::Decided::many_granted, crate::proofs::Decided::few_granted, frame::proofs::Refused::value_refused), unfolding(crate::specs::Game::game_of))]
+#[tactic(auto, using(crate::proofs::Tree::many_granted, crate::proofs::Tree::few_granted, frame::proofs::Refused::value_refused), unfolding(crate::specs::Game::game_of))]
 pub fn radio_wins(size: u16, grants: u16, losses: u16) -> Result<bool, Refusal>
     ensures { numbered result ≡ game_of size grants losses }
 {
