@@ -4,26 +4,28 @@
 use Prim.Native.Nat.{ℕ, suc, ◌+◌, ◌-◌, ◌%◌, ◌<◌, ◌≤◌}
 use mathlib.Core.Bool.{Bool, true, false, cond, not, false≢true}
 use mathlib.Core.List.{List, [], ◌∷◌}
+use mathlib.Core.Logic.{◌↔◌}
 use mathlib.Core.Path.{◌≡◌, refl, sym, ap, ◌∙◌}
 use native.Mathlib.Decide.{dec_le}
 use native.Mathlib.Omega.{arith}
 use lib.Dec.{eqb, ltb}
+use lib.ListN.{length}
 use borrow.Author.Tests.{lt-ltb, le-ltb, eq-eqb, ne_eqb, eqb-true, eqb-false}
 use Rattle.std.proofs.lemmas.Bool.{and_parts}
 use Rattle.fold.specs.Fold.{expected, step_of}
 use Rattle.playing.specs.Game.{Turn, held, passed, lost, count, grants_in, losses_in, seen_after, replied, some_lost, hidden, won}
 
-is_passed : Turn → Bool
+unfoldable pub is_passed : Turn → Bool
 is_passed held = false
 is_passed passed = true
 is_passed lost = false
 
 -- the grants that were heard
-pub heard_in : List Turn → ℕ
+unfoldable pub heard_in : List Turn → ℕ
 heard_in = count is_passed
 
 -- the grants lost before the last heard one
-pub lost_before : List Turn → ℕ
+unfoldable pub lost_before : List Turn → ℕ
 lost_before [] = 0
 lost_before (held ∷ earlier) = lost_before earlier
 lost_before (passed ∷ earlier) = losses_in earlier
@@ -36,6 +38,12 @@ granted_are [] = refl
 granted_are (held ∷ play) = granted_are play
 granted_are (passed ∷ play) = omega (arith, granted_are play)
 granted_are (lost ∷ play) = omega (arith, granted_are play)
+
+pub grants_most : (play : List Turn) → grants_in play ≤ length play
+grants_most [] = omega arith
+grants_most (held ∷ play) = omega (arith, grants_most play)
+grants_most (passed ∷ play) = omega (arith, grants_most play)
+grants_most (lost ∷ play) = omega (arith, grants_most play)
 
 u_is : (play : List Turn) → (seen_after play).u ≡ heard_in play
 unfolding heard_in is_passed step_of
@@ -85,22 +93,41 @@ hides_none (held ∷ play) e = hides_none play e
 hides_none (passed ∷ play) e = none_lost play e
 hides_none (lost ∷ play) e = hides_none play e
 
--- A play that is won has five grants and four losses: four divides what was lost before the last heard grant, and that is not 0.
-pub won_needs : (play : List Turn) → won play ≡ true → (5 ≤ grants_in play) × (4 ≤ losses_in play)
+-- A grant before the last heard one was lost exactly if some were.
+pub hidden_is : (play : List Turn) → (hidden play ≡ true) ↔ (1 ≤ lost_before play)
+hidden_is play = (hides_some play, λ some. go (hidden play) refl some)
+  where
+    go : (b : Bool) → hidden play ≡ b → 1 ≤ lost_before play → hidden play ≡ true
+    go true e some = e
+    go false e some = absurd (omega (arith, some, hides_none play e))
+
+-- A reply is sent exactly where a grant was heard and four divides what was lost before the last one: 0, 4 or 8 in a window of nine.
+pub replied_is : (play : List Turn) → (replied play ≡ true) ↔ ((1 ≤ heard_in play) × (lost_before play % 4 ≡ 0))
 unfolding expected
-won_needs play e =
-    let w = and_parts (replied play) (hidden play) e in
-    let r = and_parts (not (eqb (seen_after play).u 0)) (eqb (seen_after play).v (expected (seen_after play).u)) w.0 in
-    let some : 1 ≤ heard_in play = least (eqb (seen_after play).u 0) refl r.0 in
-    let same : (heard_in play + lost_before play - 1) % 4 + 1 ≡ (heard_in play - 1) % 4 + 1 =
-    sym (v_is play some) ∙ eqb-true _ _ r.1 ∙ ap (λ (u : ℕ). (u - 1) % 4 + 1) (u_is play) in
-    let lost = hides_some play w.1 in
-    let fours : 4 ≤ lost_before play = omega (arith, some, same, lost) in
-    (omega (arith, granted_are play, few_before play, some, fours), omega (arith, few_before play, fours))
+replied_is play = (
+  λ e.
+      let r = and_parts (not (eqb (seen_after play).u 0)) (eqb (seen_after play).v (expected (seen_after play).u)) e in
+      let some : 1 ≤ heard_in play = least (eqb (seen_after play).u 0) refl r.0 in
+      let same : (heard_in play + lost_before play - 1) % 4 + 1 ≡ (heard_in play - 1) % 4 + 1 =
+      sym (v_is play some) ∙ eqb-true _ _ r.1 ∙ ap (λ (u : ℕ). (u - 1) % 4 + 1) (u_is play) in
+      (some, omega (arith, some, same)),
+  λ p.
+      let v : (seen_after play).v ≡ ((seen_after play).u - 1) % 4 + 1 = omega (arith, v_is play p.0, u_is play, p.0, p.1) in
+      rw (ne_eqb (seen_after play).u 0 (λ z. omega (arith, p.0, u_is play)), eq-eqb (seen_after play).v (((seen_after play).u - 1) % 4 + 1) v),
+)
   where
     least : (b : Bool) → eqb (seen_after play).u 0 ≡ b → not b ≡ true → 1 ≤ heard_in play
     least true e n = absurd (false≢true n)
     least false e n = omega (arith, eqb-false _ _ e, u_is play)
+
+-- A play that is won has five grants and four losses: four divides what was lost before the last heard grant, and that is not 0.
+pub won_needs : (play : List Turn) → won play ≡ true → (5 ≤ grants_in play) × (4 ≤ losses_in play)
+won_needs play e =
+    let w = and_parts (replied play) (hidden play) e in
+    let r = (replied_is play).0 w.0 in
+    let some = hides_some play w.1 in
+    let fours : 4 ≤ lost_before play = omega (arith, r.1, some) in
+    (omega (arith, granted_are play, few_before play, r.0, fours), omega (arith, few_before play, fours))
 
 -- The first four grants were lost, or all of fewer, and the others passed.
 pub record FirstLost (play : List Turn) : Type 0 where
@@ -142,13 +169,7 @@ answered_grant false play = omega arith
 
 -- With five grants such a play is won.
 pub first_won : (play : List Turn) → FirstLost play → 5 ≤ grants_in play → won play ≡ true
-unfolding expected
 first_won play f h =
     let lost = f.many h in
     let some : 1 ≤ heard_in play = omega (arith, granted_are play, lost.0) in
-    let v : (seen_after play).v ≡ ((seen_after play).u - 1) % 4 + 1 = omega (arith, v_is play some, u_is play, lost.1) in
-    rw (ne_eqb (seen_after play).u 0 (λ z. omega (arith, some, u_is play)), eq-eqb (seen_after play).v (((seen_after play).u - 1) % 4 + 1) v) (hides (hidden play) refl lost.1)
-  where
-    hides : (b : Bool) → hidden play ≡ b → lost_before play ≡ 4 → hidden play ≡ true
-    hides true e l = e
-    hides false e l = absurd (omega (arith, hides_none play e, l))
+    rw ((replied_is play).1 (some, omega (arith, lost.1))) ((hidden_is play).1 (omega (arith, lost.1)))
