@@ -22,6 +22,7 @@
  *                           feedback_feed_release
  *   calls on a recorded     feedback_replay, feedback_record,
  *   drive                   feedback_trace_write
+ *   call of a planner       feedback_game
  *
  * feedback_text.h has the refusals, the kinds and the cause of a silence as texts for a
  * log. examples/cell.c runs both ends against each other, tells why a handset is silent and
@@ -245,6 +246,7 @@
  *             feedback_replay         2048
  *             feedback_record         64
  *             feedback_trace_write    2048
+ *             feedback_game           64
  *
  * Of the C library the calls use memcpy and memset and nothing else.
  */
@@ -259,10 +261,11 @@
 #include <stdint.h>
 
 /* This header's version: major * 10000 + minor * 100 + patch, and the same as text. */
-#define FEEDBACK_VERSION 50200
-#define FEEDBACK_VERSION_TEXT "5.2.0"
+#define FEEDBACK_VERSION 50300
+#define FEEDBACK_VERSION_TEXT "5.3.0"
 
 #define FEEDBACK_WINDOW_MOST 9     /* the most subframes of a window: M in configuration 5 */
+#define FEEDBACK_LOSSES_MOST 9     /* the most losses that feedback_game is asked about */
 #define FEEDBACK_MEMORY 13         /* the subframes that a handset remembers: the greatest k */
 #define FEEDBACK_SCRATCH_MOST 1207 /* the most scratch that feedback_claims needs, with two
                                       ports: 9 * 134 + 1 */
@@ -313,7 +316,8 @@ extern "C" {
  * the one in fed; 0 for no refusal. Each call names the refusals it can give. Where
  * several causes are met, the first in this order is given:
  * 21, 22, 1 to 6, 17, 19, 24, 7, 8, 9, 20, 10, 11, 12, 18, 25, 26, 13, 14, 15, 16; 23 in
- * feedback_replay after 19 and before any record, in feedback_trace_write last of all.
+ * feedback_replay after 19 and before any record, in feedback_trace_write last of all; 27
+ * is given by feedback_game alone, which gives no other.
  * 26 is about what a reading credits, so it is met only where 13 and 14 are not.
  * A refused call changes nothing: no buffer is written, no state moves on, nothing is
  * made or credited. Beside a refusal every other number of the answer is 0. There are six
@@ -393,7 +397,9 @@ enum feedback_refusal {
                                            in the window; price over 1000000; account with a carry
                                            not below 1000000, or whose octets * price is not
                                            1000000 * charged + carry */
-    FEEDBACK_REFUSED_TOTAL = 26         /* the account would have more than 1000000000000 octets */
+    FEEDBACK_REFUSED_TOTAL = 26,        /* the account would have more than 1000000000000 octets */
+    FEEDBACK_REFUSED_GAME = 27          /* window size not 1 to 9, more grants than subframes, or
+                                           more than 9 losses */
 };
 
 /* The kind of a feed's answer, and of a reading (there 0, 1 or 2). */
@@ -739,6 +745,13 @@ struct feedback_write_answer {
     uint16_t kind;    /* one of enum feedback_write_kind */
     uint16_t record;  /* stopped: the number of the refused record, from 0; else 0 */
     uint16_t bytes;   /* done: the bytes that were written to the output; else 0 */
+};
+
+/* The answer of feedback_game. 4 bytes. */
+struct feedback_game_answer {
+    uint16_t refusal; /* 0 or 27 */
+    uint16_t radio;   /* 1 if the radio can force a reply that hides a loss; 0 if the scheduler can
+                         prevent it, or refused */
 };
 
 /*
@@ -1353,6 +1366,37 @@ struct feedback_write_answer feedback_trace_write(const uint8_t *trace, size_t l
                                                   size_t room);
 
 /*
+ * What losses can hide: whether a radio that loses grants can force that a handset sends a
+ * bundled reply though a grant before the last one heard was lost, in a window of a size in
+ * which the scheduler makes so many grants. Such a reply says nothing of the lost ones, and
+ * the station cannot tell that any were lost.
+ *
+ *   size       the subframes of the window, 1 to FEEDBACK_WINDOW_MOST: M
+ *   grants     the grants in it, 0 to size
+ *   losses     the most of them that are lost, 0 to FEEDBACK_LOSSES_MOST
+ *
+ * In each subframe of the window, in time order, first the scheduler grants or holds; in
+ * the end it has made exactly so many grants. Then the radio, which sees it, passes or
+ * loses the grant. A release is a grant here, a scheduled block is none. The radio can
+ * force the outcome if for every move of the scheduler, in each subframe, some answer of
+ * its own leads there; otherwise the scheduler can prevent it. The handset replies by the
+ * rule of configurations 1 to 6, whatever the size.
+ *
+ * It is proved that the radio can force it exactly if grants is at least 5 and losses at
+ * least 4 (crates/playing/specs/Decided.antt): it loses the first four grants, after which
+ * the DAI begins at 1 again, and passes the others. With fewer no play of the window ends
+ * so, whatever both do. That is what happens in the windows that are really answered too
+ * (crates/hiding/specs/Hiding.antt): no other configuration than 5 has more than four
+ * subframes in a window, and there a station that makes at most four grants in a window
+ * gets no bundled reply that hides a lost one.
+ *
+ * Refuses 27: a size that is not 1 to FEEDBACK_WINDOW_MOST, grants over size, or losses over
+ * FEEDBACK_LOSSES_MOST.
+ */
+FEEDBACK_MUST_USE
+struct feedback_game_answer feedback_game(uint16_t size, uint16_t grants, uint16_t losses);
+
+/*
  * The number of the layout of the structs above is part of a name in the library,
  * and every object that includes this header refers to that name. So an object that
  * was compiled against another layout does not link: "undefined reference to
@@ -1504,6 +1548,9 @@ FEEDBACK_PLACE(feedback_write_answer, refusal, 0)
 FEEDBACK_PLACE(feedback_write_answer, kind, 2)
 FEEDBACK_PLACE(feedback_write_answer, record, 4)
 FEEDBACK_PLACE(feedback_write_answer, bytes, 6)
+FEEDBACK_SIZE(feedback_game_answer, 4)
+FEEDBACK_PLACE(feedback_game_answer, refusal, 0)
+FEEDBACK_PLACE(feedback_game_answer, radio, 2)
 FEEDBACK_HOLDS(feedback_size_t_has_8_bytes, sizeof(size_t) == 8)
 
 #undef FEEDBACK_PLACE

@@ -83,6 +83,9 @@ static inline const char *feedback_refusal_text(unsigned refusal)
                "not 1000000 * charged + carry.";
     case FEEDBACK_REFUSED_TOTAL:
         return "Refused 26: the account would have more than 1000000000000 octets.";
+    case FEEDBACK_REFUSED_GAME:
+        return "Refused 27: the window's size is not 1 to 9, or it has more grants than subframes, "
+               "or more than 9 losses.";
     default:
         return "This number is no refusal.";
     }

@@ -26,5 +26,6 @@ void drop(struct feedback_settings settings, struct feedback_handset handset,
     feedback_replay(NULL, 0, NULL, 0);
     feedback_record(NULL, 0, 0);
     feedback_trace_write(NULL, 0, NULL, 0);
+    feedback_game(9, 5, 4);
     feedback_layout_5();
 }

@@ -12,7 +12,7 @@
 #include <stdlib.h>
 #include <string.h>
 
-#if FEEDBACK_VERSION != 50200
+#if FEEDBACK_VERSION != 50300
 #error "FEEDBACK_VERSION is for the preprocessor too"
 #endif
 
@@ -158,6 +158,7 @@ static void numbers(void)
     EQUAL(FEEDBACK_REFUSED_PORTS, 24);
     EQUAL(FEEDBACK_REFUSED_SIZE_OR_ACCOUNT, 25);
     EQUAL(FEEDBACK_REFUSED_TOTAL, 26);
+    EQUAL(FEEDBACK_REFUSED_GAME, 27);
     EQUAL(FEEDBACK_KIND_REFUSED, 0);
     EQUAL(FEEDBACK_KIND_BUNDLED, 1);
     EQUAL(FEEDBACK_KIND_MULTIPLEXED, 2);
@@ -191,6 +192,7 @@ static void numbers(void)
     EQUAL(FEEDBACK_SECOND_DECODED, 2);
     EQUAL(FEEDBACK_TWO_CARRIED, 4);
     EQUAL(FEEDBACK_WINDOW_MOST, 9);
+    EQUAL(FEEDBACK_LOSSES_MOST, 9);
     EQUAL(FEEDBACK_MEMORY, 13);
     EQUAL(FEEDBACK_SCRATCH_MOST, 1207); /* M 9, N_4 134 where N_RB is 110, and the second port */
     EQUAL(FEEDBACK_BIT_SCRATCH_MOST, 151); /* 8 * 150 and 7 */
@@ -208,7 +210,7 @@ static void numbers(void)
     EQUAL(FEEDBACK_SPELLED_FIRST, 18);
     EQUAL(FEEDBACK_SPELLED_MOST, 65534); /* 18 + 4 * 16379 */
     EQUAL(FEEDBACK_NONE, 65535);
-    EQUAL(FEEDBACK_VERSION, 50200);
+    EQUAL(FEEDBACK_VERSION, 50300);
     sprintf(version, "%d.%d.%d", FEEDBACK_VERSION / 10000, FEEDBACK_VERSION / 100 % 100,
             FEEDBACK_VERSION % 100);
     SAME(FEEDBACK_VERSION_TEXT, version);
@@ -332,6 +334,9 @@ static void layout(void)
     PLACE(feedback_write_answer, kind, 2);
     PLACE(feedback_write_answer, record, 4);
     PLACE(feedback_write_answer, bytes, 6);
+    SIZE(feedback_game_answer, 4);
+    PLACE(feedback_game_answer, refusal, 0);
+    PLACE(feedback_game_answer, radio, 2);
 }
 
 /* ---- settings ---- */
@@ -561,7 +566,8 @@ static void order(void)
                  " 21, 22, 1 to 6, 17, 19, 24, 7, 8, 9, 20, 10, 11, 12, 18, 25, 26, 13, 14, 15, 16;"
                  " 23 in\n"
                  " * feedback_replay after 19 and before any record, in feedback_trace_write last"
-                 " of all.\n"
+                 " of all; 27\n"
+                 " * is given by feedback_game alone, which gives no other.\n"
                  " * 26 is about what a reading credits, so it is met only where 13 and 14 are"
                  " not.\n") != NULL);
 }
@@ -2817,6 +2823,53 @@ static void largest(void)
     }
 }
 
+/* ---- what losses can hide ---- */
+
+static void played(int line, uint16_t size, uint16_t grants, uint16_t losses, unsigned refusal,
+                   unsigned radio)
+{
+    struct feedback_game_answer answer = CALL(feedback_game, (size, grants, losses));
+    equal(line, "refusal", answer.refusal, refusal);
+    equal(line, "radio", answer.radio, radio);
+}
+#define RADIO(size, grants, losses) played(__LINE__, size, grants, losses, 0, 1)
+#define SCHEDULER(size, grants, losses) played(__LINE__, size, grants, losses, 0, 0)
+#define NO_GAME(size, grants, losses) \
+    played(__LINE__, size, grants, losses, FEEDBACK_REFUSED_GAME, 0)
+
+static void games(void)
+{
+    uint16_t size, grants, losses;
+    /* configuration 5: after four lost grants the fifth has DAI 1, as the first has */
+    RADIO(9, 5, 4);
+    RADIO(9, 9, 4);
+    RADIO(9, 9, 9);
+    SCHEDULER(9, 4, 9);
+    SCHEDULER(9, 9, 3);
+    SCHEDULER(9, 0, 9);
+    RADIO(5, 5, 4);
+    RADIO(6, 5, 4);
+    SCHEDULER(5, 4, 4);
+    SCHEDULER(4, 4, 9);
+    SCHEDULER(1, 1, 9);
+    SCHEDULER(1, 0, 0);
+    for (size = 1; size <= FEEDBACK_WINDOW_MOST; size++)
+        for (grants = 0; grants <= size; grants++)
+            for (losses = 0; losses <= FEEDBACK_LOSSES_MOST; losses++)
+                played(__LINE__, size, grants, losses, 0, grants >= 5 && losses >= 4);
+    NO_GAME(0, 0, 0);
+    NO_GAME(10, 5, 4);
+    NO_GAME(4, 5, 4);
+    NO_GAME(9, 10, 4);
+    NO_GAME(9, 5, 10);
+    NO_GAME(65535, 5, 4);
+    NO_GAME(9, 65535, 4);
+    NO_GAME(9, 5, 65535);
+    NO_GAME(256 + 9, 5, 4);
+    NO_GAME(9, 256 + 5, 4);
+    NO_GAME(9, 5, 256 + 4);
+}
+
 /* ---- the texts ---- */
 
 /* Each number below the limit has a text of its own with its word in it; the rest share one. */
@@ -2856,7 +2909,8 @@ static void all_texts(void)
         "23: the output is too short for the windows, or for the written trace",
         "24: the antenna ports are neither 1 nor 2, or they are 2 with multiplexing",
         "25: a block's I_TBS is over 26 or its N_PRB not 1 to 110, or the price is over 1000000",
-        "26: the account would have more than 1000000000000 octets"};
+        "26: the account would have more than 1000000000000 octets",
+        "27: the window's size is not 1 to 9, or it has more grants than subframes"};
     static const char *const kinds[] = {"refused", "bundled reply", "multiplexed reply",
                                         "Silent",  "downlink",      "uplink"};
     static const char *const claims_kinds[] = {"refused", "clean", "clash"};
@@ -2865,7 +2919,7 @@ static void all_texts(void)
     static const char *const record_kinds[] = {"refused", "read", "end"};
     static const char *const write_kinds[] = {"not written: it, its settings or the output",
                                               "was written", "not written: a record"};
-    texts(feedback_refusal_text, refusals, 27);
+    texts(feedback_refusal_text, refusals, 28);
     texts(feedback_kind_text, kinds, 6);
     texts(feedback_claims_kind_text, claims_kinds, 3);
     texts(feedback_slot_kind_text, slot_kinds, 4);
@@ -2967,6 +3021,7 @@ int main(int argc, char **argv)
     writing();
     writing_refused();
     largest();
+    games();
     all_texts();
     cause_texts();
     if (failures == 0)

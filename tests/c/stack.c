@@ -138,6 +138,10 @@ LOOP(trace_write, feedback_write_answer,
                      .bytes;
      sink += call(longest, sizeof longest, output, sizeof output).bytes;)
 
+LOOP(game, feedback_game_answer, (uint16_t size, uint16_t grants, uint16_t losses),
+     EACH(s, 11) EACH(g, 11) EACH(l, 11)
+         sink += call((uint16_t)s, (uint16_t)g, (uint16_t)l).radio;)
+
 /* ---- inputs ---- */
 
 static unsigned draw(unsigned limit)
@@ -351,5 +355,6 @@ int main(int argc, char **argv)
     all &= HELD(replay, 0);
     all &= HELD(record, 0);
     all &= HELD(trace_write, 0);
+    all &= HELD(game, 0);
     return !all;
 }

@@ -13,7 +13,8 @@ fn main(rt: HostRuntime) -> io::Result<()> {
         return rt.stdout().write_all(b"refused 27\n");
     };
     for i in 0..game_text::LINES {
-        rt.stdout().write_all(game_text::game_line(size, i).as_bytes())?;
+        rt.stdout()
+            .write_all(game_text::game_line(size, i).as_bytes())?;
     }
     Ok(())
 }
