@@ -42,7 +42,7 @@ none_heard_holds (at k sent (Scheduled b) ∷ es) = (λ e. absurd (false≢true 
 none_heard_holds (at k sent (Released p) ∷ es) = (λ e. absurd (false≢true (sym e)), λ p. absurd (false≢true (sym p.0)))
 
 -- V is the DAI of the last heard PDCCH.
-last_dai_holds : (ks : List ℕ) (es : List Entry) (seen : Seen) → (fold_in ks seen es).v ≡ cond (any_of is_pdcch es) (last_dai es) seen.v
+pub last_dai_holds : (ks : List ℕ) (es : List Entry) (seen : Seen) → (fold_in ks seen es).v ≡ cond (any_of is_pdcch es) (last_dai es) seen.v
 unfolding fold_in step_of view_of
 last_dai_holds ks [] seen = refl
 last_dai_holds ks (at k sent x ∷ es) seen = last_dai_holds ks es (step_of seen (position_of k ks) (view_of x)) ∙ go x (any_of is_pdcch es)

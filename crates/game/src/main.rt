@@ -9,12 +9,9 @@ use std::io::Write;
 fn main(rt: HostRuntime) -> io::Result<()> {
     let mut input = [0u8; 3];
     let n = reading::read_full(&mut rt.stdin(), &mut input)?;
-    let Some(size) = game_text::size_in(&input[..n]) else {
-        return rt.stdout().write_all(b"refused 27\n");
-    };
     for i in 0..game_text::LINES {
         rt.stdout()
-            .write_all(game_text::game_line(size, i).as_bytes())?;
+            .write_all(game_text::text_line(&input[..n], i).as_bytes())?;
     }
     Ok(())
 }

@@ -3,11 +3,11 @@
 use Rattle.std.proofs.Common.{ℕ, zero, suc, ◌+◌, ◌*◌, ◌-◌, codes, ◌<◌, ◌≤◌, ◌≡◌, Bool, true, false, cond, List, [], ◌∷◌, ◌++◌, length, length-append, refl, arith, add-one, append_assoc, decimal}
 use Rattle.std.proofs.lemmas.Fmt as fmt
 use lib.Dec.{leb, lit≤}
-use borrow.Author.Tests.{le-leb, lt-leb}
+use borrow.Author.Tests.{ne_eqb, le-leb, lt-leb}
 use Rattle.line.proofs.Adding.{added_append, added_alone}
 use Rattle.line.specs.Line.{added}
 use Rattle.playing.specs.Game.{game_of}
-use Rattle.game_text.specs.Text.{letter, cells, row, title, unended_line, game_line}
+use Rattle.game_text.specs.Text.{refusal_line, letter, cells, row, title, unended_line, game_line}
 
 -- The letters of a row one after the other.
 pub cell_more : (line : List ℕ) (size grants losses : ℕ)
@@ -17,19 +17,25 @@ unfolding cells
 cell_more line size grants losses = rw (add-one losses) (simp (added_append, append_assoc))
 
 -- A line after the heading is a row,
-pub row_line : (size i : ℕ) → 2 ≤ i → i - 2 ≤ size → unended_line size i ≡ row size (i - 2)
+pub row_line : (size i : ℕ) → 3 ≤ i → i - 3 ≤ size → unended_line size i ≡ row size (i - 3)
 unfolding unended_line
 row_line size zero h room = absurd (omega arith)
 row_line size (suc zero) h room = absurd (omega arith)
-row_line size (suc (suc grants)) h room = let e : suc (suc grants) - 2 ≡ grants = omega arith in rw (e, le-leb grants size (rw e at room))
+row_line size (suc (suc zero)) h room = absurd (omega arith)
+row_line size (suc (suc (suc grants))) h room =
+    let e : suc (suc (suc grants)) - 3 ≡ grants = omega arith in
+    rw (e, le-leb grants size (rw e at room))
 
 -- and the one after the rows is that for configuration 5.
-pub last_line : (size i : ℕ) → 2 ≤ i → size < i - 2
-    → codes "Configuration 5, window size 9: with 4 grants or fewer, or 3 losses or fewer, no reply hides a loss" ≡ unended_line size i
+pub last_line : (size i : ℕ) → 3 ≤ i → size < i - 3
+    → codes "Configuration 5: a reply hides 4 losses or 8, and none with at most 4 grants or at most 3 losses" ≡ unended_line size i
 unfolding unended_line
 last_line size zero h past = absurd (omega arith)
 last_line size (suc zero) h past = absurd (omega arith)
-last_line size (suc (suc grants)) h past = let e : suc (suc grants) - 2 ≡ grants = omega arith in rw (lt-leb grants size (rw e at past))
+last_line size (suc (suc zero)) h past = absurd (omega arith)
+last_line size (suc (suc (suc grants))) h past =
+    let e : suc (suc (suc grants)) - 3 ≡ grants = omega arith in
+    rw (lt-leb grants size (rw e at past))
 
 -- A number of sixteen bits has at most five digits, so that each line has room.
 five_digits : (x : ℕ) → x < 65536 → length (decimal x) ≤ 5
@@ -44,21 +50,31 @@ unended_room : (size i : ℕ) → size < 65536 → i < 65536 → length (unended
 unfolding unended_line title row
 unended_room size zero s h = simp length-append (omega (arith, five_digits size s))
 unended_room size (suc zero) s h = lit≤ tt
-unended_room size (suc (suc grants)) s h = go (leb grants size)
+unended_room size (suc (suc zero)) s h = lit≤ tt
+unended_room size (suc (suc (suc grants))) s h = go (leb grants size)
   where
     go : (b : Bool)
-        → length (cond b (row size grants) (codes "Configuration 5, window size 9: with 4 grants or fewer, or 3 losses or fewer, no reply hides a loss")) ≤ 99
+        → length (cond b (row size grants) (codes "Configuration 5: a reply hides 4 losses or 8, and none with at most 4 grants or at most 3 losses")) ≤ 99
     go true = simp length-append (omega (arith, five_digits grants (omega (arith, h)), cells_length size grants 10))
     go false = lit≤ tt
 
 -- Line i, put on an empty line, its newline after it.
-pub line_ended : (size i : ℕ) → size < 65536 → i < 65536 → i ≤ size + 3 → added (added [] (unended_line size i)) (10 ∷ []) ≡ game_line size i
+pub line_ended : (size i : ℕ) → size < 65536 → i < 65536 → i ≤ size + 4 → added (added [] (unended_line size i)) (10 ∷ []) ≡ game_line size i
 unfolding game_line
 line_ended size i s h inside =
-    rw (added_append [] (unended_line size i) (10 ∷ []), le-leb i (size + 3) inside)
+    rw (added_append [] (unended_line size i) (10 ∷ []), le-leb i (size + 4) inside)
     (added_alone (unended_line size i ++ 10 ∷ []) (simp length-append (omega (arith, unended_room size i s h))))
 
 -- There is no line after them.
-pub past_last : (size i : ℕ) → size + 3 < i → game_line size i ≡ []
+pub past_last : (size i : ℕ) → size + 4 < i → game_line size i ≡ []
 unfolding game_line
-past_last size i h = rw (lt-leb i (size + 3) h)
+past_last size i h = rw (lt-leb i (size + 4) h)
+
+-- The refusal, put on an empty line.
+pub refused_line : (i : ℕ) → i ≡ 0 → added [] (codes "refused 27\n") ≡ refusal_line i
+unfolding refusal_line
+refused_line i e = rw e (added_alone (codes "refused 27\n") (lit≤ tt))
+
+pub past_refusal : (i : ℕ) → (i ≡ 0 → ⊥) → refusal_line i ≡ []
+unfolding refusal_line
+past_refusal i h = rw (ne_eqb i 0 h)

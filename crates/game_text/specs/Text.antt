@@ -11,14 +11,14 @@ size_in input =
     (Some (get_or input 0 0 - 48))
     None
 
--- The letter of an answer: R (82) the radio can force the outcome, S (83) the scheduler can, a hyphen (45) the game is refused, as none of
--- a row is.
+-- The letter of an answer: R (82) the radio can force the outcome, S (83) the scheduler can prevent it, a hyphen (45) the game is refused,
+-- as none of a row for a size 1 to 9 is.
 abbrev pub letter : Result Bool ℕ → ℕ
 letter (Ok true) = 82
 letter (Ok false) = 83
 letter (Err k) = 45
 
--- The letters for so many grants and at most 0, 1, .. losses, the first `count` of them, a space (32) before each.
+-- The letters for so many grants and at most 0, 1, .. losses, the first `losses` of them, a space (32) before each.
 unfoldable pub cells : ℕ → ℕ → ℕ → List ℕ
 cells size grants zero = []
 cells size grants (suc losses) = cells size grants losses ++ 32 ∷ letter (game_of size grants losses) ∷ []
@@ -31,15 +31,28 @@ title size =
     (codes "Window size " ++ decimal size)
     ++ codes ": R the radio can force a reply that hides a loss, S the scheduler can prevent it"
 
--- Line i of the text, without its newline: the title, the columns' heading, the rows of 0 to `size` grants, and the line for configuration 5
--- (which hiding/specs/Hiding.antt states of its runs).
+-- Line i of the text, without its newline: the title, what it is to hide a loss, the columns' heading, the rows of 0 to `size` grants, and
+-- the line for configuration 5, which is LossesHidden.which and .few (hiding/specs/Hiding.antt) for its windows (.five).
 unfoldable pub unended_line : ℕ → ℕ → List ℕ
 unended_line size zero = title size
-unended_line size (suc zero) = codes "L   0 1 2 3 4 5 6 7 8 9"
-unended_line size (suc (suc grants)) =
+unended_line size (suc zero) = codes "A reply hides a loss if a grant before the last one heard was lost; a release is a grant here"
+unended_line size (suc (suc zero)) = codes "L   0 1 2 3 4 5 6 7 8 9"
+unended_line size (suc (suc (suc grants))) =
     cond (leb grants size) (row size grants)
-    (codes "Configuration 5, window size 9: with 4 grants or fewer, or 3 losses or fewer, no reply hides a loss")
+    (codes "Configuration 5: a reply hides 4 losses or 8, and none with at most 4 grants or at most 3 losses")
 
 -- Line i of the text for a size, from 0, with its newline (10); nothing past the line for configuration 5.
 unfoldable pub game_line : ℕ → ℕ → List ℕ
-game_line size i = cond (leb i (size + 3)) (unended_line size i ++ 10 ∷ []) []
+game_line size i = cond (leb i (size + 4)) (unended_line size i ++ 10 ∷ []) []
+
+-- Line i of the refusal, which is its only line.
+unfoldable pub refusal_line : ℕ → List ℕ
+refusal_line i = cond (eqb i 0) (codes "refused 27\n") []
+
+-- Line i of the text for an input: that of the size that it names, or of the refusal.
+abbrev pub line_for : Option ℕ → ℕ → List ℕ
+line_for (Some size) i = game_line size i
+line_for None i = refusal_line i
+
+abbrev pub text_line : List ℕ → ℕ → List ℕ
+text_line input i = line_for (size_in input) i

@@ -5,17 +5,17 @@
 ghost use Rattle.std.specs.Prelude.{◌≡◌};
 ghost use Rattle.frame.specs.Refusals.{numbered};
 ghost use Rattle.line.specs.Line.{added};
-ghost use Rattle.game_text.specs.Text.{size_in, letter, cells, row, title, unended_line, game_line};
+ghost use Rattle.game_text.specs.Text.{size_in, letter, cells, row, title, unended_line, game_line, refusal_line, text_line};
 
 use frame::Refusal;
 use line::Line;
 
 // How many lines the longest text has, that of size 9.
-pub const LINES: u16 = 13;
+pub const LINES: u16 = 14;
 
 // The size that an input names: it is one digit 1 to 9 and a newline, nothing more.
 #[tactic(auto, using(crate::proofs::Inputs::named, crate::proofs::Inputs::unnamed))]
-pub fn size_in(input: &[u8]) -> Option<u16>
+fn size_in(input: &[u8]) -> Option<u16>
     ensures { result ≡ size_in input.now }
 {
     match input {
@@ -24,7 +24,7 @@ pub fn size_in(input: &[u8]) -> Option<u16>
     }
 }
 
-// The letter of an answer: R the radio can force the outcome, S the scheduler can. A row has no other.
+// The letter of an answer: R the radio can force the outcome, S the scheduler can prevent it. A row for a size 1 to 9 has no other.
 fn letter(answer: Result<bool, Refusal>) -> u8
     ensures { result ≡ letter (numbered answer) }
 {
@@ -72,10 +72,13 @@ fn push_unended(line: &mut Line, size: u16, i: u16)
 {
     match i {
         0 => push_title(line, size),
-        1 => line.push_str("L   0 1 2 3 4 5 6 7 8 9"),
-        _ if i - 2 <= size => push_row(line, size, i - 2),
+        1 => line.push_str(
+            "A reply hides a loss if a grant before the last one heard was lost; a release is a grant here",
+        ),
+        2 => line.push_str("L   0 1 2 3 4 5 6 7 8 9"),
+        _ if i - 3 <= size => push_row(line, size, i - 3),
         _ => line.push_str(
-            "Configuration 5, window size 9: with 4 grants or fewer, or 3 losses or fewer, no reply hides a loss",
+            "Configuration 5: a reply hides 4 losses or 8, and none with at most 4 grants or at most 3 losses",
         ),
     }
 }
@@ -83,13 +86,35 @@ fn push_unended(line: &mut Line, size: u16, i: u16)
 // Line i of the text for a size, from 0, its newline included; no text past the last line. `printing::table_line` has the same body and
 // says why.
 #[tactic(auto, using(crate::proofs::Lines::line_ended, crate::proofs::Lines::past_last))]
-pub fn game_line(size: u16, i: u16) -> Line
+fn game_line(size: u16, i: u16) -> Line
     ensures { result ≡ game_line size i }
 {
     let mut line = Line::new();
-    if i <= size.saturating_add(3) {
+    if i <= size.saturating_add(4) {
         push_unended(&mut line, size, i);
         line.push(b'\n');
     }
     line
+}
+
+// Line i of the refusal, which is its only line.
+#[tactic(auto, using(crate::proofs::Lines::past_refusal))]
+fn refusal_line(i: u16) -> Line
+    ensures { result ≡ refusal_line i }
+{
+    let mut line = Line::new();
+    if i == 0 {
+        line.push_str("refused 27\n");
+    }
+    line
+}
+
+// Line i of the text for an input, from 0: that of the size that it names, or of the refusal.
+pub fn text_line(input: &[u8], i: u16) -> Line
+    ensures { result ≡ text_line input.now i }
+{
+    match size_in(input) {
+        Some(size) => game_line(size, i),
+        None => refusal_line(i),
+    }
 }

@@ -5,7 +5,7 @@ use Prim.Native.Nat.{ℕ, ◌+◌, ◌%◌, ◌<◌, ◌≤◌}
 use mathlib.Core.Bool.{Bool, true, false, cond, not, ◌||◌, false≢true}
 use mathlib.Core.List.{List, [], ◌∷◌}
 use mathlib.Core.Logic.{◌⊎◌, inl, inr, ◌↔◌}
-use mathlib.Core.Path.{◌≡◌, refl, sym, ◌∙◌}
+use mathlib.Core.Path.{◌≡◌, refl, sym, ap, ◌∙◌}
 use native.Mathlib.Decide.{ℕ_discrete, dec_le}
 use native.Mathlib.Omega.{arith}
 use lib.Dec.{T, eqb}
@@ -26,15 +26,17 @@ use Rattle.heard.specs.Heard.{is_block}
 use Rattle.agreement.specs.Demand3.{Engine, fed_at, IsSubframe, Demand3}
 use Rattle.agreement.specs.Run.{Item, sent_of, heard_in_run, sent_ago, heard_ago, window_at, window_mode, settings_in, Schedule, Brings, BringsSent}
 use Rattle.agreement.specs.Window.{Entry, at, is_pdcch, any_of, is_lost, lost_before, heard_pdcchs}
-use Rattle.agreement.proofs.Counted.{entries_few}
+use Rattle.fold.specs.Fold.{unseen}
+use Rattle.agreement.proofs.Counted.{seen_in, v_numbered, entries_few}
 use Rattle.agreement.proofs.Entries.{all_of, brought, entries_length}
 use Rattle.agreement.proofs.Feeds.{ago_brings}
 use Rattle.agreement.proofs.Folded.{Brought, none_counted, some_counted, none_lost}
 use Rattle.agreement.proofs.Modes.{window_good}
-use Rattle.diagnosis.specs.Diagnosis.{entries_at}
+use Rattle.diagnosis.specs.Diagnosis.{entries_at, last_dai}
+use Rattle.diagnosis.proofs.True.{last_dai_holds}
 use Rattle.std.proofs.lemmas.Bool.{and_parts}
-use Rattle.playing.specs.Game.{Turn, held, passed, lost, grants_in, losses_in, replied, hidden, won}
-use Rattle.playing.proofs.Plays.{heard_in, is_passed, lost_before as lost_in_play, grants_most, hidden_is, replied_is, won_needs}
+use Rattle.playing.specs.Game.{Turn, held, passed, lost, grants_in, losses_in, seen_after, replied, hidden, won}
+use Rattle.playing.proofs.Plays.{u_is, v_is, heard_in, is_passed, lost_before as lost_in_play, grants_most, hidden_is, replied_is, won_needs}
 use Rattle.hiding.specs.Hiding.{turn_of, play_after, play_at, IsBundled, IsSent, Hides}
 
 -- What the turn of a subframe is, what was heard and whether a PDCCH was lost are one choice of three.
@@ -139,6 +141,21 @@ module _ (e : Engine) (demand : Demand3 e) (set : Settings) (good : settings_ref
     size_is =
         omega (arith, turns es [], entries_length (sent_ago sent s) (heard_ago (heard_in_run set items) s) (times_of (window_at set s)), (in_time_order set.config (s % 10)).size)
 
+    -- U and V of the play are the window's
+    values_are : ((seen_after play).u ≡ heard_pdcchs es) × (any_of is_pdcch es ≡ true → (seen_after play).v ≡ last_dai es)
+    values_are = (u_is play ∙ heard_is, v_there)
+      where
+        v_there : any_of is_pdcch es ≡ true → (seen_after play).v ≡ last_dai es
+        v_there some =
+            let least : 1 ≤ heard_pdcchs es = some_counted es some in
+            let ours = v_is play (omega (arith, heard_is, least)) in
+            let theirs =
+            v_numbered set.config (s % 10) (sent_ago sent s) (heard_ago (heard_in_run set items) s) (schedule.rule s)
+            (λ k l m. ago_brings sent (heard_in_run set items) brings s k) some in
+            let last : (seen_in set.config (s % 10) (sent_ago sent s) (heard_ago (heard_in_run set items) s)).v ≡ last_dai es =
+            last_dai_holds (window_at set s) es unseen ∙ ap (λ (b : Bool). cond b (last_dai es) 0) some in
+            omega (arith, ours, theirs, last, heard_is, lost_is)
+
     few_lost : lost_before es ≤ 8
     few_lost = go (any_of is_pdcch es) refl
       where
@@ -207,6 +224,17 @@ module _ (e : Engine) (demand : Demand3 e) (set : Settings) (good : settings_ref
           rw (replied_holds.1 (p.0, before_some s p.1), (hidden_is (play_at set sent items s)).1 (omega (arith, lost_is s, p.1))),
     )
 
+    which_holds : IsReplied → 1 ≤ lost_before window → (lost_before window ≡ 4) ⊎ (lost_before window ≡ 8)
+    which_holds r some = go (due.0 r)
+      where
+        go : ((any_of is_pdcch window ≡ true) × ((lost_before window ≡ 0) ⊎ (lost_before window ≡ 4) ⊎ (lost_before window ≡ 8)))
+            ⊎ ((any_of is_pdcch window ≡ false) × (any_of is_block window ≡ true))
+            → (lost_before window ≡ 4) ⊎ (lost_before window ≡ 8)
+        go (inl (a, inl z)) = absurd (omega (arith, some, z))
+        go (inl (a, inr (inl z))) = inl z
+        go (inl (a, inr (inr z))) = inr z
+        go (inr (a, b)) = absurd (false≢true (sym a ∙ before_some s some))
+
     -- what is hidden needs five grants and four losses
     few_holds : IsReplied → (grants_in (play_at set sent items s) ≤ 4) ⊎ (losses_in (play_at set sent items s) ≤ 3) → lost_before window ≡ 0
     few_holds r few = go (dec_le 1 (lost_before window)) few
@@ -236,8 +264,10 @@ pub hides : (e : Engine) → Demand3 e → Hides e
 hides e demand set good sent schedule items brings =
     record {
       size = size_is e demand set good sent schedule items brings;
+      values = values_are e demand set good sent schedule items brings;
       replied = replied_holds e demand set good sent schedule items brings;
       won = won_holds e demand set good sent schedule items brings;
+      which = which_holds e demand set good sent schedule items brings;
       few = few_holds e demand set good sent schedule items brings;
       five = five_holds e demand set good sent schedule items brings;
       others = λ other i s x at-s is_bundled. other_holds e demand set good sent schedule items brings i s x at-s is_bundled other;

@@ -1,3 +1,3 @@
 pub mod Hiding
-mod WorkedHiding
+pub mod WorkedHiding
 mod WrongHiding

@@ -45,7 +45,7 @@ grants_most (held ∷ play) = omega (arith, grants_most play)
 grants_most (passed ∷ play) = omega (arith, grants_most play)
 grants_most (lost ∷ play) = omega (arith, grants_most play)
 
-u_is : (play : List Turn) → (seen_after play).u ≡ heard_in play
+pub u_is : (play : List Turn) → (seen_after play).u ≡ heard_in play
 unfolding heard_in is_passed step_of
 u_is [] = refl
 u_is (held ∷ play) = u_is play
@@ -53,7 +53,7 @@ u_is (passed ∷ play) = omega (arith, u_is play)
 u_is (lost ∷ play) = u_is play
 
 -- V is the DAI of the last heard grant, which counts those before it, heard or lost.
-v_is : (play : List Turn) → 1 ≤ heard_in play → (seen_after play).v ≡ (heard_in play + lost_before play - 1) % 4 + 1
+pub v_is : (play : List Turn) → 1 ≤ heard_in play → (seen_after play).v ≡ (heard_in play + lost_before play - 1) % 4 + 1
 unfolding heard_in is_passed lost_before step_of
 v_is [] h = absurd (omega arith)
 v_is (held ∷ play) h = v_is play h

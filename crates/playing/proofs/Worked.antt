@@ -1,16 +1,12 @@
 -- Plays and games on numbers, by the definitions alone.
 -- Assumes nothing.
 use mathlib.Core.Bool.{true, false}
-use mathlib.Core.List.{List, [], ◌∷◌}
+use mathlib.Core.List.{[], ◌∷◌}
 use mathlib.Core.Path.{◌≡◌, refl}
 use Rattle.fold.specs.Fold.{expected, step_of}
-use Rattle.playing.specs.Game.{Turn, passed, lost, won, radio_forces}
+use Rattle.playing.specs.Game.{passed, lost, won, radio_forces}
 
--- Of a play the newest turn comes first.
-four_lost : List Turn
-four_lost = lost ∷ lost ∷ lost ∷ lost ∷ []
-
--- Four lost, then one heard: its DAI is 1, as if it were the first.
+-- Of a play the newest turn comes first. Four lost, then one heard: its DAI is 1, as if it were the first.
 five_grants : won (passed ∷ lost ∷ lost ∷ lost ∷ lost ∷ []) ≡ true
 unfolding expected step_of
 five_grants = refl

@@ -5,7 +5,7 @@
 --                three losses are enough                   not_three_losses
 --   scheduler    the radio always can                      not_always
 --                it can in no window of nine               not_short_windows
---   no_play      the radio never can, though it may        not_without_plays
+--   no_play      the radio never can, where some play is won   not_without_plays
 -- Assumes nothing.
 use Prim.Native.Nat.{ℕ, ◌≤◌}
 use mathlib.Core.Bool.{Bool, true, false, ◌&&◌, false≢true}

@@ -1,5 +1,5 @@
--- What the answer of the game means, and when it is which: document 02, U12. The statements are about whoever is said to force the
--- outcome, so that other games can be refuted (proofs/WrongGames.antt); proofs/Decided.antt proves them of radio_forces.
+-- What the answer of the game means, and when the radio wins: document 02, U12. The statement is about any answer, `forces`, so that wrong
+-- ones can be refuted (proofs/WrongGames.antt); proofs/Decided.antt proves it of radio_forces.
 -- Assumes nothing.
 use Rattle.std.specs.Prelude.{ℕ, ◌≤◌, Bool, true, false, cond, ◌&&◌, List, [], ◌∷◌, ◌↔◌, ◌≡◌, leb, length}
 use Rattle.playing.specs.Game.{Turn, held, passed, lost, grants_in, losses_in, won}

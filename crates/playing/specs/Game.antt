@@ -44,12 +44,13 @@ view_after earlier held = Unheard
 view_after earlier passed = Pdcch (record { cce = record { 0 = 0 }; dai = grants_in earlier % 4 + 1; first = true; second = true })
 view_after earlier lost = Unheard
 
--- U and V after a play.
+-- U and V after a play. (The position that the fold keeps beside them, which here is the place in time, is no part of the game either.)
 abbrev pub seen_after : List Turn → Seen
 seen_after [] = unseen
 seen_after (turn ∷ earlier) = step_of (seen_after earlier) (length earlier) (view_after earlier turn)
 
--- "a bundled reply is sent": a grant was heard, and V is the value expected. "The rule is that of configurations 1 to 6 for every size."
+-- "a bundled reply is sent": a grant was heard, and V is the value expected. For every size this is the rule of configurations 1 to 6,
+-- which read the DAI.
 abbrev pub replied : List Turn → Bool
 replied play = not (eqb (seen_after play).u 0) && eqb (seen_after play).v (expected (seen_after play).u)
 

@@ -1,5 +1,5 @@
-// A scheduler against the radio: whether losses can hide themselves in a window of a size, for a number of grants and a most of losses
-// (document 02, U12). specs/Game.antt has the game, played out; specs/Decided.antt says what the answer means and why it is so short.
+// A scheduler against the radio: whether losses can hide in a window, by its size, the grants in it and the most that are lost (document
+// 02, U12). specs/Game.antt has the game over all its plays, specs/Decided.antt what the answer means and when the radio wins.
 #![tactic(auto)]
 
 ghost use Rattle.std.specs.Prelude.{◌≡◌};
@@ -20,8 +20,8 @@ fn check(size: u16, grants: u16, losses: u16) -> Result<(), Refusal>
 }
 
 // True if the radio can force that a bundled reply is sent though a grant before the last heard was lost; false if the scheduler can
-// prevent it. The plays of nine subframes are not gone through: that V is the value expected takes four losses before a grant that is
-// heard, and four losses are enough.
+// prevent it. No play is gone through: for such a reply four grants or eight must be lost before the last heard one, and with five grants
+// it is enough to lose the first four.
 #[tactic(auto, using(crate::proofs::Tree::many_granted, crate::proofs::Tree::few_granted, frame::proofs::Refused::value_refused), unfolding(crate::specs::Game::game_of))]
 pub fn radio_wins(size: u16, grants: u16, losses: u16) -> Result<bool, Refusal>
     ensures { numbered result ≡ game_of size grants losses }
