@@ -6,16 +6,17 @@ use crate::guarded::{Flush, Guarded, BOTH};
 use crate::model::Model;
 use crate::plain::{
     plain_answered, plain_change_mode, plain_confirmed, plain_credit, plain_feed_grant,
-    plain_feed_nothing, plain_feed_release, plain_feed_scheduled, plain_inverse, plain_make,
-    plain_open_account, plain_reading, plain_record, plain_replay, plain_resource, plain_silence,
-    plain_trace_write, plain_window,
+    plain_feed_nothing, plain_feed_release, plain_feed_scheduled, plain_game, plain_inverse,
+    plain_make, plain_open_account, plain_reading, plain_record, plain_replay, plain_resource,
+    plain_silence, plain_trace_write, plain_window,
 };
 use crate::random::Random;
 use crate::{
-    answered, change_mode, confirmed, credit, feed, feed_nothing, inverse, make, open_account,
-    reading, record, replay, resource, silence, trace_write, window, Account, Block, Changed,
-    ClaimsAnswer, ConfirmedAnswer, CreditAnswer, Exchange, Fed, Grant, Handset, Heard, Opened,
-    ReadingAnswer, RecordAnswer, Release, ReplayAnswer, Settings, SilenceAnswer, WriteAnswer,
+    answered, change_mode, confirmed, credit, feed, feed_nothing, game, inverse, make,
+    open_account, reading, record, replay, resource, silence, trace_write, window, Account, Block,
+    Changed, ClaimsAnswer, ConfirmedAnswer, CreditAnswer, Exchange, Fed, GameAnswer, Grant,
+    Handset, Heard, Opened, ReadingAnswer, RecordAnswer, Release, ReplayAnswer, Settings,
+    SilenceAnswer, WriteAnswer,
 };
 use std::fmt;
 use std::hint::black_box;
@@ -37,7 +38,7 @@ pub const BANDWIDTHS: u64 = 105;
 pub const CCES: u64 = 7397;
 
 /// The highest refusal number.
-const LAST_REFUSAL: usize = 26;
+const LAST_REFUSAL: usize = 27;
 
 /// The highest kind of an answer.
 const LAST_KIND: usize = 5;
@@ -317,6 +318,19 @@ impl<'a> Comparison<'a> {
         assert!(
             given == due && plain == due,
             "feedback_credit({exchange:?}, {account:?}): the engine gives {given:?}, the model \
+             {due:?}, the plain implementation {plain:?}"
+        );
+        self.counts[usize::from(due.refusal)] += 1;
+        given
+    }
+
+    pub fn game(&mut self, size: u16, grants: u16, losses: u16) -> GameAnswer {
+        let due = self.model.game(size, grants, losses);
+        let given = game(size, grants, losses);
+        let plain = plain_game(size, grants, losses);
+        assert!(
+            given == due && plain == due,
+            "feedback_game({size}, {grants}, {losses}): the engine gives {given:?}, the model \
              {due:?}, the plain implementation {plain:?}"
         );
         self.counts[usize::from(due.refusal)] += 1;

@@ -27,17 +27,18 @@ pub mod vectors;
 
 pub use types::{
     Account, AnsweredAnswer, Block, Changed, ClaimsAnswer, ConfirmedAnswer, CreditAnswer, Exchange,
-    Fed, Grant, Handset, Heard, InverseAnswer, Made, Opened, ReadingAnswer, RecordAnswer, Release,
-    ReplayAnswer, ResourceAnswer, Sent, SentWindow, Settings, SilenceAnswer, Sizes, Slot, Step,
-    WindowAnswer, WriteAnswer, NONE, NOT_TOLD,
+    Fed, GameAnswer, Grant, Handset, Heard, InverseAnswer, Made, Opened, ReadingAnswer,
+    RecordAnswer, Release, ReplayAnswer, ResourceAnswer, Sent, SentWindow, Settings, SilenceAnswer,
+    Sizes, Slot, Step, WindowAnswer, WriteAnswer, NONE, NOT_TOLD,
 };
 
 /// The engine's calls under their C names.
 pub mod c {
     use super::{
         Account, AnsweredAnswer, Changed, ClaimsAnswer, ConfirmedAnswer, CreditAnswer, Fed,
-        Handset, InverseAnswer, Made, Opened, ReadingAnswer, RecordAnswer, ReplayAnswer,
-        ResourceAnswer, SentWindow, Settings, SilenceAnswer, WindowAnswer, WriteAnswer,
+        GameAnswer, Handset, InverseAnswer, Made, Opened, ReadingAnswer, RecordAnswer,
+        ReplayAnswer, ResourceAnswer, SentWindow, Settings, SilenceAnswer, WindowAnswer,
+        WriteAnswer,
     };
 
     extern "C" {
@@ -145,6 +146,8 @@ pub mod c {
             b1: u16,
             account: Account,
         ) -> CreditAnswer;
+
+        pub fn feedback_game(size: u16, grants: u16, losses: u16) -> GameAnswer;
     }
 }
 
@@ -311,4 +314,11 @@ pub fn credit(exchange: Exchange, account: Account) -> CreditAnswer {
     let Exchange { settings, n, sent, resource, b0, b1 } = exchange;
     // SAFETY: the call takes numbers and gives numbers, and is lent no memory.
     unsafe { c::feedback_credit(settings, n, sent, resource, b0, b1, account) }
+}
+
+/// The engine's answer about the game of a scheduler and the radio in a window of `size`
+/// subframes, with so many grants and at most so many losses.
+pub fn game(size: u16, grants: u16, losses: u16) -> GameAnswer {
+    // SAFETY: the call takes numbers and gives numbers, and is lent no memory.
+    unsafe { c::feedback_game(size, grants, losses) }
 }

@@ -1,10 +1,12 @@
 //! The calls as one would write them in plain Rust with speed in mind: table
 //! lookup, the formula, a loop over the regions, a closed form for the inverse,
 //! one pass over a window, a match for the symbols, a replay that looks back into the
-//! trace, records that are spelled by a mask, positions of a window as sets of bits. The
-//! benchmark measures the engine against these, and the fuzzing compares with them.
+//! trace, records that are spelled by a mask, positions of a window as sets of bits, a closed
+//! form for the game. The benchmark measures the engine against these, and the fuzzing compares
+//! with them.
 
 mod charging;
+mod game;
 mod handset;
 mod replay;
 mod spelling;
@@ -12,6 +14,7 @@ mod station;
 mod window;
 
 pub use charging::{plain_add, plain_confirmed, plain_credit, plain_open_account};
+pub use game::plain_game;
 pub use handset::{
     plain_change_mode, plain_feed_grant, plain_feed_nothing, plain_feed_release,
     plain_feed_scheduled, plain_make, plain_silence,

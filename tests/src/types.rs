@@ -223,6 +223,16 @@ pub struct SilenceAnswer {
     pub expected: u16,
 }
 
+/// The answer about the game of a scheduler and the radio: a refusal, or 0 and 1 if the radio
+/// can force a reply that hides a loss, 0 if the scheduler can prevent it. Beside a refusal
+/// `radio` is 0.
+#[repr(C)]
+#[derive(Clone, Copy, Debug, PartialEq, Eq)]
+pub struct GameAnswer {
+    pub refusal: u16,
+    pub radio: u16,
+}
+
 /// The answer of a replay: refused before any record (kind 0), done (1), or stopped at
 /// the record whose feed is refused (2), with that record's number; and how many
 /// windows were written.
@@ -710,5 +720,16 @@ impl SilenceAnswer {
     /// Cause, V and the value expected.
     pub fn told(&self) -> [u16; 3] {
         [self.cause, self.v, self.expected]
+    }
+}
+
+impl GameAnswer {
+    pub const fn refused(refusal: u16) -> Self {
+        Self { refusal, radio: 0 }
+    }
+
+    /// Whether the radio can force it.
+    pub fn of(radio_forces: bool) -> Self {
+        Self { refusal: 0, radio: radio_forces.into() }
     }
 }
