@@ -13,6 +13,7 @@ mod credit_refusals;
 mod drive;
 mod feed;
 mod fuzz;
+mod game;
 mod guarded;
 mod inverse;
 mod layout;

@@ -14,7 +14,7 @@ use feedback_tests::form::Form;
 use feedback_tests::guarded::BOTH;
 use feedback_tests::model::{edge, is_short, is_uplink, Model, NRB};
 use feedback_tests::plain::{
-    plain_answered, plain_change_mode, plain_inverse, plain_make, plain_open_account,
+    plain_answered, plain_change_mode, plain_game, plain_inverse, plain_make, plain_open_account,
     plain_reading, plain_resource, plain_silence, plain_window,
 };
 use feedback_tests::random::Random;
@@ -22,9 +22,9 @@ use feedback_tests::trace::{
     number_at, record_of, spelled_length, Trace, RECORDS_AT, SETTINGS_AT, WINDOW,
 };
 use feedback_tests::{
-    answered, change_mode, confirmed, credit, feed, inverse, make, open_account, reading, resource,
-    silence, window, Account, Changed, Fed, Handset, Heard, Settings, SilenceAnswer, Slot,
-    WriteAnswer, NOT_TOLD,
+    answered, change_mode, confirmed, credit, feed, game, inverse, make, open_account, reading,
+    resource, silence, window, Account, Changed, Fed, Handset, Heard, Settings, SilenceAnswer,
+    Slot, WriteAnswer, NOT_TOLD,
 };
 use std::env;
 
@@ -46,6 +46,7 @@ const WRITE_CALLS: u64 = 512_000;
 const CONFIRMED_CALLS: u64 = 1_024_000;
 const CREDIT_CALLS: u64 = 1_024_000;
 const OPEN_CALLS: u64 = 256_000;
+const GAME_CALLS: u64 = 256_000;
 
 const _: () = assert!(
     WINDOW_CALLS
@@ -66,6 +67,7 @@ const _: () = assert!(
         + CONFIRMED_CALLS
         + CREDIT_CALLS
         + OPEN_CALLS
+        + GAME_CALLS
         >= 10_000_000
 );
 
@@ -861,4 +863,33 @@ fn new_accounts() {
     });
     assert_eq!(calls, OPEN_CALLS * times());
     comparison.finish_with(calls / SAMPLE, &[0, 25], &[]);
+}
+
+/// Any three numbers, mostly small.
+#[test]
+fn games() {
+    let model = Model::new();
+    let mut comparison = Comparison::with(&model);
+    let mut of_the_radio = 0;
+    let calls = fuzz(19, GAME_CALLS, |random, ask_model| {
+        let [size, grants, losses] = [0; 3].map(|_| match random.below(6) {
+            0 => random.any(),
+            _ => random.below16(11),
+        });
+        let (given, plain) = (game(size, grants, losses), plain_game(size, grants, losses));
+        assert!(
+            given == plain,
+            "feedback_game({size}, {grants}, {losses}): the engine gives {given:?}, the plain \
+             implementation {plain:?}"
+        );
+        of_the_radio += u64::from(given.radio);
+        if ask_model {
+            comparison.game(size, grants, losses);
+        }
+        1
+    });
+    assert_eq!(calls, GAME_CALLS * times());
+    comparison.finish_with(calls / SAMPLE, &[0, 27], &[]);
+    println!("{of_the_radio} games of the radio");
+    assert!(of_the_radio > 5_000);
 }

@@ -3,12 +3,12 @@
 use feedback_tests::form::Form;
 use feedback_tests::trace::Trace;
 use feedback_tests::{
-    answered, change_mode, claims, claims_bits, confirmed, credit, feed, inverse, layout_5, make,
-    open_account, reading, record, replay, resource, silence, trace_write, window, Account,
+    answered, change_mode, claims, claims_bits, confirmed, credit, feed, game, inverse, layout_5,
+    make, open_account, reading, record, replay, resource, silence, trace_write, window, Account,
     AnsweredAnswer, Block, Changed, ClaimsAnswer, ConfirmedAnswer, CreditAnswer, Exchange, Fed,
-    Grant, Handset, Heard, InverseAnswer, Made, Opened, ReadingAnswer, RecordAnswer, Release,
-    ReplayAnswer, ResourceAnswer, Sent, SentWindow, Settings, SilenceAnswer, Slot, WindowAnswer,
-    WriteAnswer, NOT_TOLD,
+    GameAnswer, Grant, Handset, Heard, InverseAnswer, Made, Opened, ReadingAnswer, RecordAnswer,
+    Release, ReplayAnswer, ResourceAnswer, Sent, SentWindow, Settings, SilenceAnswer, Slot,
+    WindowAnswer, WriteAnswer, NOT_TOLD,
 };
 use std::mem::{align_of, offset_of, size_of};
 
@@ -131,6 +131,13 @@ fn a_silence_answer_is_that_of_a_feed_and_three_16_bit_numbers() {
     assert_eq!(offset_of!(SilenceAnswer, cause), 86);
     assert_eq!(offset_of!(SilenceAnswer, v), 88);
     assert_eq!(offset_of!(SilenceAnswer, expected), 90);
+}
+
+#[test]
+fn a_game_answer_is_two_16_bit_numbers() {
+    assert_eq!((size_of::<GameAnswer>(), align_of::<GameAnswer>()), (4, 2));
+    assert_eq!(offset_of!(GameAnswer, refusal), 0);
+    assert_eq!(offset_of!(GameAnswer, radio), 2);
 }
 
 #[test]
@@ -428,6 +435,20 @@ fn every_field_of_a_silence_comes_back() {
     let nothing = Handset { past: [Slot::NOTHING; 13], ..handset };
     let given = silence(nothing);
     assert_eq!((given.cause, given.v, given.expected), (1, 0, 0));
+}
+
+/// Of a game both numbers come back, and each of the three that are given arrives in its place:
+/// the same in other places are refused or answered otherwise. All 16 bits arrive.
+#[test]
+fn every_number_of_a_game_arrives() {
+    let given = [game(9, 5, 4), game(9, 4, 5), game(5, 4, 9), game(4, 5, 9), game(5, 9, 4)];
+    let due = [(0, 1), (0, 0), (0, 0), (27, 0), (27, 0)];
+    assert_eq!(given.map(|answer| (answer.refusal, answer.radio)), due);
+    for bit in 4..16 {
+        let more = 1 << bit;
+        let given = [game(9 + more, 5, 4), game(9, 5 + more, 4), game(9, 5, 4 + more)];
+        assert_eq!(given, [GameAnswer { refusal: 27, radio: 0 }; 3], "bit {bit}");
+    }
 }
 
 /// Of a mode change the refusal and the handset come back, and all 16 bits of the new mode

@@ -1,15 +1,15 @@
-//! Every refusal number, 1 to 26, from every call that can give it. What is due
+//! Every refusal number, 1 to 27, from every call that can give it. What is due
 //! is written out by hand; the model has no part here.
 
 use feedback_tests::form::FORMS;
 use feedback_tests::trace::{put_number, Trace, LENGTH_AT, SETTINGS_AT};
 use feedback_tests::{
     answered, change_mode, confirmed, credit, feed_grant, feed_nothing, feed_release,
-    feed_scheduled, inverse, make, open_account, reading, record, replay, resource, silence,
+    feed_scheduled, game, inverse, make, open_account, reading, record, replay, resource, silence,
     trace_write, window, Account, AnsweredAnswer, Block, Changed, ClaimsAnswer, ConfirmedAnswer,
-    CreditAnswer, Exchange, Fed, Grant, Handset, InverseAnswer, Made, Opened, ReadingAnswer,
-    RecordAnswer, Release, ReplayAnswer, ResourceAnswer, Sent, SentWindow, Settings, SilenceAnswer,
-    Slot, WindowAnswer, WriteAnswer, NONE, NOT_TOLD,
+    CreditAnswer, Exchange, Fed, GameAnswer, Grant, Handset, InverseAnswer, Made, Opened,
+    ReadingAnswer, RecordAnswer, Release, ReplayAnswer, ResourceAnswer, Sent, SentWindow, Settings,
+    SilenceAnswer, Slot, WindowAnswer, WriteAnswer, NONE, NOT_TOLD,
 };
 use std::fmt::Debug;
 
@@ -82,7 +82,7 @@ const REFUSED: [(u16, Settings); 28] = [
 ];
 
 /// Counts the refusals that came as they were due.
-struct Count([u64; 27]);
+struct Count([u64; 28]);
 
 impl Count {
     fn due<T: Debug + PartialEq>(&mut self, number: u16, given: T, due: T) {
@@ -207,6 +207,11 @@ impl Count {
         self.due(number, record(trace, next), RecordAnswer::refused(number));
     }
 
+    /// Beside a refusal nothing is said of the radio.
+    fn game(&mut self, number: u16, size: u16, grants: u16, losses: u16) {
+        self.due(number, game(size, grants, losses), GameAnswer::refused(number));
+    }
+
     /// The handset is left as it was, whatever it is fed, and keeps its mode. A refusal has no
     /// cause.
     fn bad_state(&mut self, handset: Handset) {
@@ -225,7 +230,7 @@ impl Count {
 
 #[test]
 fn every_number_occurs() {
-    let mut count = Count([0; 27]);
+    let mut count = Count([0; 28]);
     let fresh = make(CELL).handset;
     assert_eq!(fresh, Handset::fresh(CELL));
 
@@ -337,6 +342,7 @@ fn every_number_occurs() {
     replays(&mut count);
     records_stopped_at(&mut count);
     sent_and_credited(&mut count);
+    games(&mut count);
 
     println!("refusals by number: {:?}", count.0);
     let of_settings = |causes: u64| 10 * causes;
@@ -379,9 +385,36 @@ fn every_number_occurs() {
         of_settings(7) + 4 + 13,
         7 * (4 + 1) + 3 * 2 + 7 * 2,
         3 * 4,
+        6 * 3 + 9 + 5 + 5 * 3 + 1,
     ];
     assert_eq!(count.0, counts);
     assert!(count.0[1..].iter().all(|number| *number > 0));
+}
+
+/// Games: a size that is not 1 to 9, more grants than subframes, and more losses than nine; alone
+/// and together.
+fn games(count: &mut Count) {
+    for size in [0, 10, 256, 257, 265, 65535] {
+        count.game(27, size, 0, 0);
+        count.game(27, size, 1, 9);
+        count.game(27, size, 5, 4);
+    }
+    for size in 1..=9 {
+        count.game(27, size, size + 1, 4);
+        assert_eq!(game(size, size, 3), GameAnswer { refusal: 0, radio: 0 }, "{size}");
+    }
+    for grants in [10, 256, 261, 32768, 65535] {
+        count.game(27, 9, grants, 4);
+    }
+    for losses in [10, 256, 260, 32768, 65535] {
+        count.game(27, 9, 5, losses);
+        count.game(27, 1, 0, losses);
+        count.game(27, 9, 10, losses);
+    }
+    count.game(27, 0, 1, 10);
+    assert_eq!(game(9, 5, 4), GameAnswer { refusal: 0, radio: 1 });
+    assert_eq!(game(9, 9, 9), GameAnswer { refusal: 0, radio: 1 });
+    assert_eq!(game(1, 0, 0), GameAnswer { refusal: 0, radio: 0 });
 }
 
 /// What was sent: in configuration 1 the window of 2 has 5 and 6, which is a special subframe.
