@@ -8,18 +8,18 @@ use feedback_tests::compare::{
     plain_trace_write_on,
 };
 use feedback_tests::form::Form;
-use feedback_tests::model::Model;
+use feedback_tests::model::{Game, Model};
 use feedback_tests::plain::{
-    plain_add, plain_change_mode, plain_inverse, plain_make, plain_open_account, plain_reading,
-    plain_resource, plain_silence,
+    plain_add, plain_change_mode, plain_game, plain_inverse, plain_make, plain_open_account,
+    plain_reading, plain_resource, plain_silence,
 };
 use feedback_tests::vectors::{cases, heard, step, Case};
 use feedback_tests::{
-    change_mode, confirmed, credit, feed, inverse, make, open_account, reading, record, replay,
-    resource, silence, trace_write, window, Account, Changed, ClaimsAnswer, ConfirmedAnswer,
-    CreditAnswer, Exchange, Fed, Handset, Heard, InverseAnswer, Opened, ReadingAnswer,
-    RecordAnswer, ReplayAnswer, ResourceAnswer, Sent, SentWindow, Settings, SilenceAnswer, Slot,
-    Step, WriteAnswer, NOT_TOLD,
+    change_mode, confirmed, credit, feed, game, inverse, make, open_account, reading, record,
+    replay, resource, silence, trace_write, window, Account, Changed, ClaimsAnswer,
+    ConfirmedAnswer, CreditAnswer, Exchange, Fed, GameAnswer, Handset, Heard, InverseAnswer,
+    Opened, ReadingAnswer, RecordAnswer, ReplayAnswer, ResourceAnswer, Sent, SentWindow, Settings,
+    SilenceAnswer, Slot, Step, WriteAnswer, NOT_TOLD,
 };
 use std::fmt::Debug;
 
@@ -190,6 +190,14 @@ impl Who<'_> {
             Self::Engine => credit(exchange, account),
             Self::Model(model) => model.credit(&exchange, account),
             Self::Plain => plain_credit_of(exchange, account),
+        }
+    }
+
+    fn game(&self, size: u16, grants: u16, losses: u16) -> GameAnswer {
+        match self {
+            Self::Engine => game(size, grants, losses),
+            Self::Model(model) => model.game(size, grants, losses),
+            Self::Plain => plain_game(size, grants, losses),
         }
     }
 
@@ -743,6 +751,18 @@ fn account_line(case: &Case, who: &Who, windows: &Windows) -> (Credits, Credits)
     (given, due)
 }
 
+/// One game.
+fn game_line(case: &Case, who: &Who) -> (GameAnswer, GameAnswer) {
+    let [size, grants, losses] = game_of(case);
+    let due = GameAnswer { refusal: case.number("refusal"), radio: case.number("radio") };
+    (who.game(size, grants, losses), due)
+}
+
+/// The size of the window, the grants and the losses of a line.
+fn game_of(case: &Case) -> [u16; 3] {
+    ["size", "G", "L"].map(|name| case.number(name))
+}
+
 #[test]
 fn u01_settings() {
     let text = include_str!("../data/u01-settings.csv");
@@ -994,4 +1014,24 @@ fn u11_runs() {
     }
     println!("steps by cause {of_cause:?}");
     assert_eq!(of_cause, [1136, 194, 30]);
+}
+
+/// Every game stands in the file once, 90 of them with the radio as the winner; all else that
+/// stands there is refused 27.
+#[test]
+fn u12_game() {
+    let text = include_str!("../data/u12-game.csv");
+    let tally = Tally::of("u12-game.csv", text, |case, who| Some(game_line(case, who)));
+    tally.finish(1141, 0);
+    let cases = cases("u12-game.csv", text);
+    let (refused, games): (Vec<&Case>, Vec<&Case>) =
+        cases.iter().partition(|case| case.number("refusal") != 0);
+    let of_the_radio = games.iter().filter(|case| case.number("radio") == 1).count();
+    assert_eq!((refused.len(), games.len(), of_the_radio), (601, 540, 90));
+    let is_27 = |case: &&Case| case.number("refusal") == 27 && case.number("radio") == 0;
+    assert!(refused.iter().all(is_27));
+    let mut numbers: Vec<[u16; 3]> = games.into_iter().map(game_of).collect();
+    numbers.sort();
+    let all = Game::all().map(|game| [game.size, game.grants, game.losses]);
+    assert_eq!(numbers, all.collect::<Vec<_>>());
 }
