@@ -1,6 +1,7 @@
 //! The programs `replay`, `replay_text` and `spell`, which the engine's build leaves in
 //! `../target/bin`: traces by a pipe on standard input, and all that they print beside
-//! what the model prints. Where a program is missing the tests fail.
+//! what the model prints. Likewise `game`, by the size of a window. Where a program is missing
+//! the tests fail.
 
 use feedback_tests::model::Model;
 use feedback_tests::random::Random;
@@ -14,6 +15,7 @@ use std::path::PathBuf;
 use std::process::{Child, Command, Stdio};
 use std::thread;
 
+/// Those that are given a trace.
 const PROGRAMS: [&str; 3] = ["replay", "replay_text", "spell"];
 
 /// What a program printed: standard output, standard error.
@@ -55,6 +57,7 @@ fn due(model: &Model, program: &str, input: &[u8]) -> Printed {
     let (output, error) = match program {
         "replay" => model.replay_program(input),
         "spell" => model.spell_program(input),
+        "game" => (model.game_program(input).into_bytes(), String::new()),
         _ => (model.replay_text(input).into_bytes(), String::new()),
     };
     (output, error.into_bytes())
@@ -218,5 +221,95 @@ fn what_spell_refuses() {
     ];
     for (input, line) in refused {
         assert_eq!(run("spell", vec![input.to_vec()]), (Vec::new(), line.as_bytes().to_vec()));
+    }
+}
+
+/// The sizes that `game` is given: one digit and a newline.
+fn sizes() -> impl Iterator<Item = Vec<u8>> {
+    (b'1'..=b'9').map(|digit| vec![digit, b'\n'])
+}
+
+/// A title, the losses, a line for each number of grants, and what no window changes.
+#[test]
+fn game_on_every_size() {
+    let model = Model::new();
+    let (mut lines, mut letters) = (0, [0, 0]);
+    for input in sizes() {
+        compare(&model, "game", &input);
+        let (printed, _) = run("game", vec![input.clone()]);
+        let text = String::from_utf8(printed).expect("text");
+        let size = usize::from(input[0] - b'0');
+        assert_eq!(text.lines().count(), 3 + size + 1);
+        lines += text.lines().count();
+        let rows = text.lines().filter(|line| line.starts_with("G "));
+        for cell in rows.flat_map(|row| row.split(' ').skip(2)) {
+            let at = ["R", "S"].iter().position(|letter| *letter == cell).expect("a letter");
+            letters[at] += 1;
+        }
+    }
+    assert_eq!((lines, letters), (9 * 4 + 45, [90, 450]));
+}
+
+/// What `game` prints for windows of four and of nine, worked out by hand. That of nine is kept
+/// beside the program.
+#[test]
+fn what_game_prints() {
+    let title = "R the radio can force a reply that hides a loss, S the scheduler can prevent it";
+    let losses = "L   0 1 2 3 4 5 6 7 8 9";
+    let last = "Configuration 5, window size 9: with 4 grants or fewer, or 3 losses or fewer, no \
+                reply hides a loss";
+    let none = "S S S S S S S S S S";
+    let from_four = "S S S S R R R R R R";
+    let four = format!(
+        "Window size 4: {title}\n{losses}\nG 0 {none}\nG 1 {none}\nG 2 {none}\nG 3 {none}\n\
+         G 4 {none}\n{last}\n"
+    );
+    let nine = format!(
+        "Window size 9: {title}\n{losses}\nG 0 {none}\nG 1 {none}\nG 2 {none}\nG 3 {none}\n\
+         G 4 {none}\nG 5 {from_four}\nG 6 {from_four}\nG 7 {from_four}\nG 8 {from_four}\n\
+         G 9 {from_four}\n{last}\n"
+    );
+    assert_eq!(nine, include_str!("../../crates/game/stdout"));
+    for (input, text) in [("4\n", four), ("9\n", nine)] {
+        let (printed, error) = run("game", vec![input.into()]);
+        assert_eq!((String::from_utf8(printed), error), (Ok(text), Vec::new()), "{input:?}");
+    }
+}
+
+/// All that is not one digit from 1 to 9 and a newline: every byte before a newline, no byte and
+/// more of them, and much more than the program asks for.
+#[test]
+fn what_game_refuses() {
+    let model = Model::new();
+    let bytes = (0..=255).filter(|byte| !(b'1'..=b'9').contains(byte));
+    let mut inputs: Vec<Vec<u8>> = bytes.map(|byte| vec![byte, b'\n']).collect();
+    assert_eq!(inputs.len(), 247);
+    inputs.extend(sizes().map(|size| size[..1].to_vec()));
+    inputs.extend(sizes().map(|size| [&size[..], b"\n"].concat()));
+    let others: [&[u8]; 15] = [
+        b"", b"\n", b"0\n", b"a\n", b"10\n", b"19\n", b"99\n", b"\n9\n", b" 9\n", b"9 \n",
+        b"9\r\n", b"9\0", b"9\n9", b"9\n9\n", b"-9\n",
+    ];
+    inputs.extend(others.map(<[u8]>::to_vec));
+    inputs.push(vec![b'9'; 1 << 20]);
+    inputs.push([b"9\n".to_vec(), vec![b'9'; 1 << 20]].concat());
+    for input in inputs {
+        let shown = &input[..input.len().min(20)];
+        let refused = (b"refused 27\n".to_vec(), Vec::new());
+        assert_eq!(run("game", vec![input.clone()]), refused, "{shown:?}");
+        assert_eq!(due(&model, "game", &input), refused, "{shown:?}");
+    }
+}
+
+/// A digit and a newline that come apart.
+#[test]
+fn a_size_in_pieces() {
+    let model = Model::new();
+    for size in sizes() {
+        let pieces = size.chunks(1).map(<[u8]>::to_vec).collect();
+        assert!(run("game", pieces) == due(&model, "game", &size), "{size:?}");
+        let pieces = vec![Vec::new(), size[..1].to_vec(), Vec::new(), b"\n\n".to_vec()];
+        let refused = (b"refused 27\n".to_vec(), Vec::new());
+        assert_eq!(run("game", pieces), refused, "{size:?}");
     }
 }

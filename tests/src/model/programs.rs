@@ -1,5 +1,6 @@
-//! What the programs `replay`, `replay_text` and `spell` print for their input.
+//! What the programs `replay`, `replay_text`, `spell` and `game` print for their input.
 
+use super::game::Game;
 use super::replay::Played;
 use super::Model;
 
@@ -37,6 +38,33 @@ impl Model {
             Err((refusal, Some(record))) => (Vec::new(), stopped_line((refusal, record))),
         }
     }
+
+    /// Standard output of `game`; it prints nothing else.
+    pub fn game_program(&self, input: &[u8]) -> String {
+        match input {
+            [digit @ b'1'..=b'9', b'\n'] => game_text((digit - b'0').into()),
+            _ => refused_line(27),
+        }
+    }
+}
+
+/// Who can force the outcome for a window of this size: a line for each number of grants, and in
+/// it a letter for each number of losses. The last line is the same for every window.
+fn game_text(size: u16) -> String {
+    let mut text = format!(
+        "Window size {size}: R the radio can force a reply that hides a loss, S the scheduler can \
+         prevent it\nL   0 1 2 3 4 5 6 7 8 9\n"
+    );
+    for grants in 0..=size {
+        text += &format!("G {grants}");
+        for losses in 0..=9 {
+            let game = Game { size, grants, losses };
+            text += if game.is_forced(&[]) { " R" } else { " S" };
+        }
+        text += "\n";
+    }
+    text + "Configuration 5, window size 9: with 4 grants or fewer, or 3 losses or fewer, no reply \
+            hides a loss\n"
 }
 
 fn refused_line(refusal: u16) -> String {
