@@ -14,6 +14,7 @@ use std::io::{ErrorKind, Write};
 use std::path::PathBuf;
 use std::process::{Child, Command, Stdio};
 use std::thread;
+use std::time::Duration;
 
 /// Those that are given a trace.
 const PROGRAMS: [&str; 3] = ["replay", "replay_text", "spell"];
@@ -42,9 +43,19 @@ fn printed(program: &str, child: Child) -> Printed {
 /// Runs a program on pieces of input, each written by itself. It need not read all of it:
 /// then its end breaks the pipe.
 fn run(program: &str, pieces: Vec<Vec<u8>>) -> Printed {
+    run_slowly(program, pieces, Duration::ZERO)
+}
+
+/// The same with a pause behind each piece, in which the program may read it.
+fn run_slowly(program: &str, pieces: Vec<Vec<u8>>, pause: Duration) -> Printed {
     let mut child = start(program, Stdio::piped());
     let mut input = child.stdin.take().expect("standard input");
-    let writer = thread::spawn(move || pieces.iter().try_for_each(|piece| input.write_all(piece)));
+    let write = move |piece: &Vec<u8>| {
+        let written = input.write_all(piece);
+        thread::sleep(pause);
+        written
+    };
+    let writer = thread::spawn(move || pieces.iter().try_for_each(write));
     let printed = printed(program, child);
     if let Err(error) = writer.join().expect("a writer") {
         assert_eq!(error.kind(), ErrorKind::BrokenPipe, "{program}");
@@ -301,15 +312,17 @@ fn what_game_refuses() {
     }
 }
 
-/// A digit and a newline that come apart.
+/// A digit and a newline that come apart, and what comes behind them.
 #[test]
 fn a_size_in_pieces() {
     let model = Model::new();
+    let pause = Duration::from_millis(20);
     for size in sizes() {
-        let pieces = size.chunks(1).map(<[u8]>::to_vec).collect();
-        assert!(run("game", pieces) == due(&model, "game", &size), "{size:?}");
-        let pieces = vec![Vec::new(), size[..1].to_vec(), Vec::new(), b"\n\n".to_vec()];
-        let refused = (b"refused 27\n".to_vec(), Vec::new());
-        assert_eq!(run("game", pieces), refused, "{size:?}");
+        for end in ["", "\n", "7"] {
+            let input = [&size[..], end.as_bytes()].concat();
+            let pieces = input.chunks(1).map(<[u8]>::to_vec).collect();
+            let given = run_slowly("game", pieces, pause);
+            assert_eq!(given, due(&model, "game", &input), "{input:?}");
+        }
     }
 }
