@@ -1385,10 +1385,10 @@ struct feedback_write_answer feedback_trace_write(const uint8_t *trace, size_t l
  * It is proved that the radio can force it exactly if grants is at least 5 and losses at
  * least 4 (crates/playing/specs/Decided.antt): it loses the first four grants, after which
  * the DAI begins at 1 again, and passes the others. With fewer no play of the window ends
- * so, whatever both do. That is what happens in the windows that are really answered too
- * (crates/hiding/specs/Hiding.antt): no other configuration than 5 has more than four
- * subframes in a window, and there a station that makes at most four grants in a window
- * gets no bundled reply that hides a lost one.
+ * so, whatever both do. The same is proved of the windows that a handset answers
+ * (crates/hiding/specs/Hiding.antt): such a reply hides four lost grants or eight, in
+ * configuration 5 alone, since no other has windows of more than four subframes; and there
+ * a station that makes at most four grants in a window, releases among them, gets none.
  *
  * Refuses 27: a size that is not 1 to FEEDBACK_WINDOW_MOST, grants over size, or losses over
  * FEEDBACK_LOSSES_MOST.

@@ -426,6 +426,7 @@ fn every_play_is_heard_by_a_handset() {
                 let all_lost = grants_of(play).iter().filter(|grant| !grant.is_heard).count();
                 fewest = fewest.min((granted, all_lost));
                 assert!(granted >= 5 && all_lost >= 4, "{window:?}, {play:?}");
+                assert!(lost == 4 || lost == 8, "{window:?}, {play:?}");
                 hiding += 1;
             }
             plays += 1;

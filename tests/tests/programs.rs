@@ -240,7 +240,8 @@ fn sizes() -> impl Iterator<Item = Vec<u8>> {
     (b'1'..=b'9').map(|digit| vec![digit, b'\n'])
 }
 
-/// A title, the losses, a line for each number of grants, and what no window changes.
+/// A title, what it is to hide a loss, the losses, a line for each number of grants, and what no
+/// window changes.
 #[test]
 fn game_on_every_size() {
     let model = Model::new();
@@ -250,7 +251,7 @@ fn game_on_every_size() {
         let (printed, _) = run("game", vec![input.clone()]);
         let text = String::from_utf8(printed).expect("text");
         let size = usize::from(input[0] - b'0');
-        assert_eq!(text.lines().count(), 3 + size + 1);
+        assert_eq!(text.lines().count(), 4 + size + 1);
         lines += text.lines().count();
         let rows = text.lines().filter(|line| line.starts_with("G "));
         for cell in rows.flat_map(|row| row.split(' ').skip(2)) {
@@ -258,7 +259,7 @@ fn game_on_every_size() {
             letters[at] += 1;
         }
     }
-    assert_eq!((lines, letters), (9 * 4 + 45, [90, 450]));
+    assert_eq!((lines, letters), (9 * 5 + 45, [90, 450]));
 }
 
 /// What `game` prints for windows of four and of nine, worked out by hand. That of nine is kept
@@ -267,16 +268,20 @@ fn game_on_every_size() {
 fn what_game_prints() {
     let title = "R the radio can force a reply that hides a loss, S the scheduler can prevent it";
     let losses = "L   0 1 2 3 4 5 6 7 8 9";
-    let last = "Configuration 5, window size 9: with 4 grants or fewer, or 3 losses or fewer, no \
-                reply hides a loss";
+    let hides =
+        "A reply hides a loss if a grant before the last one heard was lost; a release is a \
+                 grant here";
+    let last =
+        "Configuration 5: a reply hides 4 losses or 8, and none with at most 4 grants or at \
+                most 3 losses";
     let none = "S S S S S S S S S S";
     let from_four = "S S S S R R R R R R";
     let four = format!(
-        "Window size 4: {title}\n{losses}\nG 0 {none}\nG 1 {none}\nG 2 {none}\nG 3 {none}\n\
+        "Window size 4: {title}\n{hides}\n{losses}\nG 0 {none}\nG 1 {none}\nG 2 {none}\nG 3 {none}\n\
          G 4 {none}\n{last}\n"
     );
     let nine = format!(
-        "Window size 9: {title}\n{losses}\nG 0 {none}\nG 1 {none}\nG 2 {none}\nG 3 {none}\n\
+        "Window size 9: {title}\n{hides}\n{losses}\nG 0 {none}\nG 1 {none}\nG 2 {none}\nG 3 {none}\n\
          G 4 {none}\nG 5 {from_four}\nG 6 {from_four}\nG 7 {from_four}\nG 8 {from_four}\n\
          G 9 {from_four}\n{last}\n"
     );

@@ -53,7 +53,8 @@ impl Model {
 fn game_text(size: u16) -> String {
     let mut text = format!(
         "Window size {size}: R the radio can force a reply that hides a loss, S the scheduler can \
-         prevent it\nL   0 1 2 3 4 5 6 7 8 9\n"
+         prevent it\nA reply hides a loss if a grant before the last one heard was lost; a release \
+         is a grant here\nL   0 1 2 3 4 5 6 7 8 9\n"
     );
     for grants in 0..=size {
         text += &format!("G {grants}");
@@ -63,8 +64,9 @@ fn game_text(size: u16) -> String {
         }
         text += "\n";
     }
-    text + "Configuration 5, window size 9: with 4 grants or fewer, or 3 losses or fewer, no reply \
-            hides a loss\n"
+    text
+        + "Configuration 5: a reply hides 4 losses or 8, and none with at most 4 grants or at most \
+            3 losses\n"
 }
 
 fn refused_line(refusal: u16) -> String {
