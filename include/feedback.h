@@ -1368,8 +1368,9 @@ struct feedback_write_answer feedback_trace_write(const uint8_t *trace, size_t l
 /*
  * What losses can hide: whether a radio that loses grants can force that a handset sends a
  * bundled reply though a grant before the last one heard was lost, in a window of a size in
- * which the scheduler makes so many grants. Such a reply says nothing of the lost ones, and
- * the station cannot tell that any were lost.
+ * which the scheduler makes so many grants. From such a reply the station cannot tell that
+ * any were lost; that is why feedback_confirmed, where more than four PDCCHs were sent up to
+ * and with the one that is named, confirms of PDCCHs that one's blocks alone.
  *
  *   size       the subframes of the window, 1 to FEEDBACK_WINDOW_MOST: M
  *   grants     the grants in it, 0 to size
