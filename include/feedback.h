@@ -1376,20 +1376,21 @@ struct feedback_write_answer feedback_trace_write(const uint8_t *trace, size_t l
  *   grants     the grants in it, 0 to size
  *   losses     the most of them that are lost, 0 to FEEDBACK_LOSSES_MOST
  *
- * In each subframe of the window, in time order, first the scheduler grants or holds; in
- * the end it has made exactly so many grants. Then the radio, which sees it, passes or
- * loses the grant. A release is a grant here, a scheduled block is none. The radio can
- * force the outcome if for every move of the scheduler, in each subframe, some answer of
- * its own leads there; otherwise the scheduler can prevent it. The handset replies by the
- * rule of configurations 1 to 6, whatever the size.
+ * In each subframe of the window, in time order, first the scheduler grants or holds; then
+ * the radio, which sees it, passes or loses the grant. The scheduler ends with exactly so
+ * many grants. A release is a grant here, a scheduled block is none. The radio can force
+ * the outcome if for every move of the scheduler, in each subframe, some answer of its own
+ * leads there; otherwise the scheduler can prevent it. The handset replies by the rule of
+ * configurations 1 to 6, whatever the size.
  *
  * It is proved that the radio can force it exactly if grants is at least 5 and losses at
  * least 4 (crates/playing/specs/Decided.antt): it loses the first four grants, after which
  * the DAI begins at 1 again, and passes the others. With fewer no play of the window ends
- * so, whatever both do. The same is proved of the windows that a handset answers
- * (crates/hiding/specs/Hiding.antt): such a reply hides four lost grants or eight, in
- * configuration 5 alone, since no other has windows of more than four subframes; and there
- * a station that makes at most four grants in a window, releases among them, gets none.
+ * so, whatever both do. The same is proved of the windows that a handset answers, where
+ * what the proof at feedback_reading needs holds (crates/hiding/specs/Hiding.antt): such a
+ * reply hides four lost grants or eight, in configuration 5 alone, since no other has
+ * windows of more than four subframes; and there a station that makes at most four grants
+ * in a window, releases among them, gets none.
  *
  * Refuses 27: a size that is not 1 to FEEDBACK_WINDOW_MOST, grants over size, or losses over
  * FEEDBACK_LOSSES_MOST.

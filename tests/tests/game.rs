@@ -511,32 +511,6 @@ fn the_radio_by_the_tree_wins_against_every_scheduler() {
     assert_eq!(games, OF_THE_RADIO);
 }
 
-/// The same against schedulers at random.
-#[test]
-fn the_radio_by_the_tree_wins_against_schedulers_at_random() {
-    let model = Model::new();
-    let cell = nine(&model);
-    let mut random = Random::new(5);
-    let mut plays = 0;
-    for game in Game::all().filter(|game| game.grants >= 5 && game.losses >= 4) {
-        let mut best: HashMap<(Vec<Turn>, Vec<Turn>), Turn> = HashMap::new();
-        for _ in 0..100 {
-            let mut played = Vec::new();
-            while !game.is_over(&played) {
-                let moves = game.moves(&played);
-                let answers = moves[random.below(moves.len())].clone();
-                let at = (played.clone(), answers.clone());
-                let by_the_tree = || game.best_of_the_radio(&played, &answers);
-                let turn = *best.entry(at).or_insert_with(by_the_tree);
-                played.push(turn);
-            }
-            assert!(is_hidden_from(&cell, &played), "{game:?}, {played:?}");
-            plays += 1;
-        }
-    }
-    assert_eq!(plays, 100 * OF_THE_RADIO);
-}
-
 /// The scheduler, by the tree, against every radio, in all other games: none ends in such a
 /// reply.
 #[test]
@@ -546,6 +520,10 @@ fn the_scheduler_by_the_tree_prevents_it_against_every_radio() {
     let (mut games, mut plays, mut replies) = (0, 0, 0);
     for game in Game::all().filter(|game| game.grants < 5 || game.losses < 4) {
         against_the_scheduler(game, &[], &mut |play| {
+            let lost = play.iter().filter(|turn| **turn == Turn::Lost).count();
+            let granted = play.iter().filter(|turn| **turn != Turn::Held).count();
+            let is_of_game = (play.len(), granted) == (game.size.into(), game.grants.into());
+            assert!(is_of_game && lost <= game.losses.into(), "{game:?}, {play:?}");
             assert!(!is_hidden_from(&cell, play), "{game:?}, {play:?}");
             plays += 1;
             replies += u64::from(is_reply(answered(&cell, play)));

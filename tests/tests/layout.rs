@@ -438,7 +438,7 @@ fn every_field_of_a_silence_comes_back() {
 }
 
 /// Of a game both numbers come back, and each of the three that are given arrives in its place:
-/// the same in other places are refused or answered otherwise. All 16 bits arrive.
+/// the same in other places are refused or answered otherwise. So does each bit from 4 on.
 #[test]
 fn every_number_of_a_game_arrives() {
     let given = [game(9, 5, 4), game(9, 4, 5), game(5, 4, 9), game(4, 5, 9), game(5, 9, 4)];

@@ -240,8 +240,8 @@ fn sizes() -> impl Iterator<Item = Vec<u8>> {
     (b'1'..=b'9').map(|digit| vec![digit, b'\n'])
 }
 
-/// A title, what it is to hide a loss, the losses, a line for each number of grants, and what no
-/// window changes.
+/// A title, what it is to hide a loss, the losses, a line for each number of grants, and the line
+/// that is the same for every size.
 #[test]
 fn game_on_every_size() {
     let model = Model::new();
@@ -272,8 +272,7 @@ fn what_game_prints() {
         "A reply hides a loss if a grant before the last one heard was lost; a release is a \
                  grant here";
     let last =
-        "Configuration 5: a reply hides 4 losses or 8, and none with at most 4 grants or at \
-                most 3 losses";
+        "Configuration 5 (size 9): a reply hides 0, 4 or 8 losses; 0 with at most 4 grants or 3 losses";
     let none = "S S S S S S S S S S";
     let from_four = "S S S S R R R R R R";
     let four = format!(

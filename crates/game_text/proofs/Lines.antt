@@ -28,7 +28,7 @@ row_line size (suc (suc (suc grants))) h room =
 
 -- and the one after the rows is that for configuration 5.
 pub last_line : (size i : ℕ) → 3 ≤ i → size < i - 3
-    → codes "Configuration 5: a reply hides 4 losses or 8, and none with at most 4 grants or at most 3 losses" ≡ unended_line size i
+    → codes "Configuration 5 (size 9): a reply hides 0, 4 or 8 losses; 0 with at most 4 grants or 3 losses" ≡ unended_line size i
 unfolding unended_line
 last_line size zero h past = absurd (omega arith)
 last_line size (suc zero) h past = absurd (omega arith)
@@ -54,7 +54,7 @@ unended_room size (suc (suc zero)) s h = lit≤ tt
 unended_room size (suc (suc (suc grants))) s h = go (leb grants size)
   where
     go : (b : Bool)
-        → length (cond b (row size grants) (codes "Configuration 5: a reply hides 4 losses or 8, and none with at most 4 grants or at most 3 losses")) ≤ 99
+        → length (cond b (row size grants) (codes "Configuration 5 (size 9): a reply hides 0, 4 or 8 losses; 0 with at most 4 grants or 3 losses")) ≤ 99
     go true = simp length-append (omega (arith, five_digits grants (omega (arith, h)), cells_length size grants 10))
     go false = lit≤ tt
 

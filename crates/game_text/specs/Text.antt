@@ -1,5 +1,5 @@
--- The text that the program `game` prints, as bytes: for the size of a window the table of document 02, U12, a row for each number of grants
--- G and a column for each most of losses L, and a line that says what it means for configuration 5.
+-- The text that the program `game` prints, as bytes: for the size of a window the answers of the game of document 02, U12, as a table, a row
+-- for each number of grants G and a column for each most of losses L, and a line that says what it means for configuration 5.
 -- Assumes nothing.
 use Rattle.std.specs.Prelude.{Option, Some, None, Result, Ok, Err, ℕ, zero, suc, ◌+◌, ◌-◌, Bool, true, false, cond, ◌&&◌, List, [], ◌∷◌, ◌++◌, eqb, leb, length, get_or, codes, decimal}
 use Rattle.playing.specs.Game.{game_of}
@@ -39,7 +39,7 @@ unended_line size (suc zero) = codes "A reply hides a loss if a grant before the
 unended_line size (suc (suc zero)) = codes "L   0 1 2 3 4 5 6 7 8 9"
 unended_line size (suc (suc (suc grants))) =
     cond (leb grants size) (row size grants)
-    (codes "Configuration 5: a reply hides 4 losses or 8, and none with at most 4 grants or at most 3 losses")
+    (codes "Configuration 5 (size 9): a reply hides 0, 4 or 8 losses; 0 with at most 4 grants or 3 losses")
 
 -- Line i of the text for a size, from 0, with its newline (10); nothing past the line for configuration 5.
 unfoldable pub game_line : ℕ → ℕ → List ℕ

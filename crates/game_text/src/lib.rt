@@ -78,7 +78,7 @@ fn push_unended(line: &mut Line, size: u16, i: u16)
         2 => line.push_str("L   0 1 2 3 4 5 6 7 8 9"),
         _ if i - 3 <= size => push_row(line, size, i - 3),
         _ => line.push_str(
-            "Configuration 5: a reply hides 4 losses or 8, and none with at most 4 grants or at most 3 losses",
+            "Configuration 5 (size 9): a reply hides 0, 4 or 8 losses; 0 with at most 4 grants or 3 losses",
         ),
     }
 }

@@ -1,5 +1,5 @@
 -- Plays of windows on numbers, of runs that meet the hypotheses of demand 3, so that the theorem is about something. The runs are those of
--- engines/proofs/Worked.antt, where their answers are.
+-- engines/proofs/Worked.antt, where their answers are, but for the last five, with each number of grants, which are made here.
 -- Assumes nothing.
 use Prim.Native.Nat.{ℕ, ◌-◌}
 use mathlib.Core.Bool.{true, false}
@@ -11,7 +11,7 @@ use lib.Dec.{T}
 use lib.ListN.{take}
 use mathlib.Core.Path.{◌≡◌, refl}
 use Rattle.fold.specs.Fold.{expected, step_of}
-use Rattle.playing.specs.Game.{Turn, held, passed, lost, won}
+use Rattle.playing.specs.Game.{Turn, held, passed, lost, replied, won}
 use Rattle.engines.proofs.Computing.{handsets}
 use Rattle.heard.specs.declared.Heard.TheVariants.{Nothing}
 use Rattle.agreement.specs.Demand3.{IsSubframe}
@@ -49,22 +49,22 @@ unfolding handsets expected step_of
 eight_lost_won = refl
 
 -- Four grants heard, and six of which the last two are lost: a reply is sent and hides nothing.
-four_heard_not : won (play_in four_heard 12) ≡ false
+four_heard_not : (replied (play_in four_heard 12) ≡ true) × (won (play_in four_heard 12) ≡ false)
 unfolding handsets expected step_of
-four_heard_not = refl
+four_heard_not = (refl, refl)
 
-last_two_not : won (play_in last_two_lost 12) ≡ false
+last_two_not : (replied (play_in last_two_lost 12) ≡ true) × (won (play_in last_two_lost 12) ≡ false)
 unfolding handsets expected step_of
-last_two_not = refl
+last_two_not = (refl, refl)
 
 -- Configuration 1, subframe 7: the first of two grants is lost, and the miss is shown.
 missed_play : play_in missed 7 ≡ passed ∷ lost ∷ []
 unfolding handsets
 missed_play = refl
 
-missed_not : won (play_in missed 7) ≡ false
+missed_not : (replied (play_in missed 7) ≡ false) × (won (play_in missed 7) ≡ false)
 unfolding handsets expected step_of
-missed_not = refl
+missed_not = (refl, refl)
 
 -- Configuration 2, subframe 12: a scheduled block is no grant. The grant before it is lost, the one after it heard.
 block_play : play_in missed_with_block 12 ≡ passed ∷ held ∷ held ∷ lost ∷ []
@@ -72,7 +72,7 @@ unfolding handsets
 block_play = refl
 
 -- That it happens with each number of grants: configuration 5, subframe 22, whose window is 9, 10, 11 and 13 to 18. The first four are lost,
--- in 9, 10, 11 and 13, and the others heard.
+-- in 9, 10, 11 and 13, and the others heard. (Answers and readings are not written out here.)
 abbrev first_four_lost : ℕ → Run
 first_four_lost grants =
     record {

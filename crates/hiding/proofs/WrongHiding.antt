@@ -1,5 +1,6 @@
--- What the statement shuts out, field by field, by runs of engines/proofs/Worked.antt. `size` and `values`, which tie the play to the window,
--- and `five` are about no engine: must-fail edits turn them. The engine that answers a miss holds V against the value for U + 1.
+-- What the statement shuts out, field by field, by runs of engines/proofs/Worked.antt and diagnosis/proofs/WorkedCauses.antt. `size` and
+-- `values`, which tie the play to the window, and `five` are about no engine: must-fail edits turn them. The engine that answers a miss holds
+-- V against the value for U + 1.
 --
 --   replied   always silent                                             not_always_silent
 --             a miss is answered                                        not_answers_miss

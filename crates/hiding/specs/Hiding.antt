@@ -1,7 +1,8 @@
 -- What losses can hide in the runs of demand 3 (document 01), changes of mode among them: document 02, U12. A bundled window is a play of
--- the game (playing/specs/Game.antt), over PDCCHs: U, V, whether a reply is sent and whether the radio has won are the game's.
+-- the game (playing/specs/Game.antt), over PDCCHs: U, V, whether a reply that answers for a PDCCH is sent and whether the radio has won
+-- are the game's.
 -- The statement is about an engine, so that wrong ones can be refuted (proofs/WrongHiding.antt); proofs/Hiding.antt proves it of every
--- engine that meets demand 3. At the end, that it happens: proofs/WorkedHiding.antt.
+-- engine that meets demand 3. At the end, that losses are hidden in some runs: proofs/WorkedHiding.antt.
 -- Assumes nothing.
 use Rattle.std.specs.Prelude.{Result, Ok, ℕ, ◌<◌, ◌≤◌, true, cond, List, [], ◌∷◌, ◌⊎◌, ◌↔◌, ◌≡◌, length}
 use Rattle.frame.specs.declared.Settings.{Settings}
@@ -72,8 +73,8 @@ Hides e =
     (set : Settings) → settings_refusal set ≡ 0 → (sent : ℕ → Send) → Schedule set sent
     → (items : List Item) → BringsSent set sent items → LossesHidden e set sent items
 
--- That so many PDCCHs are sent in a window of configuration 5, four of them are lost and the radio has won, in a run that meets the
--- hypotheses of demand 3.
+-- That so many PDCCHs are sent in a window of configuration 5, at most four of them are lost, so four, and the radio has won, in a run that
+-- meets the hypotheses of demand 3.
 pub record Hidden (grants : ℕ) : Type 0 where
   pub set : Settings
   pub five : set.config ≡ 5
@@ -91,6 +92,6 @@ pub record Hidden (grants : ℕ) : Type 0 where
   pub play : Legal 9 grants 4 (play_at set sent items s)
   pub is_won : won (play_at set sent items s) ≡ true
 
--- It happens with each number of grants with which the radio can force it.
+-- It happens, in some run, with each number of grants with which the radio can force it.
 abbrev pub Happens : Type 0
 Happens = (grants : ℕ) → 5 ≤ grants → grants ≤ 9 → Hidden grants

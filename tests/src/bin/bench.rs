@@ -9,24 +9,24 @@
 use feedback_tests::c::{
     feedback_answered, feedback_change_mode, feedback_confirmed, feedback_credit,
     feedback_feed_grant, feedback_feed_nothing, feedback_feed_release, feedback_feed_scheduled,
-    feedback_inverse, feedback_make, feedback_open_account, feedback_reading, feedback_replay,
-    feedback_resource, feedback_silence, feedback_trace_write, feedback_window,
+    feedback_game, feedback_inverse, feedback_make, feedback_open_account, feedback_reading,
+    feedback_replay, feedback_resource, feedback_silence, feedback_trace_write, feedback_window,
 };
 use feedback_tests::compare::plain_feed;
 use feedback_tests::every;
 use feedback_tests::form::{Form, OnClaims};
-use feedback_tests::model::{bundles, edge, is_short, is_uplink, Model, Window};
+use feedback_tests::model::{bundles, edge, is_short, is_uplink, Game, Model, Window};
 use feedback_tests::plain::{
-    plain_answered, plain_change_mode, plain_confirmed, plain_credit, plain_inverse, plain_make,
-    plain_open_account, plain_reading, plain_replay, plain_resource, plain_silence,
+    plain_answered, plain_change_mode, plain_confirmed, plain_credit, plain_game, plain_inverse,
+    plain_make, plain_open_account, plain_reading, plain_replay, plain_resource, plain_silence,
     plain_trace_write, plain_window,
 };
 use feedback_tests::random::Random;
 use feedback_tests::trace::{Trace, LONGEST, WINDOW};
 use feedback_tests::{
-    Account, AnsweredAnswer, Block, Changed, ConfirmedAnswer, CreditAnswer, Exchange, Fed, Grant,
-    Handset, Heard, Opened, ReadingAnswer, Release, ReplayAnswer, ResourceAnswer, Settings,
-    SilenceAnswer, WindowAnswer, WriteAnswer, NOT_TOLD,
+    Account, AnsweredAnswer, Block, Changed, ConfirmedAnswer, CreditAnswer, Exchange, Fed,
+    GameAnswer, Grant, Handset, Heard, Opened, ReadingAnswer, Release, ReplayAnswer,
+    ResourceAnswer, Settings, SilenceAnswer, WindowAnswer, WriteAnswer, NOT_TOLD,
 };
 use std::hint::black_box;
 use std::time::Instant;
@@ -127,6 +127,7 @@ Rust that check makes no reply.
     two_ports(&model, &mut Random::new(6));
     charging(&model, &mut Random::new(7));
     silences(&model, &mut Random::new(8));
+    games(&mut Random::new(9));
 }
 
 fn numbers(model: &Model, random: &mut Random) {
@@ -514,6 +515,13 @@ fn silences(model: &Model, random: &mut Random) {
         let inputs = &handsets[..number];
         row(name, inputs, number, engine_silence, plain_rust_silence);
     }
+}
+
+/// Games at random, of all sizes.
+fn games(random: &mut Random) {
+    let all: Vec<Game> = Game::all().collect();
+    let inputs: Vec<Game> = (0..INPUTS).map(|_| all[random.below(all.len())]).collect();
+    row("game", &inputs, inputs.len(), engine_game, plain_rust_game);
 }
 
 fn two_port_settings(random: &mut Random) -> Settings {
@@ -939,4 +947,17 @@ fn plain_rust_open(input: &Credit) -> u64 {
 fn price(opened: Opened) -> u64 {
     let opened = black_box(&opened);
     u64::from(opened.refusal) << 32 | u64::from(opened.account.price)
+}
+
+fn engine_game(input: &Game) -> u64 {
+    // SAFETY: the call takes numbers and gives numbers, and is lent no memory.
+    forced(unsafe { feedback_game(input.size, input.grants, input.losses) })
+}
+
+fn plain_rust_game(input: &Game) -> u64 {
+    forced(plain_game(input.size, input.grants, input.losses))
+}
+
+fn forced(answer: GameAnswer) -> u64 {
+    u64::from(answer.refusal) << 16 | u64::from(answer.radio)
 }

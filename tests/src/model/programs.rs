@@ -64,9 +64,8 @@ fn game_text(size: u16) -> String {
         }
         text += "\n";
     }
-    text
-        + "Configuration 5: a reply hides 4 losses or 8, and none with at most 4 grants or at most \
-            3 losses\n"
+    text + "Configuration 5 (size 9): a reply hides 0, 4 or 8 losses; 0 with at most 4 grants or 3 \
+           losses\n"
 }
 
 fn refused_line(refusal: u16) -> String {
