@@ -1,10 +1,9 @@
 -- Each line of the text has room on a line.
 -- Assumes nothing.
-use Rattle.std.proofs.Common.{ℕ, zero, suc, ◌+◌, ◌*◌, ◌-◌, codes, ◌<◌, ◌≤◌, ◌≡◌, Bool, true, false, cond, List, [], ◌∷◌, ◌++◌, length, length-append, refl, arith, add-one, append_assoc, decimal}
-use Rattle.std.proofs.lemmas.Fmt as fmt
+use Rattle.std.proofs.Common.{ℕ, zero, suc, ◌+◌, ◌*◌, ◌-◌, codes, ◌<◌, ◌≤◌, ◌≡◌, Bool, true, false, cond, List, [], ◌∷◌, length, length-append, refl, arith, add-one, append_assoc}
 use lib.Dec.{leb, lit≤}
 use borrow.Author.Tests.{ne_eqb, le-leb, lt-leb}
-use Rattle.line.proofs.Adding.{added_append, added_alone}
+use Rattle.line.proofs.Adding.{added_append, added_alone, added_ended, five_digits}
 use Rattle.line.specs.Line.{added}
 use Rattle.playing.specs.Game.{game_of}
 use Rattle.game_text.specs.Text.{refusal_line, letter, cells, row, title, unended_line, game_line}
@@ -37,10 +36,7 @@ last_line size (suc (suc (suc grants))) h past =
     let e : suc (suc (suc grants)) - 3 ≡ grants = omega arith in
     rw (lt-leb grants size (rw e at past))
 
--- A number of sixteen bits has at most five digits, so that each line has room.
-five_digits : (x : ℕ) → x < 65536 → length (decimal x) ≤ 5
-five_digits x h = fmt.length-decimal-le 5 x (omega arith) (omega (arith, h)) (omega arith)
-
+-- Each line has room.
 cells_length : (size grants losses : ℕ) → length (cells size grants losses) ≡ 2 * losses
 unfolding cells
 cells_length size grants zero = refl
@@ -48,7 +44,7 @@ cells_length size grants (suc losses) = simp length-append (omega (arith, cells_
 
 unended_room : (size i : ℕ) → size < 65536 → i < 65536 → length (unended_line size i) ≤ 99
 unfolding unended_line title row
-unended_room size zero s h = simp length-append (omega (arith, five_digits size s))
+unended_room size zero s h = simp length-append (omega (arith, five_digits size (omega (arith, s))))
 unended_room size (suc zero) s h = lit≤ tt
 unended_room size (suc (suc zero)) s h = lit≤ tt
 unended_room size (suc (suc (suc grants))) s h = go (leb grants size)
@@ -62,8 +58,7 @@ unended_room size (suc (suc (suc grants))) s h = go (leb grants size)
 pub line_ended : (size i : ℕ) → size < 65536 → i < 65536 → i ≤ size + 4 → added (added [] (unended_line size i)) (10 ∷ []) ≡ game_line size i
 unfolding game_line
 line_ended size i s h inside =
-    rw (added_append [] (unended_line size i) (10 ∷ []), le-leb i (size + 4) inside)
-    (added_alone (unended_line size i ++ 10 ∷ []) (simp length-append (omega (arith, unended_room size i s h))))
+    rw (le-leb i (size + 4) inside) (added_ended (unended_line size i) (unended_room size i s h))
 
 -- There is no line after them.
 pub past_last : (size i : ℕ) → size + 4 < i → game_line size i ≡ []

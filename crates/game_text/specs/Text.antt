@@ -1,15 +1,9 @@
 -- The text that the program `game` prints, as bytes: for the size of a window the answers of the game of document 02, U12, as a table, a row
 -- for each number of grants G and a column for each most of losses L, and a line that says what it means for configuration 5.
 -- Assumes nothing.
-use Rattle.std.specs.Prelude.{Option, Some, None, Result, Ok, Err, ℕ, zero, suc, ◌+◌, ◌-◌, Bool, true, false, cond, ◌&&◌, List, [], ◌∷◌, ◌++◌, eqb, leb, length, get_or, codes, decimal}
+use Rattle.std.specs.Prelude.{Option, Some, None, Result, Ok, Err, ℕ, zero, suc, ◌+◌, Bool, true, false, cond, List, [], ◌∷◌, ◌++◌, eqb, leb, codes, decimal}
+use Rattle.reading.specs.Digit.{digit_in}
 use Rattle.playing.specs.Game.{game_of}
-
--- The input is one digit 1 to 9 (49 to 57) and a newline (10), nothing more, and names a size by it.
-unfoldable pub size_in : List ℕ → Option ℕ
-size_in input =
-    cond (eqb (length input) 2 && leb 49 (get_or input 0 0) && leb (get_or input 0 0) 57 && eqb (get_or input 1 0) 10)
-    (Some (get_or input 0 0 - 48))
-    None
 
 -- The letter of an answer: R (82) the radio can force the outcome, S (83) the scheduler can prevent it, a hyphen (45) the game is refused,
 -- as none of a row for a size 1 to 9 is.
@@ -49,10 +43,11 @@ game_line size i = cond (leb i (size + 4)) (unended_line size i ++ 10 ∷ []) []
 unfoldable pub refusal_line : ℕ → List ℕ
 refusal_line i = cond (eqb i 0) (codes "refused 27\n") []
 
--- Line i of the text for an input: that of the size that it names, or of the refusal.
+-- Line i of the text for a digit where the input is one: that of the size that it names, or of the refusal.
 abbrev pub line_for : Option ℕ → ℕ → List ℕ
-line_for (Some size) i = game_line size i
+line_for (Some size) i = cond (eqb size 0) (refusal_line i) (game_line size i)
 line_for None i = refusal_line i
 
+-- Line i of the text for an input.
 abbrev pub text_line : List ℕ → ℕ → List ℕ
-text_line input i = line_for (size_in input) i
+text_line input i = line_for (digit_in input) i

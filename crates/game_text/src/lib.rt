@@ -5,24 +5,13 @@
 ghost use Rattle.std.specs.Prelude.{◌≡◌};
 ghost use Rattle.frame.specs.Refusals.{numbered};
 ghost use Rattle.line.specs.Line.{added};
-ghost use Rattle.game_text.specs.Text.{size_in, letter, cells, row, title, unended_line, game_line, refusal_line, text_line};
+ghost use Rattle.game_text.specs.Text.{letter, cells, row, title, unended_line, game_line, refusal_line, text_line};
 
 use frame::Refusal;
 use line::Line;
 
 // How many lines the longest text has, that of size 9.
 pub const LINES: u16 = 14;
-
-// The size that an input names: it is one digit 1 to 9 and a newline, nothing more.
-#[tactic(auto, using(crate::proofs::Inputs::named, crate::proofs::Inputs::unnamed))]
-fn size_in(input: &[u8]) -> Option<u16>
-    ensures { result ≡ size_in input.now }
-{
-    match input {
-        [digit @ b'1'..=b'9', b'\n'] => Some((*digit - b'0') as u16),
-        _ => None,
-    }
-}
 
 // The letter of an answer: R the radio can force the outcome, S the scheduler can prevent it. A row for a size 1 to 9 has no other.
 fn letter(answer: Result<bool, Refusal>) -> u8
@@ -109,12 +98,12 @@ fn refusal_line(i: u16) -> Line
     line
 }
 
-// Line i of the text for an input, from 0: that of the size that it names, or of the refusal.
+// Line i of the text for an input, from 0: that of the size that it names, a digit 1 to 9, or of the refusal.
 pub fn text_line(input: &[u8], i: u16) -> Line
     ensures { result ≡ text_line input.now i }
 {
-    match size_in(input) {
-        Some(size) => game_line(size, i),
-        None => refusal_line(i),
+    match reading::digit_in(input) {
+        Some(size) if size != 0 => game_line(size, i),
+        _ => refusal_line(i),
     }
 }

@@ -1,6 +1,7 @@
 -- Texts put on a line one after the other are the text put on it together.
 -- Assumes nothing.
 use Rattle.std.proofs.Common.{ℕ, zero, suc, ◌+◌, ◌-◌, ◌≤◌, ◌≡◌, min, List, [], ◌∷◌, ◌++◌, length, take, drop, get_or, ◌<◌, refl, ap, ◌∙◌, arith, append_assoc, length-append, Result, Ok, Some, decimal, add-one, drop-cons}
+use Rattle.std.proofs.lemmas.Fmt.{length-decimal-le}
 use Rattle.std.proofs.lemmas.List.{take_all, take_min, length-take, append-nil, drop_all}
 use native.Mathlib.Nat.{suc-sub-suc, sub-zero, zero-sub}
 use Rattle.std.specs.Io.KnownBytes.{WriteAppends}
@@ -38,6 +39,14 @@ added_append line a b =
 pub added_alone : (text : List ℕ) → length text ≤ 100 → added [] text ≡ text
 unfolding added
 added_alone text room = take_all 100 text room
+
+-- A text that has room on an empty line, and its newline after it.
+pub added_ended : (text : List ℕ) → length text ≤ 99 → added (added [] text) (10 ∷ []) ≡ text ++ 10 ∷ []
+added_ended text room = added_append [] text (10 ∷ []) ∙ added_alone (text ++ 10 ∷ []) (simp length-append (omega (arith, room)))
+
+-- A number below 100,000 has at most five digits.
+pub five_digits : (x : ℕ) → x < 100000 → length (decimal x) ≤ 5
+five_digits x h = length-decimal-le 5 x (omega arith) h (omega arith)
 
 -- The next number of a list, then those after it.
 pub listed_more : (line new text xs : List ℕ) (i : ℕ) → i < length xs → new ≡ added line (text ++ decimal (get_or xs i 0))

@@ -1,7 +1,8 @@
 -- What the program `windows` prints, as bytes: document 01, "Buyers' access".
 -- Assumes nothing.
-use Rattle.std.specs.Prelude.{ℕ, zero, suc, ◌-◌, Bool, cond, ◌&&◌, List, [], ◌∷◌, ◌++◌, eqb, leb, length, get_or, codes, decimal}
+use Rattle.std.specs.Prelude.{Option, Some, None, ℕ, zero, suc, cond, List, [], ◌∷◌, ◌++◌, eqb, leb, length, codes, decimal}
 use Rattle.frame.specs.Table.{window_of}
+use Rattle.reading.specs.Digit.{digit_in}
 use Rattle.line.specs.Line.{listed}
 
 -- The line of a window: "c n M k_0 k_1 ..", a space (32) before each number but the first, ended by a newline (10).
@@ -21,10 +22,11 @@ lines_below (suc n) c = lines_below n c ++ line_of c n
 abbrev pub refusal : List ℕ
 refusal = codes "refused 1\n"
 
--- The input is one digit 0 to 6 (48 to 54) and a newline, nothing more.
-unfoldable pub accepted : List ℕ → Bool
-accepted input = eqb (length input) 2 && leb 48 (get_or input 0 0) && leb (get_or input 0 0) 54 && eqb (get_or input 1 0) 10
+-- The text for a digit where the input is one: the lines of the configuration that it names, subframes 0 to 9, or the refusal.
+abbrev pub page_for : Option ℕ → List ℕ
+page_for (Some c) = cond (leb c 6) (lines_below 10 c) refusal
+page_for None = refusal
 
--- The text for an input: the lines of the configuration that its digit names, subframes 0 to 9, or the refusal.
-unfoldable pub page_of : List ℕ → List ℕ
-page_of input = cond (accepted input) (lines_below 10 (get_or input 0 0 - 48)) refusal
+-- The text for an input.
+abbrev pub page_of : List ℕ → List ℕ
+page_of input = page_for (digit_in input)

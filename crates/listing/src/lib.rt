@@ -32,13 +32,13 @@ fn push_lines(page: &mut Line, c: u16)
 }
 
 // The text for an input: the lines of a configuration where it is one digit 0 to 6 and a newline, else the refusal.
-#[tactic(auto, using(crate::proofs::Answers::refused, crate::proofs::Answers::lines))]
+#[tactic(auto, using(crate::proofs::Answers::refused, crate::proofs::Answers::past_six, crate::proofs::Answers::lines))]
 pub fn page_for(input: &[u8]) -> Line
     ensures { result ≡ page_of input.now }
 {
     let mut page = Line::new();
-    match input {
-        [digit @ b'0'..=b'6', b'\n'] => push_lines(&mut page, (*digit - b'0') as u16),
+    match reading::digit_in(input) {
+        Some(c) if c <= 6 => push_lines(&mut page, c),
         _ => page.push_str("refused 1\n"),
     }
     page

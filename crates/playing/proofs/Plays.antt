@@ -54,7 +54,7 @@ u_is (lost ∷ play) = u_is play
 
 -- V is the DAI of the last heard grant, which counts those before it, heard or lost.
 pub v_is : (play : List Turn) → 1 ≤ heard_in play → (seen_after play).v ≡ (heard_in play + lost_before play - 1) % 4 + 1
-unfolding heard_in is_passed lost_before step_of
+unfolding heard_in is_passed lost_before expected step_of
 v_is [] h = absurd (omega arith)
 v_is (held ∷ play) h = v_is play h
 v_is (passed ∷ play) h = omega (arith, granted_are play)

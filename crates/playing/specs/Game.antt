@@ -1,7 +1,7 @@
 -- A scheduler against the radio: document 02, U12. Its sentences stand above the definitions that they give. U, V, the value expected and
 -- what one subframe more does to them are the engine's own (fold/specs/Fold.antt).
 -- Assumes nothing.
-use Rattle.std.specs.Prelude.{Result, ℕ, zero, suc, ◌+◌, ◌-◌, ◌%◌, Bool, true, false, cond, not, ◌&&◌, ◌||◌, List, [], ◌∷◌, eqb, leb, ltb, length}
+use Rattle.std.specs.Prelude.{Result, ℕ, zero, suc, ◌-◌, Bool, true, false, cond, not, ◌&&◌, ◌||◌, List, [], ◌∷◌, eqb, leb, ltb, length}
 use Rattle.frame.specs.Refusals.{unless_refused}
 use Rattle.frame.specs.Settings.{outside}
 use Rattle.heard.specs.declared.View.{View}
@@ -25,7 +25,7 @@ is_lost held = false
 is_lost passed = false
 is_lost lost = true
 
--- A play is the list of its turns, the newest first. How many of them are such.
+-- A play is the list of its turns, the newest first. How many turns of it meet a test.
 abbrev pub count : (Turn → Bool) → List Turn → ℕ
 count test [] = 0
 count test (turn ∷ earlier) = cond (test turn) (suc (count test earlier)) (count test earlier)
@@ -37,11 +37,11 @@ abbrev pub losses_in : List Turn → ℕ
 losses_in = count is_lost
 
 -- What the handset sees of a turn that comes after the play `earlier`: a grant that was passed, and nothing else. Its DAI is by the
--- station's rule, lost ones counted: the j-th grant of a window in time order carries ((j − 1) mod 4) + 1; here j − 1 came before. (Its
--- first CCE and what it decoded are no part of the game; any would do.)
+-- station's rule, lost ones counted: the j-th grant of a window in time order carries ((j − 1) mod 4) + 1, the value expected of the last
+-- of j; here j − 1 came before. (Its first CCE and what it decoded are no part of the game; any would do.)
 abbrev pub view_after : List Turn → Turn → View
 view_after earlier held = Unheard
-view_after earlier passed = Pdcch (record { cce = record { 0 = 0 }; dai = grants_in earlier % 4 + 1; first = true; second = true })
+view_after earlier passed = Pdcch (record { cce = record { 0 = 0 }; dai = expected (suc (grants_in earlier)); first = true; second = true })
 view_after earlier lost = Unheard
 
 -- U and V after a play. (The position that the fold keeps beside them, which here is the place in time, is no part of the game either.)

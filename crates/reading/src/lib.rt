@@ -1,9 +1,10 @@
-// Reading an input into a buffer, which the programs begin with.
+// Reading an input into a buffer, which the programs begin with, and an input that is one digit.
 #![tactic(auto)]
 
-ghost use Rattle.std.specs.Prelude.{◌<◌, take, length, IfOk};
+ghost use Rattle.std.specs.Prelude.{◌<◌, ◌≡◌, take, length, IfOk};
 ghost use Rattle.std.specs.Io.{ReadsAtMost};
 ghost use Rattle.std.specs.Io.KnownBytes.{Consumes, IsAtEnd};
+ghost use Rattle.reading.specs.Digit.{digit_in};
 
 use std::io;
 use std::io::Read;
@@ -25,4 +26,15 @@ pub fn read_full<R: Read>(reader: &mut R, buf: &mut [u8]) -> io::Result<usize>
         done += n;
     }
     Ok(done)
+}
+
+// The digit that an input is: one of 0 to 9 and a newline, nothing more.
+#[tactic(auto, using(crate::proofs::Digits::is_digit, crate::proofs::Digits::no_digit))]
+pub fn digit_in(input: &[u8]) -> Option<u16>
+    ensures { result ≡ digit_in input.now }
+{
+    match input {
+        [digit @ b'0'..=b'9', b'\n'] => Some((*digit - b'0') as u16),
+        _ => None,
+    }
 }

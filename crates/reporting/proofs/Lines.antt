@@ -1,16 +1,12 @@
 -- The lines fit on a `Line`, and are what the parts put on one come to. Assumes nothing.
 use Rattle.std.proofs.Common.{ℕ, ◌<◌, ◌≤◌, ◌≡◌, Option, Some, None, [], ◌∷◌, ◌++◌, length, length-append, arith, refl, sym, codes, decimal}
-use Rattle.std.proofs.lemmas.Fmt.{length-decimal-le}
 use Rattle.std.proofs.lemmas.List.{append-nil}
 use borrow.Author.Tests.{ne_eqb}
-use Rattle.line.proofs.Adding.{added_alone}
+use Rattle.line.proofs.Adding.{added_alone, five_digits}
 use Rattle.line.specs.Line.{added}
 use Rattle.reply.specs.declared.ReplyKind.{ReplyKind}
 use Rattle.reply.specs.declared.ReplyKind.TheVariants.{Bundled, Multiplexed}
 use Rattle.reporting.specs.Text.{kind_text, sent_text, line_text, refusal_text}
-
-decimal_most : (x : ℕ) → x < 65536 → length (decimal x) ≤ 5
-decimal_most x h = length-decimal-le 5 x (omega arith) (omega arith) (omega arith)
 
 kind_most : (kind : ReplyKind) → length (kind_text kind) ≤ 11
 unfolding kind_text
@@ -21,7 +17,7 @@ sent_most : (kind : Option ReplyKind) (resource b0 b1 : ℕ) → resource < 6553
 unfolding sent_text
 sent_most None resource b0 b1 hr h0 h1 = omega arith
 sent_most (Some kind) resource b0 b1 hr h0 h1 =
-    simp length-append (omega (arith, kind_most kind, decimal_most resource hr, decimal_most b0 h0, decimal_most b1 h1))
+    simp length-append (omega (arith, kind_most kind, five_digits resource (omega (arith, hr)), five_digits b0 (omega (arith, h0)), five_digits b1 (omega (arith, h1))))
 
 -- What was sent where it is a reply, part by part.
 pub reply_sent : (sent : Option ReplyKind) (kind : ReplyKind) (resource b0 b1 : ℕ) → sent ≡ Some kind
@@ -37,7 +33,7 @@ unfolding line_text
 line_alone frame n kind resource b0 b1 hf hn hr h0 h1 =
     added_alone (line_text frame n kind resource b0 b1)
     (simp length-append
-    (omega (arith, decimal_most frame hf, decimal_most n (omega arith), sent_most kind resource b0 b1 hr (omega arith) (omega arith))))
+    (omega (arith, five_digits frame (omega (arith, hf)), five_digits n (omega (arith, hn)), sent_most kind resource b0 b1 hr (omega arith) (omega arith))))
 
 -- No refusal has no line.
 pub no_refusal : (at : Option ℕ) → refusal_text 0 at ≡ []
@@ -50,7 +46,7 @@ module _ (refusal : ℕ) (some : refusal ≡ 0 → ⊥) (hr : refusal < 65536) w
   unfolding refusal_text
   refused =
       rw (ne_eqb _ _ some, append-nil (decimal refusal))
-      (sym (added_alone ((codes "refused " ++ decimal refusal) ++ 10 ∷ []) (simp length-append (omega (arith, decimal_most refusal hr)))))
+      (sym (added_alone ((codes "refused " ++ decimal refusal) ++ 10 ∷ []) (simp length-append (omega (arith, five_digits refusal (omega (arith, hr)))))))
 
   pub stopped : (number : ℕ) → number < 65536 → refusal_text refusal (Some number)
       ≡ added [] ((codes "refused " ++ decimal refusal) ++ (codes " at record " ++ decimal number) ++ 10 ∷ [])
@@ -59,4 +55,4 @@ module _ (refusal : ℕ) (some : refusal ≡ 0 → ⊥) (hr : refusal < 65536) w
       let text = codes "refused " ++ decimal refusal in
       let more = codes " at record " ++ decimal number in
       rw (ne_eqb _ _ some)
-      (sym (added_alone (text ++ more ++ 10 ∷ []) (simp length-append (omega (arith, decimal_most refusal hr, decimal_most number hn)))))
+      (sym (added_alone (text ++ more ++ 10 ∷ []) (simp length-append (omega (arith, five_digits refusal (omega (arith, hr)), five_digits number (omega (arith, hn)))))))

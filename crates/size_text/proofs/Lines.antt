@@ -1,9 +1,9 @@
 -- Each line of the text has room on a line, and there are 331.
 -- Assumes nothing.
-use Rattle.std.proofs.Common.{ℕ, zero, suc, ◌/◌, ◌%◌, ◌<◌, ◌≤◌, ◌≡◌, [], ◌∷◌, ◌++◌, length, length-append, arith}
+use Rattle.std.proofs.Common.{ℕ, zero, suc, ◌/◌, ◌%◌, ◌<◌, ◌≤◌, ◌≡◌, [], ◌∷◌, length, arith}
 use lib.Dec.{lit≤}
 use borrow.Author.Tests.{lt-ltb, le-ltb}
-use Rattle.line.proofs.Adding.{added_append, added_alone}
+use Rattle.line.proofs.Adding.{added_ended}
 use Rattle.line.specs.Line.{added}
 use Rattle.size_text.specs.Text.{aligned, columns, above, block_line, unended_line, size_line}
 
@@ -24,8 +24,7 @@ unended_room (suc j) = block_room (j / 30) (j % 30)
 pub line_ended : (i : ℕ) → i < 331 → added (added [] (unended_line i)) (10 ∷ []) ≡ size_line i
 unfolding size_line
 line_ended i h =
-    rw (added_append [] (unended_line i) (10 ∷ []), lt-ltb i 331 h)
-    (added_alone (unended_line i ++ 10 ∷ []) (simp length-append (omega (arith, unended_room i))))
+    rw (lt-ltb i 331 h) (added_ended (unended_line i) (omega (arith, unended_room i)))
 
 -- There is no line 331.
 pub past_last : (i : ℕ) → 331 ≤ i → size_line i ≡ []

@@ -47,9 +47,6 @@ unfolding number_at
 number_small zero n h = omega arith
 number_small (suc i) n h = omega (arith, size_most_holds i n)
 
-pub five_digits : (x : ℕ) → x < 100000 → length (decimal x) ≤ 5
-five_digits x h = fmt.length-decimal-le 5 x (omega arith) h (omega arith)
-
 -- The digits of a number that has two of them, three, four or five.
 two : (x : ℕ) → 10 ≤ x → x < 100 → decimal x ≡ (48 + x / 10) ∷ (48 + x % 10) ∷ []
 two x l h =

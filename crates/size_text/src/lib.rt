@@ -11,7 +11,7 @@ use line::Line;
 pub const LINES: u16 = 331;
 
 // Puts a number on the line in five characters, spaces before its digits. (`{:>5}` can't promise a line; see `line`.)
-#[tactic(auto, using(crate::proofs::Rows::spaces_digits, crate::proofs::Rows::five_digits))]
+#[tactic(auto, using(crate::proofs::Rows::spaces_digits, line::proofs::Adding::five_digits))]
 fn push_aligned(line: &mut Line, x: u32)
     requires { x < 100000 }
     ensures { line.new ≡ added line.old (aligned x) }
