@@ -42,6 +42,8 @@ in_order =
     ∷ refusal.SizeOrAccount
     ∷ refusal.Total
     ∷ refusal.Game
+    ∷ refusal.Command
+    ∷ refusal.RegisterBlock
     ∷ []
 
 -- the refusal with a number
@@ -79,6 +81,8 @@ found_again refusal.Ports = refl
 found_again refusal.SizeOrAccount = refl
 found_again refusal.Total = refl
 found_again refusal.Game = refl
+found_again refusal.Command = refl
+found_again refusal.RegisterBlock = refl
 
 pub from_one : (r : Refusal) → (k : ℕ) × (number_of r ≡ suc k)
 from_one refusal.Configuration = (0, refl)
@@ -108,6 +112,8 @@ from_one refusal.Ports = (23, refl)
 from_one refusal.SizeOrAccount = (24, refl)
 from_one refusal.Total = (25, refl)
 from_one refusal.Game = (26, refl)
+from_one refusal.Command = (27, refl)
+from_one refusal.RegisterBlock = (28, refl)
 
 pub numbers_apart : NumbersApart
 numbers_apart =

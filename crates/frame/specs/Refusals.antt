@@ -1,4 +1,4 @@
--- Refusals by their numbers: document 01, "Causes and their numbers", and those that document 02 adds, up to 27. In specs/ a refusal is its
+-- Refusals by their numbers: document 01, "Causes and their numbers", and those that document 02 adds, up to 29. In specs/ a refusal is its
 -- number; here is which number each of the code's refusals has, and what a result of the code is in these terms.
 -- Assumes nothing.
 use Rattle.std.specs.Prelude.{ℕ, zero, suc, ◌≡◌, Result, Ok, Err}
@@ -33,6 +33,8 @@ number_of refusal.Ports = 24
 number_of refusal.SizeOrAccount = 25
 number_of refusal.Total = 26
 number_of refusal.Game = 27
+number_of refusal.Command = 28
+number_of refusal.RegisterBlock = 29
 
 -- what the code's conversion to a number gives
 abbrev pub IsNumber : Refusal → ℕ → Type 0

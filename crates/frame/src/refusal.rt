@@ -43,6 +43,9 @@ pub enum Refusal {
     Total = 26,
     // The game of a scheduler and the radio: its window's size, its grants or its losses.
     Game = 27,
+    // The handset as a register block: its command, and a block that has not 16 bytes.
+    Command = 28,
+    RegisterBlock = 29,
 }
 
 // The number that a C caller gets.
