@@ -36,7 +36,11 @@ record_slot l i = slot_at l (place_of (header_of l).first i)
 unfoldable pub brought_at : List ℕ → ℕ → Heard
 brought_at l i = brought_by (record_slot l i)
 
--- A record that is read: what of it is used, or 22 for its kind.
+-- What of a record is used, or 22 for a kind over 3.
+abbrev pub used_of : Slot → Result Slot ℕ
+used_of t = cond (leb t.kind 3) (Ok (used_in t)) (Err 22)
+
+-- The same as a reader's answer: a record, and not the end.
 unfoldable pub read_as : Slot → Result (Option Slot) ℕ
 read_as t = cond (leb t.kind 3) (Ok (Some (used_in t))) (Err 22)
 

@@ -12,7 +12,7 @@ ghost use Rattle.reader.specs.Record.{record_of};
 pub use accepted::Trace;
 use frame::Refusal;
 use heard::Slot;
-pub use records::{heard_at, record_at};
+pub use records::{heard_at, record_at, used_of};
 
 // A lent trace and the number of the next record, from 0.
 #[derive(Clone, Copy, Debug)]

@@ -3,7 +3,7 @@ ghost use Rattle.std.specs.Prelude.{◌<◌, ◌^◌, ◌≡◌, cond, leb, IfOk
 ghost use Rattle.frame.specs.Refusals.{refusal_in, numbered};
 ghost use Rattle.heard.specs.Kinds.{kind_number};
 ghost use Rattle.reader.specs.Reading.{heard_of};
-ghost use Rattle.reader.specs.Record.{slot_at, used_results, used_in, record_of};
+ghost use Rattle.reader.specs.Record.{slot_at, used_results, used_in, used_of, record_of};
 
 use frame::Refusal;
 use heard::{Heard, Slot, SlotKind};
@@ -67,6 +67,14 @@ fn used_in(kind: SlotKind, t: Slot) -> Slot
     }
 }
 
+// What of a record is used, every field and bit that its kind does not use being 0; 22 for a kind over 3.
+pub fn used_of(t: Slot) -> Result<Slot, Refusal>
+    ensures { numbered result ≡ used_of t }
+{
+    let kind = kind_of(t)?;
+    Ok(used_in(kind, t))
+}
+
 // The record of number i, for any bytes and any number.
 #[tactic(auto, unfolding(crate::specs::Record::record_of, crate::specs::Record::record_slot, crate::specs::Record::read_as))]
 pub fn record_at(trace: &[u8], i: usize) -> Result<Option<Slot>, Refusal>
@@ -79,8 +87,7 @@ pub fn record_at(trace: &[u8], i: usize) -> Result<Option<Slot>, Refusal>
         return Ok(None);
     }
     let record = slot_at(trace, header.first as usize + trace::RECORD * i);
-    let kind = kind_of(record)?;
-    Ok(Some(used_in(kind, record)))
+    Ok(Some(used_of(record)?))
 }
 
 // What the record of number i brings the handset; nothing where there is none or it is refused.

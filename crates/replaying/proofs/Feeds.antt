@@ -25,6 +25,7 @@ use Rattle.reply.specs.Replies.{window_answer}
 use Rattle.reply.proofs.Answered.{Answered, Told, window_answered}
 use Rattle.handset.specs.declared.Handset.{Handset}
 use Rattle.handset.specs.Feed.{answer_of, window_settings, next_answer, pushed, feed_refusal, fed_as, feed_of}
+use Rattle.handset.proofs.Passing.{passed}
 use Rattle.handset.proofs.Told.{answer_told}
 use Rattle.replaying.specs.Written.{window_bytes, answer_bytes, bytes_of, FitsBytes}
 
@@ -92,3 +93,15 @@ unfolding windows_before
 grows h x t i e =
     let one : ℕ → ℕ = λ (n : ℕ). cond (has_window h.settings.config n) 1 0 in
     omega (arith, t.gives.size, ap one e)
+
+-- What a feed that is not refused gives goes into bytes.
+pub fits_window : (h : Handset) (x : Heard) (a : Answer) → (feed_of h x).answer ≡ Ok a → (h.next ≤ 255) × FitsBytes a
+unfolding feed_of
+fits_window h x a e = go (feed_refusal h x) refl
+  where
+    go : (k : ℕ) → feed_refusal h x ≡ k → (h.next ≤ 255) × FitsBytes a
+    go zero none =
+        let low : h.next ≤ 9 = (passed h x none).state.next in
+        let told : number_in (feed_of h x).answer ≡ 0 = rw e in
+        (omega arith, rw e at (taken_up h x told).gives.fits)
+    go (suc k) some = let bad : Err (suc k) ≡ Ok a = rw some at e in absurd (cc)

@@ -22,6 +22,17 @@ abbrev pub bytes_of : ℕ → Result Answer ℕ → List ℕ
 bytes_of n (Ok a) = answer_bytes n a
 bytes_of n (Err k) = []
 
+-- The same where a subframe without a window is told apart: none.
+abbrev pub window_in : ℕ → Answer → Option (List ℕ)
+window_in n Silent = Some (answer_bytes n Silent)
+window_in n (Sent r) = Some (answer_bytes n (Sent r))
+window_in n Taken = None
+window_in n NoWindow = None
+
+abbrev pub window_fed : ℕ → Result Answer ℕ → Result (Option (List ℕ)) ℕ
+window_fed n (Ok a) = Ok (window_in n a)
+window_fed n (Err k) = Err k
+
 -- The bytes that the code gives of a window; nothing where there is none.
 abbrev pub given : Option (List ℕ) → List ℕ
 given (Some bytes) = bytes

@@ -1,10 +1,14 @@
-// One record fed to a handset.
+// One record fed to a handset, and what is written of the answer.
 ghost use Rattle.std.specs.Prelude.{◌≡◌};
+ghost use Rattle.frame.specs.Refusals.{numbered};
 ghost use Rattle.heard.specs.Memory.{heard_in};
 ghost use Rattle.handset.specs.Feed.{feed_of};
 ghost use Rattle.replaying.specs.Ended.{FeedsRecord};
+ghost use Rattle.replaying.specs.Written.{window_fed};
 
-use crate::Stop;
+use crate::{Stop, WINDOW};
+use crate::windows::window_bytes;
+use frame::Refusal;
 use handset::Handset;
 use heard::{Heard, Slot};
 use reply::Answer;
@@ -17,4 +21,14 @@ pub fn feed_record(handset: &mut Handset, number: u16, slot: Slot) -> Result<Ans
     handset
         .feed(Heard::from(slot))
         .map_err(|refusal| Stop::AtRecord(refusal, number))
+}
+
+// Feeds what a subframe brings, and gives the eight bytes of its window; none where it has no window.
+pub fn feed_window(handset: &mut Handset, x: Heard) -> Result<Option<[u8; WINDOW]>, Refusal>
+    ensures window { numbered result ≡ window_fed handset.old.next (feed_of handset.old x).answer }
+    ensures after { handset.new ≡ (feed_of handset.old x).handset }
+{
+    let n = handset.next;
+    let answer = handset.feed(x)?;
+    Ok(window_bytes(n, answer))
 }

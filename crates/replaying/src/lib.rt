@@ -15,7 +15,7 @@ ghost use Rattle.replaying.specs.Ended.{replayed_by};
 ghost use Rattle.replaying.specs.Ready.{Ready};
 ghost use Rattle.replaying.specs.Replay.{brought_in, played, start_refusal, ended_as, replay_of, written, output_of};
 
-pub use feeding::feed_record;
+pub use feeding::{feed_record, feed_window};
 use frame::Refusal;
 use handset::Handset;
 use reader::Trace;

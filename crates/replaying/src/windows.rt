@@ -1,6 +1,6 @@
 // What a replay writes of a window (document 02, U3).
 ghost use Rattle.std.specs.Prelude.{◌+◌, ◌*◌, ◌≤◌, ◌<◌, ◌≡◌, length};
-ghost use Rattle.replaying.specs.Written.{answer_bytes, given, put_at, FitsBytes};
+ghost use Rattle.replaying.specs.Written.{answer_bytes, window_in, given, put_at, FitsBytes};
 
 use reply::Answer;
 
@@ -9,9 +9,10 @@ pub const WINDOW: usize = 8;
 
 // The eight bytes of a window, from the answer at subframe n: n, kind, resource in two, b0, b1, two zeros; none without a window.
 #[tactic(auto, unfolding(crate::specs::Written::window_bytes))]
-fn window_bytes(n: u16, answer: Answer) -> Option<[u8; WINDOW]>
+pub(crate) fn window_bytes(n: u16, answer: Answer) -> Option<[u8; WINDOW]>
     requires { (n ≤ 255) × FitsBytes answer }
-    ensures { given result ≡ answer_bytes n answer }
+    ensures window { result ≡ window_in n answer }
+    ensures bytes { given result ≡ answer_bytes n answer }
 {
     match answer {
         Answer::Taken | Answer::NoWindow => None,
