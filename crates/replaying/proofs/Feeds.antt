@@ -1,6 +1,6 @@
 -- A feed that is not refused, as a replay uses it: the handset keeps its settings and goes on by a subframe, and eight bytes are
 -- written exactly where the subframe has a window. Assumes nothing.
-use Rattle.std.proofs.Common.{Result, Ok}
+use Rattle.std.proofs.Common.{Result, Ok, Err}
 use Rattle.std.specs.Result.{IfOk}
 use Prim.Native.Nat.{ℕ, zero, suc, ◌+◌, ◌*◌, ◌%◌, ◌≤◌}
 use mathlib.Core.Bool.{Bool, true, false, cond}
@@ -95,13 +95,13 @@ grows h x t i e =
     omega (arith, t.gives.size, ap one e)
 
 -- What a feed that is not refused gives goes into bytes.
-pub fits_window : (h : Handset) (x : Heard) (a : Answer) → (feed_of h x).answer ≡ Ok a → (h.next ≤ 255) × FitsBytes a
+pub fits_window : (h : Handset) (x : Heard) (a : Answer) → Ok a ≡ (feed_of h x).answer → (h.next ≤ 255) × FitsBytes a
 unfolding feed_of
 fits_window h x a e = go (feed_refusal h x) refl
   where
     go : (k : ℕ) → feed_refusal h x ≡ k → (h.next ≤ 255) × FitsBytes a
     go zero none =
         let low : h.next ≤ 9 = (passed h x none).state.next in
-        let told : number_in (feed_of h x).answer ≡ 0 = rw e in
-        (omega arith, rw e at (taken_up h x told).gives.fits)
-    go (suc k) some = let bad : Err (suc k) ≡ Ok a = rw some at e in absurd (cc)
+        let told : number_in (feed_of h x).answer ≡ 0 = rw (← e) in
+        (omega arith, rw (← e) at (taken_up h x told).gives.fits)
+    go (suc k) some = let bad : Ok a ≡ Err (suc k) = rw some at e in absurd (cc)

@@ -6,8 +6,8 @@ ghost use Rattle.handset.specs.Feed.{feed_of};
 ghost use Rattle.replaying.specs.Ended.{FeedsRecord};
 ghost use Rattle.replaying.specs.Written.{window_fed};
 
-use crate::{Stop, WINDOW};
 use crate::windows::window_bytes;
+use crate::{Stop, WINDOW};
 use frame::Refusal;
 use handset::Handset;
 use heard::{Heard, Slot};
