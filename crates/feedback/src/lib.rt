@@ -8,12 +8,13 @@ ghost use Rattle.confirming.specs.Blocks.{confirmed_of};
 ghost use Rattle.credit.specs.Credit.{credit_of};
 ghost use Rattle.frame.specs.Distance.{answered_of};
 ghost use Rattle.playing.specs.Game.{game_of};
+ghost use Rattle.registers.specs.Call.{command_of};
 ghost use Rattle.resource.specs.Calls.{inverse_of};
 ghost use Rattle.resource.specs.Ports.{ports_of};
 ghost use Rattle.station.specs.Readings.{read_of};
 ghost use Rattle.claims.specs.Bits.{bit_checked_of, bit_scratch_of};
 ghost use Rattle.claims.specs.Claims.{checked_of, scratch_of};
-ghost use Rattle.numbers.specs.Answers.{window_answer, answered_answer, resource_answer, inverse_answer, told_position, reading_answer, confirmed_answer, opened_answer, credit_answer, claims_answer, made_answer, changed_answer, fed_answer, silence_answer, grant_of, block_of, release_of, replay_answer, record_answer, write_answer, game_answer};
+ghost use Rattle.numbers.specs.Answers.{window_answer, answered_answer, resource_answer, inverse_answer, told_position, reading_answer, confirmed_answer, opened_answer, credit_answer, claims_answer, made_answer, changed_answer, fed_answer, silence_answer, grant_of, block_of, release_of, replay_answer, record_answer, write_answer, game_answer, command_answer};
 ghost use Rattle.handset.specs.Change.{change_of};
 ghost use Rattle.handset.specs.Feed.{feed_of};
 ghost use Rattle.handset.specs.Make.{make_of};
@@ -29,7 +30,7 @@ use frame::{Settings, Window};
 use handset::Handset;
 use heard::{Grant, Heard, Release, ScheduledBlock};
 use numbers::{
-    AnsweredAnswer, ChangedAnswer, ClaimsAnswer, ConfirmedAnswer, CreditAnswer, FedAnswer,
+    AnsweredAnswer, ChangedAnswer, ClaimsAnswer, CommandAnswer, ConfirmedAnswer, CreditAnswer, FedAnswer,
     GameAnswer, InverseAnswer, MadeAnswer, OpenedAnswer, ReadingAnswer, RecordAnswer, ReplayAnswer,
     ResourceAnswer, SilenceAnswer, WindowAnswer, WriteAnswer,
 };
@@ -276,4 +277,14 @@ pub extern "C" fn feedback_game(size: u16, grants: u16, losses: u16) -> GameAnsw
     ensures { result ≡ game_answer (game_of size grants losses) }
 {
     playing::radio_wins(size, grants, losses).into()
+}
+
+// A C caller gets the handset back by value, as from a feed.
+#[unsafe(no_mangle)]
+pub extern "C" fn feedback_command(mut handset: Handset, block: &mut [u8]) -> CommandAnswer
+    ensures value { result ≡ command_answer (command_of block.old handset).told }
+    ensures block_after { block.new ≡ (command_of block.old handset).block }
+{
+    let commanded = registers::command(block, &mut handset);
+    (commanded, handset).into()
 }

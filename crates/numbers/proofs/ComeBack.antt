@@ -1,8 +1,9 @@
 -- The C numbers lose nothing, so that answers that look alike from C are the same; and a refusal is told by the kind too.
 -- Assumes nothing.
 use mathlib.Core.Path.{◌≡◌, refl, sym, ap, ◌∙◌}
-use Rattle.numbers.specs.Answers.{answered_answer, made_answer, changed_answer, resource_answer, inverse_answer, reading_answer, claims_answer, fed_answer, silence_answer, record_answer, confirmed_answer, opened_answer, credit_answer, replay_answer, write_answer, game_answer}
-use Rattle.numbers.specs.Back.{window_in, answered_in, made_in, changed_in, mapped_in, inverted_in, reading_in, checked_in, fed_in, explained_in, record_in, AnswersComeBack, Apart, SameNumbers, KindsOfAnswers, confirmed_in, opened_in, credited_in, replayed_in, written_in, game_in}
+use Rattle.registers.specs.Call.{command_of}
+use Rattle.numbers.specs.Answers.{answered_answer, made_answer, changed_answer, resource_answer, inverse_answer, reading_answer, claims_answer, fed_answer, silence_answer, record_answer, confirmed_answer, opened_answer, credit_answer, replay_answer, write_answer, game_answer, command_answer}
+use Rattle.numbers.specs.Back.{window_in, answered_in, made_in, changed_in, mapped_in, inverted_in, reading_in, checked_in, fed_in, explained_in, record_in, AnswersComeBack, Apart, SameNumbers, KindsOfAnswers, confirmed_in, opened_in, credited_in, replayed_in, written_in, game_in, told_in}
 use Rattle.numbers.proofs.WindowKept.{window_back, answered_back}
 use Rattle.numbers.proofs.ResourceKept.{resource_back}
 use Rattle.numbers.proofs.InverseKept.{inverse_back}
@@ -10,6 +11,7 @@ use Rattle.numbers.proofs.ReadingKept.{reading_kept}
 use Rattle.numbers.proofs.ClaimsKept.{claims_kept}
 use Rattle.numbers.proofs.FeedKept.{feed_kept}
 use Rattle.numbers.proofs.SilenceKept.{silence_back, silence_told}
+use Rattle.numbers.proofs.CommandKept.{told_back}
 use Rattle.numbers.proofs.GameKept.{game_back}
 use Rattle.numbers.proofs.ReaderKept.{reader_kept, replay_told, writing_told}
 
@@ -33,6 +35,7 @@ answers_come_back =
       replay = λ l room. refl;
       writing = λ l room. refl;
       game = game_back;
+      command = λ b h. told_back (command_of b h).told;
     }
 
 alike : {A N : Type 0} (numbers : A → N) (back : N → A) {x y : A} → back (numbers x) ≡ x → back (numbers y) ≡ y → Apart numbers x y
@@ -59,6 +62,7 @@ same_numbers =
       replay = λ a b room room'. alike replay_answer replayed_in (l.replay a room) (l.replay b room');
       writing = λ a b room room'. alike write_answer written_in (l.writing a room) (l.writing b room');
       game = λ s g m s' g' m'. alike game_answer game_in (l.game s g m) (l.game s' g' m');
+      command = λ b c h i. alike command_answer told_in (l.command b h) (l.command c i);
     }
 
 pub kinds_of_answers : KindsOfAnswers

@@ -1,5 +1,6 @@
 pub mod ClaimsKept
 pub mod ComeBack
+pub mod CommandKept
 pub mod FeedKept
 pub mod GameKept
 pub mod InverseKept

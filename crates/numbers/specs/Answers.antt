@@ -49,6 +49,8 @@ use Rattle.numbers.specs.declared.feeds.MadeAnswer.{MadeAnswer}
 use Rattle.numbers.specs.declared.frames.AnsweredAnswer.{AnsweredAnswer}
 use Rattle.numbers.specs.declared.frames.WindowAnswer.{WindowAnswer}
 use Rattle.numbers.specs.declared.games.GameAnswer.{GameAnswer}
+use Rattle.numbers.specs.declared.commands.CommandAnswer.{CommandAnswer}
+use Rattle.registers.specs.Call.{Told}
 use Rattle.reply.specs.Kinds.{kind_bundled, kind_multiplexed, kind_number}
 use Rattle.numbers.specs.Kinds.{kind_refused, kind_silent, kind_taken, kind_no_window, cause_none, cause_nothing_heard, cause_miss_shown, claims_clean, claims_clash, claims_refused, record_refused, record_read, record_end}
 
@@ -155,6 +157,10 @@ silence_answer e = cause_numbers e.cause (fed_answer e.fed)
 abbrev pub game_answer : Result Bool ℕ → GameAnswer
 game_answer (Ok forced) = record { refusal = 0; radio = cond forced 1 0 }
 game_answer (Err k) = record { refusal = k; radio = 0 }
+
+-- What a command to a register block answers.
+abbrev pub command_answer : Told → CommandAnswer
+command_answer t = record { refusal = t.refusal; line = cond t.line 1 0; handset = t.handset }
 
 -- A grant as a C caller feeds it: a block is decoded unless its flag is 0.
 abbrev pub grant_of : ℕ → ℕ → ℕ → ℕ → ℕ → Heard

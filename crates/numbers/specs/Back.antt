@@ -58,7 +58,9 @@ use Rattle.numbers.specs.declared.feeds.ChangedAnswer.{ChangedAnswer}
 use Rattle.numbers.specs.declared.feeds.MadeAnswer.{MadeAnswer}
 use Rattle.numbers.specs.declared.frames.AnsweredAnswer.{AnsweredAnswer}
 use Rattle.numbers.specs.declared.games.GameAnswer.{GameAnswer}
-use Rattle.numbers.specs.Answers.{window_answer, answered_answer, made_answer, changed_answer, resource_answer, inverse_answer, reading_answer, claims_answer, fed_answer, silence_answer, record_answer, confirmed_answer, opened_answer, credit_answer, replay_answer, write_answer, game_answer}
+use Rattle.numbers.specs.declared.commands.CommandAnswer.{CommandAnswer}
+use Rattle.registers.specs.Call.{Told, command_of}
+use Rattle.numbers.specs.Answers.{window_answer, answered_answer, made_answer, changed_answer, resource_answer, inverse_answer, reading_answer, claims_answer, fed_answer, silence_answer, record_answer, confirmed_answer, opened_answer, credit_answer, replay_answer, write_answer, game_answer, command_answer}
 use Rattle.reply.specs.Kinds.{kind_bundled, kind_multiplexed, kind_number}
 use Rattle.numbers.specs.Kinds.{kind_silent, kind_taken, kind_no_window, cause_nothing_heard, cause_miss_shown, claims_clash, record_end}
 
@@ -150,6 +152,9 @@ written_in a = record { refusal = a.refusal; kind = a.kind; number = a.number; s
 abbrev pub game_in : GameAnswer → Result Bool ℕ
 game_in a = unless_refused a.refusal (eqb a.radio 1)
 
+abbrev pub told_in : CommandAnswer → Told
+told_in a = record { refusal = a.refusal; line = eqb a.line 1; handset = a.handset }
+
 -- Every answer of every call comes back from its numbers.
 pub record AnswersComeBack : Type 0 where
   pub window : (s : Settings) (n : ℕ) → window_in (window_answer s n) ≡ told_window s n
@@ -173,6 +178,7 @@ pub record AnswersComeBack : Type 0 where
   pub replay : (l : List ℕ) (room : ℕ) → replayed_in (replay_answer (replay_of l room)) ≡ replay_of l room
   pub writing : (l : List ℕ) (room : ℕ) → written_in (write_answer (write_of l room)) ≡ write_of l room
   pub game : (size grants losses : ℕ) → game_in (game_answer (game_of size grants losses)) ≡ game_of size grants losses
+  pub command : (b : List ℕ) (h : Handset) → told_in (command_answer (command_of b h).told) ≡ (command_of b h).told
 
 -- So no two answers of a call look alike from C: where their numbers are equal, the answers are.
 abbrev pub Apart : {A N : Type 0} → (A → N) → A → A → Type 0
@@ -199,6 +205,7 @@ pub record SameNumbers : Type 0 where
   pub replay : (l m : List ℕ) (room room' : ℕ) → Apart replay_answer (replay_of l room) (replay_of m room')
   pub writing : (l m : List ℕ) (room room' : ℕ) → Apart write_answer (write_of l room) (write_of m room')
   pub game : (size grants losses size' grants' losses' : ℕ) → Apart game_answer (game_of size grants losses) (game_of size' grants' losses')
+  pub command : (b c : List ℕ) (h i : Handset) → Apart command_answer (command_of b h).told (command_of c i).told
 
 -- Where an answer has a kind, it is 0 exactly where the refusal is not 0, and it is one of those that Kinds.antt names, the last of
 -- which is `most`: a caller may look at either, and a struct of zeros is no such answer. So a feed's answer that is not

@@ -5,6 +5,7 @@
 
 mod accounts;
 mod claimed;
+mod commands;
 mod drives;
 mod feeds;
 mod frames;
@@ -15,6 +16,7 @@ mod resources;
 
 pub use accounts::{ConfirmedAnswer, CreditAnswer, OpenedAnswer};
 pub use claimed::ClaimsAnswer;
+pub use commands::CommandAnswer;
 pub use drives::{RecordAnswer, ReplayAnswer, WriteAnswer};
 pub use feeds::{ChangedAnswer, FedAnswer, MadeAnswer, SilenceAnswer};
 pub use frames::{AnsweredAnswer, WindowAnswer};
