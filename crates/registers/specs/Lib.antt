@@ -1,2 +1,4 @@
 pub mod Call
 pub mod Flags
+pub mod Lists
+pub mod Machine
