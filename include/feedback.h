@@ -23,10 +23,13 @@
  *   calls on a recorded     feedback_replay, feedback_record,
  *   drive                   feedback_trace_write
  *   call of a planner       feedback_game
+ *   call on a register      feedback_command
+ *   block
  *
  * feedback_text.h has the refusals, the kinds and the cause of a silence as texts for a
  * log. examples/cell.c runs both ends against each other, tells why a handset is silent and
- * bills for what is confirmed, examples/replay.c replays a drive and spells it.
+ * bills for what is confirmed, examples/replay.c replays a drive and spells it,
+ * examples/registers.c drives a handset behind a register block.
  *
  *
  * TERMS
@@ -139,6 +142,8 @@
  *             feedback_credit.
  * trace       a recorded drive of one handset as a file: its settings, and for each
  *             subframe a record of what it brought. See TRACES.
+ * register    16 bytes through which a modem's driver uses a handset. See REGISTER
+ * block       BLOCK.
  *
  *
  * TRACES
@@ -203,6 +208,30 @@
  *             18       records     each with all that is ignored, fields and bits, at 0
  *
  *
+ * REGISTER BLOCK
+ *
+ * A modem may map a handset behind 16 bytes. Its driver writes bytes 0 to 4 and 6, and
+ * reads the others. Its firmware keeps the handset and calls feedback_command, which does
+ * the command in byte 4 and tells the level of the interrupt line. At first the block may
+ * be zeros: no flag is set then, no number and no reply.
+ *
+ *             block, 16 bytes
+ *             0        kind        bytes 0 to 3 are the record that a feed brings, as in a
+ *                                  trace. For a clear byte 0 has the flags to drop, bits as
+ *                                  in byte 5, and no kind
+ *             1        cce
+ *             2        dai
+ *             3        results
+ *             4        command     0 none, 1 feed, 2 clear
+ *             5        flags       bit 0: a reply is ready; bit 1: a command was refused;
+ *                                  bit 2: a reply was overwritten unread, so bit 0 was still
+ *                                  set when the next one came. Bits 3 to 7 keep their values
+ *             6        mask        the flags that make the line high, bits as in byte 5
+ *             7        refusal     the number of the last refusal
+ *             8 to 15  reply       the last reply, as feedback_replay writes a window; its
+ *                                  resource is the first port's
+ *
+ *
  * NUMBERS
  *
  * Numbers are unsigned and 16 bits wide unless their type says otherwise. A call
@@ -247,6 +276,7 @@
  *             feedback_record         64
  *             feedback_trace_write    2048
  *             feedback_game           64
+ *             feedback_command        1280
  *
  * Of the C library the calls use memcpy and memset and nothing else.
  */
@@ -261,8 +291,8 @@
 #include <stdint.h>
 
 /* This header's version: major * 10000 + minor * 100 + patch, and the same as text. */
-#define FEEDBACK_VERSION 50300
-#define FEEDBACK_VERSION_TEXT "5.3.0"
+#define FEEDBACK_VERSION 50400
+#define FEEDBACK_VERSION_TEXT "5.4.0"
 
 #define FEEDBACK_WINDOW_MOST 9     /* the most subframes of a window: M in configuration 5 */
 #define FEEDBACK_LOSSES_MOST 9     /* the most losses that feedback_game is asked about */
@@ -315,18 +345,20 @@ extern "C" {
  * Why a call refuses: the value of refusal in every answer, in that of feedback_silence
  * the one in fed; 0 for no refusal. Each call names the refusals it can give. Where
  * several causes are met, the first in this order is given:
- * 21, 22, 1 to 6, 17, 19, 24, 7, 8, 9, 20, 10, 11, 12, 18, 25, 26, 13, 14, 15, 16; 23 in
- * feedback_replay after 19 and before any record, in feedback_trace_write last of all; 27
- * is given by feedback_game alone, which gives no other.
+ * 29, 28, 21, 22, 1 to 6, 17, 19, 24, 7, 8, 9, 20, 10, 11, 12, 18, 25, 26, 13, 14, 15, 16;
+ * 23 in feedback_replay after 19 and before any record, in feedback_trace_write last of
+ * all; 27 is given by feedback_game alone, which gives no other.
  * 26 is about what a reading credits, so it is met only where 13 and 14 are not.
  * A refused call changes nothing: no buffer is written, no state moves on, nothing is
- * made or credited. Beside a refusal every other number of the answer is 0. There are six
- * exceptions: a feed, feedback_silence too, and a change of mode give back the handset as
- * it was, and feedback_credit the account; feedback_open_account gives back the price that
- * it refuses; 16 comes with an index; a replay that stops at a record has the kind
- * FEEDBACK_REPLAY_STOPPED, leaves the windows before it in the output, and tells how many
- * they are and the record's number; and where a record keeps a trace from being written,
- * the kind is FEEDBACK_WRITE_STOPPED, with the record's number.
+ * made or credited. Beside a refusal every other number of the answer is 0. There are
+ * seven exceptions: a feed, feedback_silence too, and a change of mode give back the
+ * handset as it was, and feedback_credit the account; feedback_open_account gives back the
+ * price that it refuses; 16 comes with an index; a replay that stops at a record has the
+ * kind FEEDBACK_REPLAY_STOPPED, leaves the windows before it in the output, and tells how
+ * many they are and the record's number; where a record keeps a trace from being written,
+ * the kind is FEEDBACK_WRITE_STOPPED, with the record's number; and feedback_command gives
+ * back the handset as it was and, unless it refuses 29, writes the refusal into the block
+ * and tells the line.
  */
 enum feedback_refusal {
     FEEDBACK_NOT_REFUSED = 0,
@@ -385,7 +417,8 @@ enum feedback_refusal {
                                            header names */
     FEEDBACK_REFUSED_TRACE_PARTS = 22,  /* parts of the trace, the header too, that share a byte
                                            or leave the file (where there are no records, their
-                                           place is ignored), or a record's kind over 3 */
+                                           place is ignored), or a record's kind over 3, in
+                                           feedback_command that of the record to be fed */
     FEEDBACK_REFUSED_OUTPUT = 23,       /* output too short: in feedback_replay under eight bytes
                                            for each window that the records of the header
                                            complete, in feedback_trace_write under 18 bytes and
@@ -398,8 +431,10 @@ enum feedback_refusal {
                                            not below 1000000, or whose octets * price is not
                                            1000000 * charged + carry */
     FEEDBACK_REFUSED_TOTAL = 26,        /* the account would have more than 1000000000000 octets */
-    FEEDBACK_REFUSED_GAME = 27          /* window size not 1 to 9, more grants than subframes, or
+    FEEDBACK_REFUSED_GAME = 27,         /* window size not 1 to 9, more grants than subframes, or
                                            more than 9 losses */
+    FEEDBACK_REFUSED_COMMAND = 28,      /* command of a register block not 0, 1 or 2 */
+    FEEDBACK_REFUSED_REGISTER_BLOCK = 29 /* register block that has not 16 bytes */
 };
 
 /* The kind of a feed's answer, and of a reading (there 0, 1 or 2). */
@@ -472,6 +507,36 @@ enum feedback_slot_results {
     FEEDBACK_FIRST_DECODED = 1,  /* the first block, or the only one, was decoded */
     FEEDBACK_SECOND_DECODED = 2, /* the second block was decoded */
     FEEDBACK_TWO_CARRIED = 4     /* two blocks were carried, else one */
+};
+
+/* The bytes of a register block: their places, and how many there are; see REGISTER BLOCK. */
+enum feedback_block_place {
+    FEEDBACK_BLOCK_KIND = 0,    /* 0 to 3: the record that a feed brings, the fields of struct
+                                   feedback_slot */
+    FEEDBACK_BLOCK_CCE = 1,
+    FEEDBACK_BLOCK_DAI = 2,
+    FEEDBACK_BLOCK_RESULTS = 3,
+    FEEDBACK_BLOCK_DROPPED = 0, /* the same byte for a clear: the flags to drop */
+    FEEDBACK_BLOCK_COMMAND = 4, /* one of enum feedback_block_command */
+    FEEDBACK_BLOCK_FLAGS = 5,   /* bits of enum feedback_block_flags, other bits have no meaning */
+    FEEDBACK_BLOCK_MASK = 6,    /* the same bits: the flags that make the interrupt line high */
+    FEEDBACK_BLOCK_REFUSAL = 7, /* one of enum feedback_refusal */
+    FEEDBACK_BLOCK_REPLY = 8,   /* 8 to 15: FEEDBACK_WINDOW_BYTES, as feedback_replay writes */
+    FEEDBACK_BLOCK_BYTES = 16
+};
+
+/* The commands of a register block. */
+enum feedback_block_command {
+    FEEDBACK_COMMAND_NONE = 0,
+    FEEDBACK_COMMAND_FEED = 1, /* the next subframe brought the record of bytes 0 to 3 */
+    FEEDBACK_COMMAND_CLEAR = 2 /* the flags in byte 0 are dropped */
+};
+
+/* The flags of a register block, and of its mask. */
+enum feedback_block_flags {
+    FEEDBACK_FLAG_READY = 1,      /* a reply is ready */
+    FEEDBACK_FLAG_REFUSED = 2,    /* a command was refused */
+    FEEDBACK_FLAG_OVERWRITTEN = 4 /* a reply was overwritten unread */
 };
 
 /*
@@ -645,7 +710,10 @@ struct feedback_claims_answer {
                          one; refused 16: the index of the first bad claim; else 0 */
 };
 
-/* What one subframe brought: remembered by a handset, or a record of a trace. 4 bytes. */
+/*
+ * What one subframe brought: remembered by a handset, or a record of a trace or of a
+ * register block. 4 bytes.
+ */
 struct feedback_slot {
     uint8_t kind;    /* one of enum feedback_slot_kind */
     uint8_t cce;     /* grant, release: its first CCE; else no meaning */
@@ -657,7 +725,8 @@ struct feedback_slot {
 /*
  * The state of a handset. 74 bytes without padding.
  *
- * feedback_make makes one, a feed or a change of mode takes one and gives back the next.
+ * feedback_make makes one; a feed, a change of mode or a command of a register block takes
+ * one and gives back the next.
  * It is plain bytes: it may be copied, stored, and given back later, as often as you
  * like, on a machine of the same byte order. Other bytes may be given as well: a call
  * then refuses 8, or answers as for what these bytes say was heard, and in which mode.
@@ -752,6 +821,15 @@ struct feedback_game_answer {
     uint16_t refusal; /* 0 or 27 */
     uint16_t radio;   /* 1 if the radio can force a reply that hides a loss; 0 if the scheduler can
                          prevent it, or refused */
+};
+
+/* The answer of feedback_command. 78 bytes. */
+struct feedback_command_answer {
+    uint16_t refusal; /* 0, or 8 to 12, 18, 20, 22, 28 or 29 */
+    uint16_t line;    /* 1 if the interrupt line is high after the command, else 0; 0 if refused
+                         29 */
+    struct feedback_handset handset; /* for the next call: that of the feed; after none and clear,
+                                        and if refused, the handset as it was */
 };
 
 /*
@@ -1147,8 +1225,8 @@ struct feedback_changed feedback_change_mode(struct feedback_handset handset, ui
 /*
  * The next subframe brought nothing: nothing was sent, or it was lost, or the
  * subframe is uplink. Call one of the four feeds for every subframe, uplink ones
- * too, or feedback_silence in place of this one, and use the handset of its answer for
- * the next: after subframe 9 comes 0.
+ * too, or feedback_silence in place of this one, or feed by feedback_command, and use the
+ * handset of its answer for the next: after subframe 9 comes 0.
  * For subframes that the radio slept through feed nothing, once for each of them:
  * the handset knows where in the frame it is by counting its feeds. (13 of them, with
  * no change of mode among them, empty its memory: after so long a sleep a fresh handset
@@ -1399,6 +1477,69 @@ FEEDBACK_MUST_USE
 struct feedback_game_answer feedback_game(uint16_t size, uint16_t grants, uint16_t losses);
 
 /*
+ * A handset behind a register block: does the command that the block has, and tells the
+ * level of the interrupt line.
+ *
+ *   handset    the state that feedback_make, or the feed, command or change before,
+ *              answered
+ *   block      the bytes of the block, read and written; their layout is under REGISTER
+ *              BLOCK
+ *   length     the number of bytes of the block, FEEDBACK_BLOCK_BYTES
+ *
+ * The command is byte 4:
+ *
+ *   FEEDBACK_COMMAND_NONE    does nothing; the answer tells the line, for instance after
+ *                            the mask was written
+ *   FEEDBACK_COMMAND_FEED    feeds the handset: the next subframe brought the record of
+ *                            bytes 0 to 3
+ *   FEEDBACK_COMMAND_CLEAR   drops, of bits 0 to 2 of byte 5, those that are set in byte 0
+ *
+ * A record is fed by the one of the four feeds that its kind names, and the handset of the
+ * answer is that of the feed. Only what its kind uses counts, as in a trace: see
+ * feedback_record. A window that is answered, a silent one too, is a reply: bytes 8 to 15
+ * are then what feedback_replay writes of this window, with n the subframe that was fed
+ * and, of a handset with two ports, the resource of the first; bit 0 of byte 5 is set, and
+ * bit 2 too where bit 0 was set before the command. A subframe that is taken or has no
+ * window changes no byte.
+ *
+ * Only a clear drops flags, and nothing resets byte 4 or byte 7: a feed that is not refused
+ * leaves bit 1 and the number of an earlier refusal there, this number and the reply in
+ * bytes 8 to 15 stay until the next one comes, and a command that stays in byte 4 is done
+ * again at the next call. Bits 3 to 7 of byte 5 and all of byte 6 keep their values, and so
+ * do bytes 0 to 3.
+ *
+ * line is 1 where one of bits 0 to 2 is set both in byte 5 and in byte 6, judged after the
+ * command, a refused one too; else it is 0, whatever bits 3 to 7 are.
+ *
+ * None and clear do not look at the handset: they refuse no state, and give back the one
+ * that was lent, byte for byte. Nothing is kept between calls: lend the handset of the
+ * answer to the next. That may also be a feed or a change of mode by its own call, which
+ * changes no block.
+ *
+ * It is proved, for every list of commands from a handset of feedback_make and a block of
+ * zeros, with bytes 0 to 4 and 6 written as you like in between and no others: the handset
+ * is always the one to which the feeds that were not refused lead, one by one, and bytes 5
+ * and 7 to 15 are the flags, the last number and the last reply that these rules give
+ * beside it (crates/registers/specs).
+ *
+ * Refuses 29 and 28, and for a feed then 22, 8, 9, 20, 10, 11, 12 and 18. 29 is a length
+ * that is not FEEDBACK_BLOCK_BYTES: no byte changes then, and line is 0. 28 is a command
+ * that is not 0, 1 or 2. 22 is a kind over 3; for a clear byte 0 is no kind. The others are
+ * those of the feed. A refusal other than 29 sets bit 1 of byte 5 and puts its number into
+ * byte 7; no other bit or byte changes. The handset of the answer is the one given, byte
+ * for byte: after a refused feed it still expects the same subframe.
+ *
+ * A length of 0 is refused 29, and block may then be NULL; with any other length NULL is an
+ * error that no refusal catches, as is a length beyond the memory lent. Nothing else may
+ * write the block during the call, nor read it, for its bytes are read and written as
+ * memory, in no order that is told: registers that act by themselves are to be copied into
+ * memory before the call, and out of it afterwards.
+ */
+FEEDBACK_MUST_USE
+struct feedback_command_answer feedback_command(struct feedback_handset handset, uint8_t *block,
+                                                size_t length);
+
+/*
  * The number of the layout of the structs above is part of a name in the library,
  * and every object that includes this header refers to that name. So an object that
  * was compiled against another layout does not link: "undefined reference to
@@ -1553,6 +1694,10 @@ FEEDBACK_PLACE(feedback_write_answer, bytes, 6)
 FEEDBACK_SIZE(feedback_game_answer, 4)
 FEEDBACK_PLACE(feedback_game_answer, refusal, 0)
 FEEDBACK_PLACE(feedback_game_answer, radio, 2)
+FEEDBACK_SIZE(feedback_command_answer, 78)
+FEEDBACK_PLACE(feedback_command_answer, refusal, 0)
+FEEDBACK_PLACE(feedback_command_answer, line, 2)
+FEEDBACK_PLACE(feedback_command_answer, handset, 4)
 FEEDBACK_HOLDS(feedback_size_t_has_8_bytes, sizeof(size_t) == 8)
 
 #undef FEEDBACK_PLACE

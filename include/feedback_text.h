@@ -6,7 +6,7 @@
  * gets a text that says so. The texts are English, in ASCII and without a newline,
  * and last as long as the program. There is nothing to link.
  *
- *   feedback_refusal_text       a refusal, of any answer
+ *   feedback_refusal_text       a refusal, of any answer or in a register block
  *   feedback_kind_text          the kind of a feed's answer or of a reading
  *   feedback_cause_text         the cause of a silence, with V and the value expected
  *   feedback_claims_kind_text   the kind of an answer about claims
@@ -86,6 +86,10 @@ static inline const char *feedback_refusal_text(unsigned refusal)
     case FEEDBACK_REFUSED_GAME:
         return "Refused 27: the window's size is not 1 to 9, or it has more grants than subframes, "
                "or more than 9 losses.";
+    case FEEDBACK_REFUSED_COMMAND:
+        return "Refused 28: the register block's command is not 0 (none), 1 (feed) or 2 (clear).";
+    case FEEDBACK_REFUSED_REGISTER_BLOCK:
+        return "Refused 29: the register block has not 16 bytes.";
     default:
         return "This number is no refusal.";
     }

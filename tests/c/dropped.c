@@ -27,5 +27,6 @@ void drop(struct feedback_settings settings, struct feedback_handset handset,
     feedback_record(NULL, 0, 0);
     feedback_trace_write(NULL, 0, NULL, 0);
     feedback_game(9, 5, 4);
+    feedback_command(handset, NULL, 0);
     feedback_layout_5();
 }

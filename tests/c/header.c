@@ -3,8 +3,8 @@
  * include/feedback.h, with values worked out by hand from documents 01 and 02. They are chosen so
  * that exchanging two parameters, fields or numbers of the header changes an answer. Valid as C99
  * to C17 and as C++98 to C++17. The argument is the header's file: the names of the parameters,
- * their descriptions, the table of windows, the layout of a trace and the order of refusals are
- * read from its text.
+ * their descriptions, the table of windows, the layouts of a trace and of a register block and the
+ * order of refusals are read from its text.
  */
 #include "feedback.h"
 #include "feedback_text.h"
@@ -12,7 +12,7 @@
 #include <stdlib.h>
 #include <string.h>
 
-#if FEEDBACK_VERSION != 50300
+#if FEEDBACK_VERSION != 50400
 #error "FEEDBACK_VERSION is for the preprocessor too"
 #endif
 
@@ -159,6 +159,8 @@ static void numbers(void)
     EQUAL(FEEDBACK_REFUSED_SIZE_OR_ACCOUNT, 25);
     EQUAL(FEEDBACK_REFUSED_TOTAL, 26);
     EQUAL(FEEDBACK_REFUSED_GAME, 27);
+    EQUAL(FEEDBACK_REFUSED_COMMAND, 28);
+    EQUAL(FEEDBACK_REFUSED_REGISTER_BLOCK, 29);
     EQUAL(FEEDBACK_KIND_REFUSED, 0);
     EQUAL(FEEDBACK_KIND_BUNDLED, 1);
     EQUAL(FEEDBACK_KIND_MULTIPLEXED, 2);
@@ -191,6 +193,23 @@ static void numbers(void)
     EQUAL(FEEDBACK_FIRST_DECODED, 1);
     EQUAL(FEEDBACK_SECOND_DECODED, 2);
     EQUAL(FEEDBACK_TWO_CARRIED, 4);
+    EQUAL(FEEDBACK_BLOCK_KIND, 0);
+    EQUAL(FEEDBACK_BLOCK_CCE, 1);
+    EQUAL(FEEDBACK_BLOCK_DAI, 2);
+    EQUAL(FEEDBACK_BLOCK_RESULTS, 3);
+    EQUAL(FEEDBACK_BLOCK_DROPPED, 0);
+    EQUAL(FEEDBACK_BLOCK_COMMAND, 4);
+    EQUAL(FEEDBACK_BLOCK_FLAGS, 5);
+    EQUAL(FEEDBACK_BLOCK_MASK, 6);
+    EQUAL(FEEDBACK_BLOCK_REFUSAL, 7);
+    EQUAL(FEEDBACK_BLOCK_REPLY, 8);
+    EQUAL(FEEDBACK_BLOCK_BYTES, 16);
+    EQUAL(FEEDBACK_COMMAND_NONE, 0);
+    EQUAL(FEEDBACK_COMMAND_FEED, 1);
+    EQUAL(FEEDBACK_COMMAND_CLEAR, 2);
+    EQUAL(FEEDBACK_FLAG_READY, 1);
+    EQUAL(FEEDBACK_FLAG_REFUSED, 2);
+    EQUAL(FEEDBACK_FLAG_OVERWRITTEN, 4);
     EQUAL(FEEDBACK_WINDOW_MOST, 9);
     EQUAL(FEEDBACK_LOSSES_MOST, 9);
     EQUAL(FEEDBACK_MEMORY, 13);
@@ -210,7 +229,7 @@ static void numbers(void)
     EQUAL(FEEDBACK_SPELLED_FIRST, 18);
     EQUAL(FEEDBACK_SPELLED_MOST, 65534); /* 18 + 4 * 16379 */
     EQUAL(FEEDBACK_NONE, 65535);
-    EQUAL(FEEDBACK_VERSION, 50300);
+    EQUAL(FEEDBACK_VERSION, 50400);
     sprintf(version, "%d.%d.%d", FEEDBACK_VERSION / 10000, FEEDBACK_VERSION / 100 % 100,
             FEEDBACK_VERSION % 100);
     SAME(FEEDBACK_VERSION_TEXT, version);
@@ -337,6 +356,10 @@ static void layout(void)
     SIZE(feedback_game_answer, 4);
     PLACE(feedback_game_answer, refusal, 0);
     PLACE(feedback_game_answer, radio, 2);
+    SIZE(feedback_command_answer, 78);
+    PLACE(feedback_command_answer, refusal, 0);
+    PLACE(feedback_command_answer, line, 2);
+    PLACE(feedback_command_answer, handset, 4);
 }
 
 /* ---- settings ---- */
@@ -563,11 +586,11 @@ static void port_settings(void)
 static void order(void)
 {
     HOLDS(strstr(text,
-                 " 21, 22, 1 to 6, 17, 19, 24, 7, 8, 9, 20, 10, 11, 12, 18, 25, 26, 13, 14, 15, 16;"
-                 " 23 in\n"
-                 " * feedback_replay after 19 and before any record, in feedback_trace_write last"
-                 " of all; 27\n"
-                 " * is given by feedback_game alone, which gives no other.\n"
+                 " 29, 28, 21, 22, 1 to 6, 17, 19, 24, 7, 8, 9, 20, 10, 11, 12, 18, 25, 26, 13, 14,"
+                 " 15, 16;\n"
+                 " * 23 in feedback_replay after 19 and before any record, in feedback_trace_write"
+                 " last of\n"
+                 " * all; 27 is given by feedback_game alone, which gives no other.\n"
                  " * 26 is about what a reading credits, so it is met only where 13 and 14 are"
                  " not.\n") != NULL);
 }
@@ -2870,6 +2893,334 @@ static void games(void)
     NO_GAME(9, 5, 256 + 4);
 }
 
+/* ---- the register block ---- */
+
+static void table_of_blocks(void)
+{
+    EQUAL(strtoul(heading("block"), NULL, 10), FEEDBACK_BLOCK_BYTES);
+    EQUAL(place_of("block", "kind"), FEEDBACK_BLOCK_KIND);
+    EQUAL(place_of("block", "kind"), FEEDBACK_BLOCK_DROPPED);
+    EQUAL(place_of("block", "cce"), FEEDBACK_BLOCK_CCE);
+    EQUAL(place_of("block", "dai"), FEEDBACK_BLOCK_DAI);
+    EQUAL(place_of("block", "results"), FEEDBACK_BLOCK_RESULTS);
+    EQUAL(place_of("block", "command"), FEEDBACK_BLOCK_COMMAND);
+    EQUAL(place_of("block", "flags"), FEEDBACK_BLOCK_FLAGS);
+    EQUAL(place_of("block", "mask"), FEEDBACK_BLOCK_MASK);
+    EQUAL(place_of("block", "refusal"), FEEDBACK_BLOCK_REFUSAL);
+    EQUAL(place_of("block", "reply"), FEEDBACK_BLOCK_REPLY);
+    EQUAL(FEEDBACK_BLOCK_REPLY + FEEDBACK_WINDOW_BYTES, FEEDBACK_BLOCK_BYTES);
+}
+
+/* A handset behind a block, which is lent with a byte before it and one behind. */
+struct device {
+    struct feedback_handset handset;
+    uint8_t before, block[FEEDBACK_BLOCK_BYTES], behind;
+};
+
+static struct device device_of(struct feedback_handset handset)
+{
+    struct device device;
+    memset(&device, 0, sizeof device);
+    device.handset = handset;
+    return device;
+}
+
+/* What a driver writes for a command: in bytes 0 to 3 a record, or in byte 0 flags to drop. */
+static void put_command(struct device *device, unsigned command, unsigned kind, unsigned cce,
+                        unsigned dai, unsigned results)
+{
+    put_byte(device->block, "block", "kind", kind);
+    put_byte(device->block, "block", "cce", cce);
+    put_byte(device->block, "block", "dai", dai);
+    put_byte(device->block, "block", "results", results);
+    put_byte(device->block, "block", "command", command);
+}
+
+/* The command is done: the device is then the other one, to the byte, and the line by its flags. */
+static void done(int line, struct device *device, const struct device *after, unsigned refusal)
+{
+    struct feedback_handset handset = device->handset;
+    uint8_t *block = device->block;
+    size_t length = sizeof device->block;
+    struct feedback_command_answer answer = CALL(feedback_command, (handset, block, length));
+    unsigned flags = after->block[FEEDBACK_BLOCK_FLAGS], mask = after->block[FEEDBACK_BLOCK_MASK];
+    device->handset = answer.handset;
+    equal(line, "refusal", answer.refusal, refusal);
+    equal(line, "line", answer.line, (flags & mask & 7) != 0);
+    equal(line, "the device differs", memcmp(device, after, sizeof *device) != 0, 0);
+}
+
+/* Nothing changes but the handset: the subframe is taken or has no window, or the command none. */
+static void goes_on(int line, struct device *device, struct feedback_handset handset)
+{
+    struct device after = *device;
+    after.handset = handset;
+    done(line, device, &after, 0);
+}
+#define GOES_ON(device, handset) goes_on(__LINE__, &(device), handset)
+
+/* The subframe, which brought nothing, has a window: its reply, and the flags. */
+static void shows(int line, struct device *device, unsigned flags, unsigned kind, unsigned resource,
+                  unsigned b0, unsigned b1)
+{
+    struct device after = *device;
+    uint8_t *reply = after.block + place_of("block", "reply");
+    after.handset = feedback_feed_nothing(device->handset).handset;
+    put_byte(after.block, "block", "flags", flags);
+    put_byte(reply, "window", "n", device->handset.next);
+    put_byte(reply, "window", "kind", kind);
+    put_number(reply, "window", "resource", resource);
+    put_byte(reply, "window", "b0", b0);
+    put_byte(reply, "window", "b1", b1);
+    put_number(reply, "window", "zero", 0);
+    done(line, device, &after, 0);
+}
+#define SHOWS(device, flags, kind, resource, b0, b1) \
+    shows(__LINE__, &(device), flags, kind, resource, b0, b1)
+
+/* Flags are dropped, and these are left. */
+static void clears(int line, struct device *device, unsigned dropped, unsigned flags)
+{
+    struct device after;
+    put_command(device, FEEDBACK_COMMAND_CLEAR, dropped, 61, 5, 7);
+    after = *device;
+    put_byte(after.block, "block", "flags", flags);
+    done(line, device, &after, 0);
+}
+#define CLEARS(device, dropped, flags) clears(__LINE__, &(device), dropped, flags)
+
+/* The command is refused: bit 1 of the flags is set then, and the number is in its byte. */
+static void turns_down(int line, struct device *device, unsigned refusal)
+{
+    struct device after = *device;
+    put_byte(after.block, "block", "flags", device->block[FEEDBACK_BLOCK_FLAGS] | 2u);
+    put_byte(after.block, "block", "refusal", refusal);
+    done(line, device, &after, refusal);
+}
+#define TURNS_DOWN(device, refusal) turns_down(__LINE__, &(device), refusal)
+
+/*
+ * The drive of drive_of_2, on registers that are zeros at first. Then mode 1: 12 answers for 4, 5,
+ * 8 and 6, of which 8 brought a grant, and --A- is 00 of 2.
+ */
+static void commands(void)
+{
+    struct feedback_settings cell = FEEDBACK_SETTINGS(2, 50, 300, 0, 2);
+    struct feedback_settings settings = with_special(cell, FEEDBACK_PREFIX_EXTENDED, 4);
+    struct device device = device_of(fresh(with_scheduled(settings, 6)));
+    unsigned i;
+    GOES_ON(device, device.handset); /* none */
+    put_command(&device, FEEDBACK_COMMAND_FEED, FEEDBACK_SLOT_GRANT, 3, 1, 7);
+    GOES_ON(device, grant(device.handset, 2, 1, 1, 3, 1));
+    put_command(&device, FEEDBACK_COMMAND_FEED, FEEDBACK_SLOT_RELEASE, 4, 2, 255);
+    GOES_ON(device, release(device.handset, 4, 2));
+    put_command(&device, FEEDBACK_COMMAND_FEED, FEEDBACK_SLOT_NOTHING, 9, 9, 9);
+    SHOWS(device, FEEDBACK_FLAG_READY, 0, 0, 0, 0); /* silent */
+    put_command(&device, FEEDBACK_COMMAND_FEED, FEEDBACK_SLOT_SCHEDULED, 255, 255, 6);
+    GOES_ON(device, scheduled(device.handset, 2, 0, 1));
+    device.handset = change(device.handset, FEEDBACK_MODE_MULTIPLEXING);
+    put_command(&device, FEEDBACK_COMMAND_FEED, FEEDBACK_SLOT_NOTHING, 0, 0, 0);
+    for (i = 4; i < 7; i++) /* the command stays, and is done again */
+        GOES_ON(device, nothing(device.handset, FEEDBACK_KIND_TAKEN));
+    SHOWS(device, FEEDBACK_FLAG_READY | FEEDBACK_FLAG_OVERWRITTEN, 1, 337, 0, 1);
+    CLEARS(device, FEEDBACK_FLAG_READY, FEEDBACK_FLAG_OVERWRITTEN);
+    put_command(&device, FEEDBACK_COMMAND_FEED, FEEDBACK_SLOT_GRANT, 5, 1, 3); /* one block */
+    GOES_ON(device, grant(device.handset, 1, 1, 0, 5, 1));
+    put_command(&device, FEEDBACK_COMMAND_FEED, FEEDBACK_SLOT_NOTHING, 0, 0, 0);
+    for (i = 9; i < 12; i++)
+        GOES_ON(device, nothing(device.handset, FEEDBACK_KIND_TAKEN));
+    SHOWS(device, FEEDBACK_FLAG_READY | FEEDBACK_FLAG_OVERWRITTEN, 2, 327, 0, 0);
+    CLEARS(device, FEEDBACK_FLAG_READY | FEEDBACK_FLAG_OVERWRITTEN, 0);
+}
+
+/* The first port's resource; and a subframe without a window, with all flags that there are. */
+static void commands_on_two_ports(void)
+{
+    struct feedback_settings two = with_ports(settings_of(2, FEEDBACK_MODE_BUNDLING, 2), 2);
+    struct device device = device_of(grant(fresh(two), 2, 1, 0, 3, 1));
+    device.handset = sleeping(device.handset, 6);
+    device.block[FEEDBACK_BLOCK_MASK] = FEEDBACK_FLAG_READY;
+    put_command(&device, FEEDBACK_COMMAND_FEED, FEEDBACK_SLOT_NOTHING, 0, 0, 0);
+    EQUAL(feedback_feed_nothing(device.handset).second, 25);
+    SHOWS(device, FEEDBACK_FLAG_READY, 1, 24, 1, 0); /* 1 * 11 + 3 + 10 */
+    device.handset = fresh(settings_of(0, FEEDBACK_MODE_BUNDLING, 1));
+    device.handset.next = 3;
+    device.block[FEEDBACK_BLOCK_FLAGS] = 255;
+    GOES_ON(device, nothing(device.handset, FEEDBACK_KIND_NO_WINDOW));
+}
+
+/* What a kind does not use of its record does not count: results of all bits, then CCE and DAI. */
+static void commands_of_records(void)
+{
+    struct feedback_handset handset = fresh(with_scheduled(settings_of(2, 0, 2), 6));
+    struct device device = device_of(handset);
+    uint16_t results, cce;
+    for (results = 0; results < 256; results += 17) {
+        uint16_t two = results >> 2 & 1, first = results & 1, second = two & results >> 1;
+        put_command(&device, FEEDBACK_COMMAND_FEED, FEEDBACK_SLOT_GRANT, 60, 4, results);
+        GOES_ON(device, feedback_feed_grant(handset, 1u + two, first, second, 60, 4).handset);
+        device.handset = handset;
+        put_command(&device, FEEDBACK_COMMAND_FEED, FEEDBACK_SLOT_SCHEDULED, 61, 5, results);
+        GOES_ON(device, feedback_feed_scheduled(handset, 1u + two, first, second).handset);
+        device.handset = handset;
+        put_command(&device, FEEDBACK_COMMAND_FEED, FEEDBACK_SLOT_RELEASE, 60, 4, results);
+        GOES_ON(device, feedback_feed_release(handset, 60, 4).handset);
+        device.handset = handset;
+        put_command(&device, FEEDBACK_COMMAND_FEED, FEEDBACK_SLOT_NOTHING, 61, 5, results);
+        GOES_ON(device, feedback_feed_nothing(handset).handset);
+        device.handset = handset;
+    }
+    for (cce = 0; cce < 256; cce += 51) {
+        put_command(&device, FEEDBACK_COMMAND_FEED, FEEDBACK_SLOT_SCHEDULED, cce, 255u - cce, 1);
+        GOES_ON(device, feedback_feed_scheduled(handset, 1, 1, 0).handset);
+        device.handset = handset;
+        put_command(&device, FEEDBACK_COMMAND_FEED, FEEDBACK_SLOT_NOTHING, cce, 255u - cce, 1);
+        GOES_ON(device, feedback_feed_nothing(handset).handset);
+        device.handset = handset;
+    }
+}
+
+/*
+ * From the first refusal to the last, each with all that come after it. The line is high by the
+ * refusals alone, and what was replied before stays.
+ */
+static void commands_refused(void)
+{
+    struct device device = device_of(fresh(with_special(settings_of(2, 0, 1), 0, 5)));
+    struct feedback_handset handset = device.handset;
+    memset(device.block, 99, sizeof device.block);
+    device.block[FEEDBACK_BLOCK_FLAGS] = 248 + FEEDBACK_FLAG_READY;
+    device.block[FEEDBACK_BLOCK_MASK] = 248 + FEEDBACK_FLAG_REFUSED;
+    device.handset.next = 12;
+    put_command(&device, 3, 4, 61, 5, 7);
+    TURNS_DOWN(device, FEEDBACK_REFUSED_COMMAND);
+    put_command(&device, 255, 4, 61, 5, 7);
+    TURNS_DOWN(device, FEEDBACK_REFUSED_COMMAND);
+    put_command(&device, 128 + FEEDBACK_COMMAND_FEED, 4, 61, 5, 7);
+    TURNS_DOWN(device, FEEDBACK_REFUSED_COMMAND);
+    put_command(&device, FEEDBACK_COMMAND_FEED, 4, 61, 5, 7);
+    TURNS_DOWN(device, FEEDBACK_REFUSED_TRACE_PARTS);
+    put_command(&device, FEEDBACK_COMMAND_FEED, 255, 61, 5, 7);
+    TURNS_DOWN(device, FEEDBACK_REFUSED_TRACE_PARTS);
+    put_command(&device, FEEDBACK_COMMAND_FEED, 128 + FEEDBACK_SLOT_GRANT, 61, 5, 7);
+    TURNS_DOWN(device, FEEDBACK_REFUSED_TRACE_PARTS);
+    put_command(&device, FEEDBACK_COMMAND_FEED, FEEDBACK_SLOT_GRANT, 61, 5, 7);
+    TURNS_DOWN(device, FEEDBACK_REFUSED_STATE);
+    device.handset.next = 2;
+    TURNS_DOWN(device, FEEDBACK_REFUSED_UPLINK);
+    device.handset.next = 1;
+    TURNS_DOWN(device, FEEDBACK_REFUSED_SHORT);
+    device.handset.next = 0;
+    TURNS_DOWN(device, FEEDBACK_REFUSED_CARRIED);
+    put_command(&device, FEEDBACK_COMMAND_FEED, FEEDBACK_SLOT_GRANT, 61, 5, 1);
+    TURNS_DOWN(device, FEEDBACK_REFUSED_CCE);
+    put_command(&device, FEEDBACK_COMMAND_FEED, FEEDBACK_SLOT_RELEASE, 60, 5, 7);
+    TURNS_DOWN(device, FEEDBACK_REFUSED_DAI);
+    put_command(&device, FEEDBACK_COMMAND_FEED, FEEDBACK_SLOT_SCHEDULED, 61, 5, 7);
+    TURNS_DOWN(device, FEEDBACK_REFUSED_CARRIED);
+    put_command(&device, FEEDBACK_COMMAND_FEED, FEEDBACK_SLOT_SCHEDULED, 61, 5, 1);
+    TURNS_DOWN(device, FEEDBACK_REFUSED_SCHEDULED);
+    BYTES(&device.handset, &handset, sizeof handset);
+}
+
+/*
+ * A refusal and a reply stay until the next: the commands that are done clear neither the number
+ * nor bit 1, which a clear alone drops, and not the number.
+ */
+static void refusals_kept(void)
+{
+    struct device device = device_of(fresh(settings_of(2, 0, 1)));
+    device.block[FEEDBACK_BLOCK_MASK] = 255;
+    put_command(&device, FEEDBACK_COMMAND_FEED, FEEDBACK_SLOT_GRANT, 61, 1, 1);
+    TURNS_DOWN(device, FEEDBACK_REFUSED_CCE);
+    put_command(&device, FEEDBACK_COMMAND_NONE, FEEDBACK_SLOT_GRANT, 60, 1, 1);
+    GOES_ON(device, device.handset);
+    put_command(&device, FEEDBACK_COMMAND_FEED, FEEDBACK_SLOT_GRANT, 60, 1, 1);
+    GOES_ON(device, grant(device.handset, 1, 1, 0, 60, 1));
+    put_command(&device, FEEDBACK_COMMAND_FEED, FEEDBACK_SLOT_NOTHING, 0, 0, 0);
+    GOES_ON(device, nothing(device.handset, FEEDBACK_KIND_TAKEN));
+    SHOWS(device, FEEDBACK_FLAG_READY | FEEDBACK_FLAG_REFUSED, 0, 0, 0, 0); /* none overwritten */
+    CLEARS(device, FEEDBACK_FLAG_READY, FEEDBACK_FLAG_REFUSED);
+    CLEARS(device, 0, FEEDBACK_FLAG_REFUSED);
+    device.handset = sleeping(device.handset, 4); /* 7 answers for 0: 2 * 44 + 61 + 60 + 10 */
+    put_command(&device, FEEDBACK_COMMAND_FEED, FEEDBACK_SLOT_NOTHING, 0, 0, 0);
+    SHOWS(device, FEEDBACK_FLAG_READY | FEEDBACK_FLAG_REFUSED, 1, 219, 1, 0);
+    CLEARS(device, FEEDBACK_FLAG_REFUSED, FEEDBACK_FLAG_READY);
+    EQUAL(device.block[FEEDBACK_BLOCK_REFUSAL], FEEDBACK_REFUSED_CCE);
+    put_command(&device, 3, 0, 0, 0, 0);
+    TURNS_DOWN(device, FEEDBACK_REFUSED_COMMAND);
+}
+
+/* Any length but 16, with all other causes: nothing is written, and the line is low. */
+static void lengths_refused(void)
+{
+    static const size_t lengths[] = {0, 1, 4, 8, 15, 17, 32, 40};
+    struct feedback_handset handset = fresh(settings_of(2, 0, 1));
+    struct feedback_command_answer answer;
+    uint8_t block[40], before[40];
+    unsigned i;
+    handset.next = 10;
+    memset(block, 255, sizeof block);
+    memcpy(before, block, sizeof before);
+    for (i = 0; i < 9; i++) {
+        answer = i < 8 ? feedback_command(handset, block, lengths[i])
+                       : feedback_command(handset, NULL, 0);
+        EQUAL(answer.refusal, FEEDBACK_REFUSED_REGISTER_BLOCK);
+        EQUAL(answer.line, 0);
+        BYTES(&answer.handset, &handset, sizeof handset);
+        BYTES(block, before, sizeof before);
+    }
+}
+
+/* None and clear take any state, and give it back; a clear has no kind. A feed looks at it. */
+static void states_not_looked_at(void)
+{
+    struct device device;
+    unsigned i;
+    for (i = 0; i < 3; i++) {
+        static const uint8_t bytes[] = {0, 1, 255};
+        memset(&device, bytes[i], sizeof device);
+        put_command(&device, FEEDBACK_COMMAND_NONE, 4, 61, 5, 7);
+        GOES_ON(device, device.handset);
+        CLEARS(device, 255, device.block[FEEDBACK_BLOCK_FLAGS] & 248u);
+        CLEARS(device, 4, device.block[FEEDBACK_BLOCK_FLAGS]);
+        put_command(&device, FEEDBACK_COMMAND_FEED, FEEDBACK_SLOT_NOTHING, 0, 0, 0);
+        TURNS_DOWN(device, FEEDBACK_REFUSED_STATE);
+    }
+}
+
+/* A command on a block with these flags and this mask: whether flags and line are then right. */
+static int leaves(struct feedback_handset handset, unsigned command, unsigned dropped,
+                  unsigned flags, unsigned mask, unsigned left)
+{
+    uint8_t block[FEEDBACK_BLOCK_BYTES] = {0};
+    block[FEEDBACK_BLOCK_DROPPED] = dropped & 255u;
+    block[FEEDBACK_BLOCK_COMMAND] = command & 255u;
+    block[FEEDBACK_BLOCK_FLAGS] = flags & 255u;
+    block[FEEDBACK_BLOCK_MASK] = mask & 255u;
+    return feedback_command(handset, block, sizeof block).line == ((left & mask & 7) != 0) &&
+           block[FEEDBACK_BLOCK_FLAGS] == left && block[FEEDBACK_BLOCK_MASK] == mask;
+}
+
+/* All flags with all masks, and all flags with all that are dropped, in subframe 2, silent. */
+static void flags_and_lines(void)
+{
+    struct feedback_handset handset = fresh(settings_of(2, 0, 1));
+    unsigned flags, mask, wrong = 0;
+    handset.next = 2;
+    for (flags = 0; flags < 256; flags++)
+        for (mask = 0; mask < 256; mask++) {
+            unsigned shown = flags | 1 | (flags & 1) << 2;
+            wrong += !leaves(handset, FEEDBACK_COMMAND_NONE, 0, flags, mask, flags);
+            wrong += !leaves(handset, FEEDBACK_COMMAND_FEED, 0, flags, mask, shown);
+            wrong += !leaves(handset, FEEDBACK_COMMAND_FEED, 4, flags, mask, flags | 2);
+            wrong += !leaves(handset, FEEDBACK_COMMAND_CLEAR, mask, flags, 0, flags & ~(mask & 7));
+            wrong += !leaves(handset, FEEDBACK_COMMAND_CLEAR, 1, flags, mask, flags & ~1u);
+            wrong += !leaves(handset, FEEDBACK_COMMAND_CLEAR, 6, flags, mask, flags & ~6u);
+        }
+    EQUAL(wrong, 0);
+}
+
 /* ---- the texts ---- */
 
 /* Each number below the limit has a text of its own with its word in it; the rest share one. */
@@ -2910,7 +3261,9 @@ static void all_texts(void)
         "24: the antenna ports are neither 1 nor 2, or they are 2 with multiplexing",
         "25: a block's I_TBS is over 26 or its N_PRB not 1 to 110, or the price is over 1000000",
         "26: the account would have more than 1000000000000 octets",
-        "27: the window's size is not 1 to 9, or it has more grants than subframes"};
+        "27: the window's size is not 1 to 9, or it has more grants than subframes",
+        "28: the register block's command is not 0 (none), 1 (feed) or 2 (clear)",
+        "29: the register block has not 16 bytes"};
     static const char *const kinds[] = {"refused", "bundled reply", "multiplexed reply",
                                         "Silent",  "downlink",      "uplink"};
     static const char *const claims_kinds[] = {"refused", "clean", "clash"};
@@ -2919,7 +3272,7 @@ static void all_texts(void)
     static const char *const record_kinds[] = {"refused", "read", "end"};
     static const char *const write_kinds[] = {"not written: it, its settings or the output",
                                               "was written", "not written: a record"};
-    texts(feedback_refusal_text, refusals, 28);
+    texts(feedback_refusal_text, refusals, 30);
     texts(feedback_kind_text, kinds, 6);
     texts(feedback_claims_kind_text, claims_kinds, 3);
     texts(feedback_slot_kind_text, slot_kinds, 4);
@@ -3022,6 +3375,15 @@ int main(int argc, char **argv)
     writing_refused();
     largest();
     games();
+    table_of_blocks();
+    commands();
+    commands_on_two_ports();
+    commands_of_records();
+    commands_refused();
+    refusals_kept();
+    lengths_refused();
+    states_not_looked_at();
+    flags_and_lines();
     all_texts();
     cause_texts();
     if (failures == 0)
