@@ -142,6 +142,24 @@ LOOP(game, feedback_game_answer, (uint16_t size, uint16_t grants, uint16_t losse
      EACH(s, 11) EACH(g, 11) EACH(l, 11)
          sink += call((uint16_t)s, (uint16_t)g, (uint16_t)l).radio;)
 
+/* Every command, with every kind and with such as are refused; flags stay from call to call. */
+static uint8_t blocks[][FEEDBACK_BLOCK_BYTES] = {
+    {FEEDBACK_SLOT_NOTHING, 0, 0, 0, FEEDBACK_COMMAND_NONE},
+    {FEEDBACK_SLOT_NOTHING, 0, 0, 0, FEEDBACK_COMMAND_FEED},
+    {FEEDBACK_SLOT_GRANT, 3, 1, FEEDBACK_FIRST_DECODED, FEEDBACK_COMMAND_FEED},
+    {FEEDBACK_SLOT_GRANT, 3, 1, FEEDBACK_TWO_CARRIED, FEEDBACK_COMMAND_FEED},
+    {FEEDBACK_SLOT_GRANT, 3, 5, 0, FEEDBACK_COMMAND_FEED},
+    {FEEDBACK_SLOT_SCHEDULED, 0, 0, FEEDBACK_FIRST_DECODED, FEEDBACK_COMMAND_FEED},
+    {FEEDBACK_SLOT_RELEASE, 3, 1, 0, FEEDBACK_COMMAND_FEED},
+    {FEEDBACK_SLOT_RELEASE + 1, 3, 1, 0, FEEDBACK_COMMAND_FEED},
+    {FEEDBACK_FLAG_REFUSED, 0, 0, 0, FEEDBACK_COMMAND_CLEAR},
+    {FEEDBACK_SLOT_NOTHING, 0, 0, 0, FEEDBACK_COMMAND_CLEAR + 1},
+};
+LOOP(command, feedback_command_answer,
+     (struct feedback_handset handset, uint8_t *block, size_t length),
+     EACH(i, HANDSETS) EACH(b, sizeof blocks / sizeof *blocks) EACH(j, 2)
+         sink += call(handsets[i], blocks[b], FEEDBACK_BLOCK_BYTES - j).line;)
+
 /* ---- inputs ---- */
 
 static unsigned draw(unsigned limit)
@@ -356,5 +374,6 @@ int main(int argc, char **argv)
     all &= HELD(record, 0);
     all &= HELD(trace_write, 0);
     all &= HELD(game, 0);
+    all &= HELD(command, 80);
     return !all;
 }
