@@ -1,11 +1,11 @@
 -- The call and the running handset with the flags beside it agree: specs/Lists.antt, proved. Assumes nothing.
 use Prim.Native.Nat.{ℕ, zero, suc, ◌+◌, ◌*◌, ◌/◌, ◌%◌}
 use mathlib.Core.Bool.{Bool, true, false, cond, ◌&&◌, ◌||◌, not}
-use mathlib.Core.List.{List, [], ◌∷◌, ◌++◌, append-nil}
+use mathlib.Core.List.{List, [], ◌∷◌, append-nil}
 use mathlib.Core.Path.{◌≡◌, refl, sym, ap, ◌∙◌}
 use native.Mathlib.Omega.{arith}
-use lib.Dec.{eqb, leb, ltb}
-use lib.ListN.{length, drop, replicate, drop_of_length-le}
+use lib.Dec.{eqb, leb}
+use lib.ListN.{length, drop, drop_of_length-le}
 use Rattle.std.proofs.Common.{Result, Ok, Err}
 use Rattle.frame.specs.Refusals.{number_in}
 use Rattle.heard.specs.declared.Heard.{Heard}
@@ -19,8 +19,8 @@ use Rattle.reader.specs.Record.{slot_at, brought_by}
 use Rattle.replaying.specs.Written.{window_bytes, window_fed, put_at}
 use Rattle.registers.specs.declared.flags.Flags.{Flags}
 use Rattle.registers.specs.Flags.{flags_in, flags_put, with_refusal, with_reply, without, raised}
-use Rattle.registers.specs.Call.{flagged, refused_block, cleared_block, shown_block, window_brought, handset_fed, Obeyed, replied, obeyed, block_after, line_of, AfterCommand, command_of}
-use Rattle.registers.specs.Machine.{Written, Running, started, refuse, go_on, arrive, answered, has, drop_flags, interrupt, Stepped, refused_as, feed_step, step, flags_byte, shown_as, seen}
+use Rattle.registers.specs.Call.{refused_block, cleared_block, shown_block, window_brought, handset_fed, Obeyed, replied, obeyed, block_after, line_of, command_of}
+use Rattle.registers.specs.Machine.{Written, Running, started, refuse, arrive, answered, has, drop_flags, interrupt, Stepped, refused_as, feed_step, step, flags_byte, shown_as, seen}
 use Rattle.registers.specs.Lists.{rewritten, calls, runs, BlockEquals}
 
 -- The three flags in a byte, and back.
@@ -105,7 +105,7 @@ module _ (w : Written) (r : Running) where
       ∙ ap (λ (b : Bool). r.ready && b || r.refused && has 1 w.mask || r.overwritten && has 2 w.mask) (sym (first_bit w.mask))
 
 -- A feed that is refused leaves the handset.
-refusal_keeps : (h : Handset) (x : Heard) (k : ℕ) → (feed_of h x).answer ≡ Err k → (feed_of h x).handset ≡ h
+pub refusal_keeps : (h : Handset) (x : Heard) (k : ℕ) → (feed_of h x).answer ≡ Err k → (feed_of h x).handset ≡ h
 unfolding feed_of
 refusal_keeps h x k e = go (feed_refusal h x) e
   where
@@ -179,7 +179,7 @@ module _ (w : Written) (r : Running) (eight : length r.reply ≡ 8) where
   unfolding command_of
   seen_same =
       let line : line_of (block_after (shown_as w r) (obeyed (shown_as w r) r.handset).block) ≡ interrupt w.mask (step w r).running
-          = ap line_of same.block ∙ line_same w (step w r).running in
+      = ap line_of same.block ∙ line_same w (step w r).running in
       rw (eight, same.refusal, line, same.block, same.handset)
 
 along : (v : Written) (r : Running) → length r.reply ≡ 8 → (ws : List Written) → calls (shown_as v r) r.handset ws ≡ runs r ws

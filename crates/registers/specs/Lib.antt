@@ -1,4 +1,5 @@
 pub mod Call
+pub mod Exactly
 pub mod Flags
 pub mod Lists
 pub mod Machine

@@ -4,7 +4,7 @@
 use Rattle.std.specs.Prelude.{ℕ, List, [], ◌∷◌, ◌≡◌, length, replicate, set}
 use Rattle.handset.specs.declared.Handset.{Handset}
 use Rattle.registers.specs.Call.{AfterCommand, command_of}
-use Rattle.registers.specs.Machine.{Written, Running, started, Stepped, step, shown_as, seen}
+use Rattle.registers.specs.Machine.{Written, Running, started, step, shown_as, seen}
 
 -- The block with what a driver writes between two commands.
 abbrev pub rewritten : Written → List ℕ → List ℕ
