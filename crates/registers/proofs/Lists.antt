@@ -175,7 +175,10 @@ module _ (w : Written) (r : Running) (eight : length r.reply ≡ 8) where
       go false false true = cleared
       go false false false = refused 28
 
-  seen_same : command_of (shown_as w r) r.handset ≡ seen w (step w r)
+  pub eight_kept : length (step w r).running.reply ≡ 8
+  eight_kept = same.reply
+
+  pub seen_same : command_of (shown_as w r) r.handset ≡ seen w (step w r)
   unfolding command_of
   seen_same =
       let line : line_of (block_after (shown_as w r) (obeyed (shown_as w r) r.handset).block) ≡ interrupt w.mask (step w r).running
@@ -186,7 +189,7 @@ along : (v : Written) (r : Running) → length r.reply ≡ 8 → (ws : List Writ
 along v r eight [] = refl
 along v r eight (w ∷ ws) =
     let this = seen_same w r eight in
-    let next = along w (step w r).running (same w r eight).reply ws in
+    let next = along w (step w r).running (eight_kept w r eight) ws in
     rw (this, next)
 
 pub block_equals : BlockEquals
