@@ -49,12 +49,12 @@ last_written v (w ∷ ws) = last_written w ws
 
 -- What is lent after them shows what is running then.
 lent_shows : (v : Written) (r : Running) → length r.reply ≡ 8 → (ws : List Written)
-    → lent_after (record { block = shown_as v r; handset = r.handset }) ws
+    → lent_after command_of (record { block = shown_as v r; handset = r.handset }) ws
     ≡ record { block = shown_as (last_written v ws) (running_after r ws); handset = (running_after r ws).handset }
 unfolding running_after last_written
 lent_shows v r eight [] = refl
 lent_shows v r eight (w ∷ ws) =
-    ap (λ (a : AfterCommand). lent_after (record { block = a.block; handset = a.told.handset }) ws) (seen_same w r eight)
+    ap (λ (a : AfterCommand). lent_after command_of (record { block = a.block; handset = a.told.handset }) ws) (seen_same w r eight)
     ∙ lent_shows w (step w r).running (eight_kept w r eight) ws
 
 eight_after : (r : Running) → length r.reply ≡ 8 → (ws : List Written) → length (running_after r ws).reply ≡ 8
@@ -214,11 +214,11 @@ module _ (set : Settings) (good : settings_refusal set ≡ 0) (before after : Li
   v : Written
   v = last_written (record { slot = none; command = 0; mask = 0 }) before
 
-  shows : lent_at set before ≡ record { block = shown_as v r; handset = r.handset }
+  shows : lent_at command_of set before ≡ record { block = shown_as v r; handset = r.handset }
   unfolding r v
   shows = lent_shows (record { slot = none; command = 0; mask = 0 }) (started (make_of set).handset) refl before
 
-  call_is : call_at set before w ≡ seen w (step w r)
+  call_is : call_at command_of set before w ≡ seen w (step w r)
   call_is = ap (λ (l : Lent). command_of (rewritten w l.block) l.handset) shows ∙ seen_same w r eight
 
   items_are : run_of whole ≡ run_of before ++ run_of (w ∷ after)
@@ -234,7 +234,7 @@ module _ (set : Settings) (good : settings_refusal set ≡ 0) (before after : Li
       running_handset (started (make_of set).handset) before
       ∙ ap (handset_after feed_of change_of (make_of set).handset) (sym taken)
 
-  lent_is : (lent_at set before).handset ≡ handset_at feedback_engine set (run_of whole) (item_after before)
+  lent_is : (lent_at command_of set before).handset ≡ handset_at feedback_engine set (run_of whole) (item_after before)
   lent_is = ap (λ (l : Lent). l.handset) shows ∙ handset_is
 
   -- A command that feeds.
@@ -260,31 +260,31 @@ module _ (set : Settings) (good : settings_refusal set ≡ 0) (before after : Li
         (item_after before) x item_is.inside item_is.brings in
         rw (fresh, ← zero-add (length (heard_from set [] (take (item_after before) (run_of whole))))) all
 
-    seen_is : call_at set before w
+    seen_is : call_at command_of set before w
         ≡ seen w (record {
           refusal = number_in (feed_of r.handset x).answer;
           running = answered r.handset.next (feed_of r.handset x).answer (feed_of r.handset x).handset r;
         })
     seen_is = call_is ∙ ap (seen w) (step_feeds w r f)
 
-    refusal_is : (call_at set before w).told.refusal ≡ number_in (answer_to set whole before w)
+    refusal_is : (call_at command_of set before w).told.refusal ≡ number_in (answer_to set whole before w)
     refusal_is = ap (λ (a : AfterCommand). a.told.refusal) seen_is ∙ ap (λ (h : Handset). number_in (feed_of h x).answer) handset_is
 
-    cause_is : (call_at set before w).told.refusal ≡ cause_at set (run_of whole) (item_after before) (brought_by w.slot)
+    cause_is : (call_at command_of set before w).told.refusal ≡ cause_at set (run_of whole) (item_after before) (brought_by w.slot)
     cause_is = refusal_is ∙ at_is.refusal
 
     reply_is : (bytes_of (subframe_after set whole before % 10) (answer_to set whole before w) ≡ [] → ⊥)
-        → drop 8 (call_at set before w).block ≡ bytes_of (subframe_after set whole before % 10) (answer_to set whole before w)
+        → drop 8 (call_at command_of set before w).block ≡ bytes_of (subframe_after set whole before % 10) (answer_to set whole before w)
     reply_is some =
         let n : r.handset.next ≡ subframe_after set whole before % 10 = ap (λ (h : Handset). h.next) handset_is ∙ at_is.next in
         let a : (feed_of r.handset x).answer ≡ answer_to set whole before w = ap (λ (h : Handset). (feed_of h x).answer) handset_is in
         let shown = answered_reply r.handset.next (feed_of r.handset x).answer (feed_of r.handset x).handset r (rw (n, a) some) in
         ap (λ (c : AfterCommand). drop 8 c.block) seen_is ∙ shown ∙ rw (n, a)
 
-  other_is : feeds w ≡ false → (call_at set before w).told.handset ≡ (lent_at set before).handset
+  other_is : feeds w ≡ false → (call_at command_of set before w).told.handset ≡ (lent_at command_of set before).handset
   other_is e = ap (λ (a : AfterCommand). a.told.handset) call_is ∙ step_other w r e ∙ sym (ap (λ (l : Lent). l.handset) shows)
 
-pub commands_run : CommandsRun
+pub commands_run : CommandsRun command_of
 commands_run set good ws =
     record {
       item = λ before w at f. rw at.1 (item_is set good before at.0 w f);

@@ -1,14 +1,15 @@
 -- What a call changes and what it leaves: specs/Exactly.antt, proved. Assumes nothing.
 use Prim.Native.Nat.{ℕ, zero, suc, ◌+◌, ◌*◌, ◌/◌, ◌%◌, ◌≤◌, ◌<◌}
-use mathlib.Core.Bool.{Bool, true, false, cond}
-use mathlib.Core.List.{List, ◌++◌}
+use mathlib.Core.Bool.{Bool, true, false, cond, ◌&&◌, ◌||◌}
+use mathlib.Core.List.{List, [], ◌++◌, append-nil}
 use mathlib.Core.Logic.{◌⊎◌, inl, inr}
-use mathlib.Core.Path.{◌≡◌, refl, ap, ◌∙◌}
+use mathlib.Core.Path.{◌≡◌, refl, sym, ap, ◌∙◌}
 use native.Mathlib.Omega.{arith}
 use lib.Dec.{eqb, leb}
-use lib.ListN.{length, get_or, take, drop, length-set, length-append, get_or-append}
-use lib.Seq.{length-take-le, get_or-take}
+use lib.ListN.{length, get_or, take, drop, length-set, length-append, get_or-append, drop_of_length-le}
+use lib.Seq.{length-take-le, get_or-take, drop_at}
 use borrow.Author.Tests.{eqb-true, eqb-false, ne_eqb, lt-leb}
+use Rattle.std.proofs.lemmas.Bool.{and_parts, or_cases}
 use Rattle.std.proofs.lemmas.List.{get_or-set_same, get_or-set_other}
 use Rattle.std.proofs.Common.{Result, Ok, Err}
 use Rattle.frame.specs.Refusals.{number_in}
@@ -20,13 +21,13 @@ use Rattle.reply.specs.Kinds.{kind_number}
 use Rattle.handset.specs.declared.Handset.{Handset}
 use Rattle.handset.specs.Feed.{Fed, fed_as, feed_refusal, feed_of}
 use Rattle.reader.specs.Record.{slot_at, brought_by}
-use Rattle.replaying.specs.Written.{window_bytes, window_fed, put_at}
+use Rattle.replaying.specs.Written.{window_bytes, bytes_of, window_fed, put_at}
 use Rattle.replaying.proofs.Putting.{length_put}
-use Rattle.registers.specs.Exactly.{CallExactly, CallsExactly}
+use Rattle.registers.specs.Exactly.{Shown, BothHave, CallExactly, CallsExactly}
 use Rattle.registers.proofs.Lists.{refusal_keeps}
 use Rattle.registers.specs.declared.flags.Flags.{Flags}
-use Rattle.registers.specs.Flags.{flags_in, flags_put, with_refusal, with_reply, without}
-use Rattle.registers.specs.Call.{flagged, refused_block, cleared_block, window_brought, handset_fed, Obeyed, replied, obeyed, block_after, AfterCommand, after_command, command_of}
+use Rattle.registers.specs.Flags.{flags_in, flags_put, with_refusal, with_reply, without, raised}
+use Rattle.registers.specs.Call.{flagged, refused_block, cleared_block, shown_block, window_brought, handset_fed, Obeyed, replied, obeyed, block_after, line_of, AfterCommand, after_command, command_of}
 
 -- A byte with flags put in: its bits are these, and what stands above them is as it was.
 bits : (q : ℕ) (a b c : Bool)
@@ -105,6 +106,44 @@ other_handset b h other quiet = rw (ne_eqb (get_or b 4 0) 1 quiet) (go (eqb (len
     go true false true = refl
     go true false false = refl
 
+-- The line, bit by bit.
+module _ (x y : ℕ) where
+  ones : (u v : ℕ) → (eqb u 1 && eqb v 1) ≡ true → (u ≡ 1) × (v ≡ 1)
+  ones u v e = let p = and_parts (eqb u 1) (eqb v 1) e in (eqb-true u 1 p.0, eqb-true v 1 p.1)
+
+  high : raised (flags_in x) (flags_in y) ≡ true → (i : ℕ) × (i ≤ 2) × BothHave i x y
+  high e = go (or_cases _ (eqb (x / 4 % 2) 1 && eqb (y / 4 % 2) 1) e)
+    where
+      first : (x % 2 ≡ 1) × (y % 2 ≡ 1) → BothHave 0 x y
+      first e = (omega (arith, e.0), omega (arith, e.1))
+
+      two : ((eqb (x % 2) 1 && eqb (y % 2) 1) ≡ true) ⊎ ((eqb (x / 2 % 2) 1 && eqb (y / 2 % 2) 1) ≡ true) → (i : ℕ) × (i ≤ 2) × BothHave i x y
+      two (inl a) = (0, omega arith, first (ones (x % 2) (y % 2) a))
+      two (inr b) = (1, omega arith, ones (x / 2 % 2) (y / 2 % 2) b)
+
+      go : ((eqb (x % 2) 1 && eqb (y % 2) 1 || eqb (x / 2 % 2) 1 && eqb (y / 2 % 2) 1) ≡ true) ⊎ ((eqb (x / 4 % 2) 1 && eqb (y / 4 % 2) 1) ≡ true)
+          → (i : ℕ) × (i ≤ 2) × BothHave i x y
+      go (inl ab) = two (or_cases (eqb (x % 2) 1 && eqb (y % 2) 1) (eqb (x / 2 % 2) 1 && eqb (y / 2 % 2) 1) ab)
+      go (inr c) = (2, omega arith, ones (x / 4 % 2) (y / 4 % 2) c)
+
+  some_high : (i : ℕ) → i ≤ 2 → BothHave i x y → raised (flags_in x) (flags_in y) ≡ true
+  some_high zero low e =
+      let a : x % 2 ≡ 1 = omega (arith, e.0) in
+      let b : y % 2 ≡ 1 = omega (arith, e.1) in
+      rw (a, b)
+  some_high (suc zero) low e = rw (e.0, e.1) (midst (eqb (x % 2) 1 && eqb (y % 2) 1) (eqb (x / 4 % 2) 1 && eqb (y / 4 % 2) 1))
+    where
+      midst : (a c : Bool) → (a || true || c) ≡ true
+      midst true c = refl
+      midst false c = refl
+  some_high (suc (suc zero)) low e = rw (e.0, e.1) (last (eqb (x % 2) 1 && eqb (y % 2) 1) (eqb (x / 2 % 2) 1 && eqb (y / 2 % 2) 1))
+    where
+      last : (a b : Bool) → (a || b || true) ≡ true
+      last true b = refl
+      last false true = refl
+      last false false = refl
+  some_high (suc (suc (suc i))) low e = absurd (omega arith)
+
 -- Bytes that are put at byte 8 leave those before.
 before_put : (l new : List ℕ) → 8 ≤ length l → (i : ℕ) → i < 8 → get_or (put_at 8 new l) i 0 ≡ get_or l i 0
 before_put l new long i low =
@@ -148,6 +187,18 @@ module _ (b : List ℕ) (whole : length b ≡ 16) where
           kept = λ i low other. before_put (flagged change b) reply long i (omega arith) ∙ flags_other i other;
           above = ap (λ (x : ℕ). x / 8) (before_put (flagged change b) reply long 5 (omega arith)) ∙ flags_above;
         }
+
+    -- A reply of eight bytes, and its flags.
+    put_reply : (reply : List ℕ) → length reply ≡ 8 → drop 8 (put_at 8 reply (flagged change b)) ≡ reply
+    put_reply reply eight =
+        let none : drop (8 + length reply) (flagged change b) ≡ [] = drop_of_length-le (flagged change b) {i = 8 + length reply} (omega (arith, flags_length, whole, eight)) in
+        rw (none, append-nil (take 8 (flagged change b) ++ reply))
+        (drop_at (take 8 (flagged change b)) reply 8 (length-take-le 8 (flagged change b) (omega (arith, flags_length, whole))))
+
+    put_flags : (reply : List ℕ) → flags_in (get_or (put_at 8 reply (flagged change b)) 5 0) ≡ change (flags_in (get_or b 5 0))
+    put_flags reply =
+        ap flags_in (before_put (flagged change b) reply (omega (arith, flags_length, whole)) 5 (omega arith) ∙ flags_there)
+        ∙ flags_are (get_or b 5 0) (change (flags_in (get_or b 5 0)))
 
   left_as_it_was : Left b b
   left_as_it_was = record { same_length = refl; kept = λ i low other. refl; above = refl }
@@ -263,7 +314,45 @@ module _ (b : List ℕ) (whole : length b ≡ 16) where
     after_number (Ok new) l e = l.kept 7 (omega arith) (λ e. omega arith)
     after_number (Err k) l e = absurd (l e)
 
-    exactly : CallExactly b h
+    nothing_obeyed : get_or b 4 0 ≡ 0 → obeyed b h ≡ record { block = Ok b; handset = h }
+    unfolding obeyed
+    nothing_obeyed e = rw e
+
+    clear_obeyed : get_or b 4 0 ≡ 2 → obeyed b h ≡ record { block = Ok (cleared_block b); handset = h }
+    unfolding obeyed
+    clear_obeyed e = rw e
+
+    feed_obeyed : get_or b 4 0 ≡ 1 → obeyed b h ≡ record { block = replied b (window_brought b h); handset = handset_fed b h }
+    unfolding obeyed
+    feed_obeyed e = rw e
+
+    -- A feed that is not refused.
+    fed_shown : number_in (replied b (window_brought b h)) ≡ 0
+        → Shown (bytes_of h.next (feed_of h (brought_by (slot_at b 0))).answer) b (block_after b (replied b (window_brought b h)))
+        × (handset_fed b h ≡ (feed_of h (brought_by (slot_at b 0))).handset)
+    unfolding window_brought handset_fed window_bytes
+    fed_shown = go (leb (slot_at b 0).kind 3) f.answer refl
+      where
+        f : Fed
+        f = feed_of h (brought_by (slot_at b 0))
+
+        reply : (r : List ℕ) → length r ≡ 8 → (drop 8 (shown_block b r) ≡ r) × (flags_in (get_or (shown_block b r) 5 0) ≡ with_reply (flags_in (get_or b 5 0)))
+        reply r eight = (put_reply with_reply r eight, put_flags with_reply r)
+
+        go : (known : Bool) (x : Result Answer ℕ) → f.answer ≡ x → number_in (replied b (cond known (window_fed h.next x) (Err 22))) ≡ 0
+            → Shown (bytes_of h.next x) b (block_after b (replied b (cond known (window_fed h.next x) (Err 22))))
+            × (cond known f.handset h ≡ f.handset)
+        go false x is e = absurd (omega arith)
+        go true (Err k) is e = absurd (refusal_some h (brought_by (slot_at b 0)) k is e)
+        go true (Ok Taken) is e = (refl, refl)
+        go true (Ok NoWindow) is e = (refl, refl)
+        go true (Ok Silent) is e = (reply (window_bytes h.next 0 0 0 0) refl, refl)
+        go true (Ok (Sent a)) is e = (reply (window_bytes h.next (kind_number a.kind) a.resource.0 a.b0 a.b1) refl, refl)
+
+    line_told : (command_of b h).told.line ≡ line_of (command_of b h).block
+    line_told = rw made
+
+    exactly : CallExactly command_of b h
     exactly =
         let k : ℕ = number_in (obeyed b h).block in
         record {
@@ -280,7 +369,21 @@ module _ (b : List ℕ) (whole : length b ≡ 16) where
                 ap (λ (a : AfterCommand). a.told.handset) made ∙ s.3,
               );
           number_kept = λ e. ap (λ (a : AfterCommand). get_or a.block 7 0) made ∙ after_number (obeyed b h).block left (rw made at e);
+          none = λ sixteen e. ap (λ (a : AfterCommand). a.block) made ∙ ap (λ (o : Obeyed). block_after b o.block) (nothing_obeyed e);
+          clear = λ sixteen e.
+              let is = ap (λ (a : AfterCommand). a.block) made ∙ ap (λ (o : Obeyed). block_after b o.block) (clear_obeyed e) in
+              let dropped : Flags → Flags = λ f. without f (flags_in (get_or b 0 0)) in (
+                λ i five. ap (λ (l : List ℕ). get_or l i 0) is ∙ flags_other dropped i five,
+                ap (λ (l : List ℕ). flags_in (get_or l 5 0)) is
+                    ∙ ap flags_in (flags_there dropped)
+                    ∙ flags_are (get_or b 5 0) (dropped (flags_in (get_or b 5 0))),
+              );
           any_handset = λ other quiet. other_handset b h other quiet;
+          fed = λ sixteen e none. rw (made, feed_obeyed e) (fed_shown (rw (made, feed_obeyed e) at none));
+          line = λ sixteen.
+              let x : ℕ = get_or (command_of b h).block 5 0 in
+              let y : ℕ = get_or (command_of b h).block 6 0 in
+              (λ e. high x y (sym line_told ∙ e), λ e. line_told ∙ some_high x y e.0 e.1 e.2);
         }
       where
         shown : (k : ℕ) (x : Result (List ℕ) ℕ) → (obeyed b h).block ≡ x → number_in x ≡ suc k
@@ -300,7 +403,7 @@ short_left : (b : List ℕ) (h : Handset) → (length b ≡ 16 → ⊥) → comm
 unfolding command_of
 short_left b h short = rw (ne_eqb (length b) 16 short)
 
-short_exactly : (b : List ℕ) (h : Handset) → (length b ≡ 16 → ⊥) → CallExactly b h
+short_exactly : (b : List ℕ) (h : Handset) → (length b ≡ 16 → ⊥) → CallExactly command_of b h
 short_exactly b h short =
     let made = short_left b h short in
     record {
@@ -311,12 +414,16 @@ short_exactly b h short =
       above = ap (λ (a : AfterCommand). get_or a.block 5 0 / 8) made;
       refused = λ k sixteen e. absurd (short sixteen);
       number_kept = λ e. ap (λ (a : AfterCommand). get_or a.block 7 0) made;
+      none = λ sixteen e. absurd (short sixteen);
+      clear = λ sixteen e. absurd (short sixteen);
       any_handset = λ other quiet. other_handset b h other quiet;
+      fed = λ sixteen e none. absurd (short sixteen);
+      line = λ sixteen. absurd (short sixteen);
     }
 
-pub calls_exactly : CallsExactly
+pub calls_exactly : CallsExactly command_of
 calls_exactly b h = go (eqb (length b) 16) refl
   where
-    go : (whole : Bool) → eqb (length b) 16 ≡ whole → CallExactly b h
+    go : (whole : Bool) → eqb (length b) 16 ≡ whole → CallExactly command_of b h
     go true e = exactly b (eqb-true (length b) 16 e) h
     go false e = short_exactly b h (eqb-false (length b) 16 e)

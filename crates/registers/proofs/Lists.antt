@@ -185,14 +185,14 @@ module _ (w : Written) (r : Running) (eight : length r.reply ≡ 8) where
       = ap line_of same.block ∙ line_same w (step w r).running in
       rw (eight, same.refusal, line, same.block, same.handset)
 
-along : (v : Written) (r : Running) → length r.reply ≡ 8 → (ws : List Written) → calls (shown_as v r) r.handset ws ≡ runs r ws
+along : (v : Written) (r : Running) → length r.reply ≡ 8 → (ws : List Written) → calls command_of (shown_as v r) r.handset ws ≡ runs r ws
 along v r eight [] = refl
 along v r eight (w ∷ ws) =
     let this = seen_same w r eight in
     let next = along w (step w r).running (eight_kept w r eight) ws in
     rw (this, next)
 
-pub block_equals : BlockEquals
+pub block_equals : BlockEquals command_of
 block_equals = record { from_zeros = λ h ws. along nothing_written (started h) refl ws; onwards = along }
   where
     nothing_written : Written

@@ -97,3 +97,7 @@ unfoldable pub command_of : List ℕ → Handset → AfterCommand
 command_of b h =
     cond (eqb (length b) 16) (after_command b (obeyed b h))
     (record { told = record { refusal = 29; line = false; handset = h }; block = b })
+
+-- A call of this kind: what specs/Lists.antt and specs/Exactly.antt speak of, and what `command_of` is.
+abbrev pub Call : Type 0
+Call = List ℕ → Handset → AfterCommand

@@ -3,7 +3,7 @@
 -- Assumes nothing.
 use Rattle.std.specs.Prelude.{ℕ, List, [], ◌∷◌, ◌≡◌, length, replicate, set}
 use Rattle.handset.specs.declared.Handset.{Handset}
-use Rattle.registers.specs.Call.{AfterCommand, command_of}
+use Rattle.registers.specs.Call.{AfterCommand, Call}
 use Rattle.registers.specs.Machine.{Written, Running, started, step, shown_as, seen}
 
 -- The block with what a driver writes between two commands.
@@ -12,11 +12,11 @@ rewritten w b =
     set (set (set (set (set (set b 0 w.slot.kind) 1 w.slot.cce) 2 w.slot.dai) 3 w.slot.results) 4 w.command) 6 w.mask
 
 -- What the calls make of a list of commands, each lent the block and the handset that the one before left.
-abbrev pub calls : List ℕ → Handset → List Written → List AfterCommand
-calls b h [] = []
-calls b h (w ∷ ws) =
-    let a = command_of (rewritten w b) h in
-    a ∷ calls a.block a.told.handset ws
+abbrev pub calls : Call → List ℕ → Handset → List Written → List AfterCommand
+calls call b h [] = []
+calls call b h (w ∷ ws) =
+    let a = call (rewritten w b) h in
+    a ∷ calls call a.block a.told.handset ws
 
 -- What the running handset with the flags beside it makes of them.
 abbrev pub runs : Running → List Written → List AfterCommand
@@ -25,8 +25,8 @@ runs r (w ∷ ws) = seen w (step w r) ∷ runs (step w r).running ws
 
 -- Block, line, refusal and handset after each command are those of the running handset with the flags beside it, whatever is written:
 -- none, clear, feeds that are refused or not, commands over 2 and kinds over 3.
-pub record BlockEquals : Type 0 where
+pub record BlockEquals (call : Call) : Type 0 where
   -- with any handset at the start, fresh ones among them
-  pub from_zeros : (h : Handset) (ws : List Written) → calls (replicate 16 0) h ws ≡ runs (started h) ws
+  pub from_zeros : (h : Handset) (ws : List Written) → calls call (replicate 16 0) h ws ≡ runs (started h) ws
   -- and from any block that shows a running handset, whatever stands in its other bytes and whatever came before
-  pub onwards : (v : Written) (r : Running) → length r.reply ≡ 8 → (ws : List Written) → calls (shown_as v r) r.handset ws ≡ runs r ws
+  pub onwards : (v : Written) (r : Running) → length r.reply ≡ 8 → (ws : List Written) → calls call (shown_as v r) r.handset ws ≡ runs r ws
