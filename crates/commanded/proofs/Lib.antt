@@ -1,1 +1,2 @@
 mod Run
+mod Worked

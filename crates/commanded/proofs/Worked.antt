@@ -1,0 +1,119 @@
+-- Lists of commands on numbers, so that the statements are about something: one whose feeds are a worked run of engines/proofs/Worked.antt
+-- and bring what its station sends, and one that is refused. N_RB 50, N1 10, configuration 1, mode 0, one block.
+-- Assumes nothing.
+use Prim.Native.Nat.{ℕ}
+use mathlib.Core.Bool.{Bool, true, false}
+use mathlib.Core.List.{List, [], ◌∷◌, map}
+use mathlib.Core.Path.{◌≡◌, refl}
+use lib.ListN.{replicate}
+use Rattle.handset.specs.declared.Handset.{Handset}
+use Rattle.handset.specs.Make.{make_of}
+use Rattle.reader.specs.Record.{slot_at, used_results, used_in, brought_by}
+use Rattle.replaying.specs.Written.{window_bytes}
+use Rattle.registers.specs.Call.{window_brought, handset_fed, obeyed, AfterCommand, command_of}
+use Rattle.registers.specs.Machine.{Written, started, feed_step, step}
+use Rattle.registers.specs.Lists.{calls, runs}
+use Rattle.agreement.specs.Demand3.{feedback_engine, HoldsAfter}
+use Rattle.engines.proofs.Computing.{handsets}
+use Rattle.engines.proofs.Finite.{sending}
+use Rattle.engines.proofs.Worked.{cell, all_heard, all_heard_holds}
+use Rattle.commanded.specs.Run.{run_of}
+use Rattle.commanded.proofs.Run.{commands_run}
+
+-- The definitions that a list of commands computes with, beside those of the handset.
+unfoldable pub commands : Unit {0}
+unfolding handsets slot_at used_results used_in brought_by window_bytes window_brought handset_fed obeyed command_of feed_step step run_of
+commands = tt
+
+abbrev pub written : ℕ → ℕ → ℕ → ℕ → ℕ → ℕ → Written
+written command kind cce dai results mask =
+    record { slot = record { kind = kind; cce = cce; dai = dai; results = results }; command = command; mask = mask }
+
+abbrev pub nothing_fed : ℕ → Written
+nothing_fed = written 1 0 0 0 0
+
+abbrev pub cleared : ℕ → ℕ → Written
+cleared flags = written 2 flags 0 0 0
+
+abbrev pub made : Handset
+made = (make_of (cell 1 0)).handset
+
+-- What is seen of each call: the refusal, the line and the block.
+pub record Seen : Type 0 where
+  pub refusal : ℕ
+  pub line : Bool
+  pub block : List ℕ
+
+abbrev pub seen_of : AfterCommand → Seen
+seen_of a = record { refusal = a.told.refusal; line = a.told.line; block = a.block }
+
+-- Grants of DAI 1 and 2 with first CCEs 3 and 10, both decoded; then nothing, with a kind and a command that there are not in between.
+-- The bits of a record that are not used are set.
+abbrev pub drive : List Written
+drive =
+    written 1 1 3 1 3 7
+    ∷ written 1 1 10 2 251 7
+    ∷ written 0 1 10 2 251 0
+    ∷ nothing_fed 1
+    ∷ nothing_fed 4
+    ∷ cleared 12 4
+    ∷ written 1 9 0 0 0 2
+    ∷ written 200 0 0 0 0 0
+    ∷ cleared 3 7
+    ∷ nothing_fed 0
+    ∷ nothing_fed 0
+    ∷ nothing_fed 0
+    ∷ nothing_fed 255
+    ∷ []
+
+abbrev seen : ℕ → Bool → List ℕ → Seen
+seen refusal line block = record { refusal = refusal; line = line; block = block }
+
+-- Subframes 2 and 3 are silent, and the second reply overwrites the first; in 7 a bundled reply on resource 31, ACK.
+abbrev drive_shows : List Seen
+drive_shows =
+    seen 0 false (1 ∷ 3 ∷ 1 ∷ 3 ∷ 1 ∷ 0 ∷ 7 ∷ 0 ∷ 0 ∷ 0 ∷ 0 ∷ 0 ∷ 0 ∷ 0 ∷ 0 ∷ 0 ∷ [])
+    ∷ seen 0 false (1 ∷ 10 ∷ 2 ∷ 251 ∷ 1 ∷ 0 ∷ 7 ∷ 0 ∷ 0 ∷ 0 ∷ 0 ∷ 0 ∷ 0 ∷ 0 ∷ 0 ∷ 0 ∷ [])
+    ∷ seen 0 false (1 ∷ 10 ∷ 2 ∷ 251 ∷ 0 ∷ 0 ∷ 0 ∷ 0 ∷ 0 ∷ 0 ∷ 0 ∷ 0 ∷ 0 ∷ 0 ∷ 0 ∷ 0 ∷ [])
+    ∷ seen 0 true (0 ∷ 0 ∷ 0 ∷ 0 ∷ 1 ∷ 1 ∷ 1 ∷ 0 ∷ 2 ∷ 0 ∷ 0 ∷ 0 ∷ 0 ∷ 0 ∷ 0 ∷ 0 ∷ [])
+    ∷ seen 0 true (0 ∷ 0 ∷ 0 ∷ 0 ∷ 1 ∷ 5 ∷ 4 ∷ 0 ∷ 3 ∷ 0 ∷ 0 ∷ 0 ∷ 0 ∷ 0 ∷ 0 ∷ 0 ∷ [])
+    ∷ seen 0 false (12 ∷ 0 ∷ 0 ∷ 0 ∷ 2 ∷ 1 ∷ 4 ∷ 0 ∷ 3 ∷ 0 ∷ 0 ∷ 0 ∷ 0 ∷ 0 ∷ 0 ∷ 0 ∷ [])
+    ∷ seen 22 true (9 ∷ 0 ∷ 0 ∷ 0 ∷ 1 ∷ 3 ∷ 2 ∷ 22 ∷ 3 ∷ 0 ∷ 0 ∷ 0 ∷ 0 ∷ 0 ∷ 0 ∷ 0 ∷ [])
+    ∷ seen 28 false (0 ∷ 0 ∷ 0 ∷ 0 ∷ 200 ∷ 3 ∷ 0 ∷ 28 ∷ 3 ∷ 0 ∷ 0 ∷ 0 ∷ 0 ∷ 0 ∷ 0 ∷ 0 ∷ [])
+    ∷ seen 0 false (3 ∷ 0 ∷ 0 ∷ 0 ∷ 2 ∷ 0 ∷ 7 ∷ 28 ∷ 3 ∷ 0 ∷ 0 ∷ 0 ∷ 0 ∷ 0 ∷ 0 ∷ 0 ∷ [])
+    ∷ seen 0 false (0 ∷ 0 ∷ 0 ∷ 0 ∷ 1 ∷ 0 ∷ 0 ∷ 28 ∷ 3 ∷ 0 ∷ 0 ∷ 0 ∷ 0 ∷ 0 ∷ 0 ∷ 0 ∷ [])
+    ∷ seen 0 false (0 ∷ 0 ∷ 0 ∷ 0 ∷ 1 ∷ 0 ∷ 0 ∷ 28 ∷ 3 ∷ 0 ∷ 0 ∷ 0 ∷ 0 ∷ 0 ∷ 0 ∷ 0 ∷ [])
+    ∷ seen 0 false (0 ∷ 0 ∷ 0 ∷ 0 ∷ 1 ∷ 0 ∷ 0 ∷ 28 ∷ 3 ∷ 0 ∷ 0 ∷ 0 ∷ 0 ∷ 0 ∷ 0 ∷ 0 ∷ [])
+    ∷ seen 0 true (0 ∷ 0 ∷ 0 ∷ 0 ∷ 1 ∷ 1 ∷ 255 ∷ 28 ∷ 7 ∷ 1 ∷ 31 ∷ 0 ∷ 1 ∷ 0 ∷ 0 ∷ 0 ∷ [])
+    ∷ []
+
+pub drive_seen : map seen_of (calls command_of (replicate 16 0) made drive) ≡ drive_shows
+unfolding commands
+drive_seen = refl
+
+pub drive_runs : map seen_of (runs (started made) drive) ≡ drive_shows
+unfolding commands
+drive_runs = refl
+
+-- Its feeds are those of the worked run, of whose schedule demand 3 therefore holds.
+pub drive_run : run_of drive ≡ all_heard.items
+unfolding commands
+drive_run = refl
+
+pub drive_holds : HoldsAfter feedback_engine (cell 1 0) (sending all_heard.sends) (run_of drive)
+unfolding commands
+drive_holds = (commands_run (cell 1 0) refl drive).holds (sending all_heard.sends) all_heard_holds.schedule all_heard_holds.brings
+
+-- A grant in subframe 3, which is uplink, is refused 9 with a reply unread: the reply stays, and subframe 3 is fed afterwards.
+abbrev pub false_alarm : List Written
+false_alarm = nothing_fed 0 ∷ nothing_fed 0 ∷ nothing_fed 1 ∷ written 1 1 3 1 1 2 ∷ nothing_fed 2 ∷ []
+
+pub false_alarm_seen : map seen_of (calls command_of (replicate 16 0) made false_alarm)
+    ≡ seen 0 false (0 ∷ 0 ∷ 0 ∷ 0 ∷ 1 ∷ 0 ∷ 0 ∷ 0 ∷ 0 ∷ 0 ∷ 0 ∷ 0 ∷ 0 ∷ 0 ∷ 0 ∷ 0 ∷ [])
+    ∷ seen 0 false (0 ∷ 0 ∷ 0 ∷ 0 ∷ 1 ∷ 0 ∷ 0 ∷ 0 ∷ 0 ∷ 0 ∷ 0 ∷ 0 ∷ 0 ∷ 0 ∷ 0 ∷ 0 ∷ [])
+    ∷ seen 0 true (0 ∷ 0 ∷ 0 ∷ 0 ∷ 1 ∷ 1 ∷ 1 ∷ 0 ∷ 2 ∷ 0 ∷ 0 ∷ 0 ∷ 0 ∷ 0 ∷ 0 ∷ 0 ∷ [])
+    ∷ seen 9 true (1 ∷ 3 ∷ 1 ∷ 1 ∷ 1 ∷ 3 ∷ 2 ∷ 9 ∷ 2 ∷ 0 ∷ 0 ∷ 0 ∷ 0 ∷ 0 ∷ 0 ∷ 0 ∷ [])
+    ∷ seen 0 true (0 ∷ 0 ∷ 0 ∷ 0 ∷ 1 ∷ 7 ∷ 2 ∷ 9 ∷ 3 ∷ 0 ∷ 0 ∷ 0 ∷ 0 ∷ 0 ∷ 0 ∷ 0 ∷ [])
+    ∷ []
+unfolding commands
+false_alarm_seen = refl
