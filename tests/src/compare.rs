@@ -5,17 +5,17 @@ use crate::form::Form;
 use crate::guarded::{Flush, Guarded, BOTH};
 use crate::model::Model;
 use crate::plain::{
-    plain_answered, plain_change_mode, plain_confirmed, plain_credit, plain_feed_grant,
-    plain_feed_nothing, plain_feed_release, plain_feed_scheduled, plain_game, plain_inverse,
-    plain_make, plain_open_account, plain_reading, plain_record, plain_replay, plain_resource,
-    plain_silence, plain_trace_write, plain_window,
+    plain_answered, plain_change_mode, plain_command, plain_confirmed, plain_credit,
+    plain_feed_grant, plain_feed_nothing, plain_feed_release, plain_feed_scheduled, plain_game,
+    plain_inverse, plain_make, plain_open_account, plain_reading, plain_record, plain_replay,
+    plain_resource, plain_silence, plain_trace_write, plain_window,
 };
 use crate::random::Random;
 use crate::{
-    answered, change_mode, confirmed, credit, feed, feed_nothing, game, inverse, make,
+    answered, change_mode, command, confirmed, credit, feed, feed_nothing, game, inverse, make,
     open_account, reading, record, replay, resource, silence, trace_write, window, Account, Block,
-    Changed, ClaimsAnswer, ConfirmedAnswer, CreditAnswer, Exchange, Fed, GameAnswer, Grant,
-    Handset, Heard, Opened, ReadingAnswer, RecordAnswer, Release, ReplayAnswer, Settings,
+    Changed, ClaimsAnswer, CommandAnswer, ConfirmedAnswer, CreditAnswer, Exchange, Fed, GameAnswer,
+    Grant, Handset, Heard, Opened, ReadingAnswer, RecordAnswer, Release, ReplayAnswer, Settings,
     SilenceAnswer, WriteAnswer,
 };
 use std::fmt;
@@ -38,7 +38,7 @@ pub const BANDWIDTHS: u64 = 105;
 pub const CCES: u64 = 7397;
 
 /// The highest refusal number.
-const LAST_REFUSAL: usize = 27;
+const LAST_REFUSAL: usize = 29;
 
 /// The highest kind of an answer.
 const LAST_KIND: usize = 5;
@@ -337,6 +337,33 @@ impl<'a> Comparison<'a> {
         given
     }
 
+    /// Two comparisons: the block lies flush with a guard, once at its start and once at its
+    /// end. Every byte of it is compared, and of the handset. Shows the answer, and the block
+    /// afterwards.
+    pub fn command(
+        &mut self,
+        lent: &mut Guarded,
+        handset: Handset,
+        block: &[u8],
+    ) -> (CommandAnswer, Vec<u8>) {
+        let mut left = block.to_vec();
+        let due = self.model.command(handset, &mut left);
+        let mut plain_left = block.to_vec();
+        let plain = plain_command_on(handset, &mut plain_left);
+        for flush in BOTH {
+            let given_left = lent.bytes(block, flush);
+            let given = command(handset, given_left);
+            assert!(
+                given == due && plain == due && given_left == left && plain_left == left,
+                "feedback_command({handset:?}, {block:?}), flush at the {flush:?}: the engine \
+                 gives {given:?} and leaves {given_left:?}, the model {due:?} and {left:?}, the \
+                 plain implementation {plain:?} and {plain_left:?}"
+            );
+            self.counts[usize::from(due.refusal)] += 1;
+        }
+        (due, left)
+    }
+
     /// Ends a test: as many answers were compared as there should be, and as
     /// many of them were answers without a refusal.
     pub fn finish(&self, compared: u64, answered: u64) {
@@ -591,6 +618,12 @@ pub fn plain_trace_write_on(trace: &[u8], output: &mut [u8]) -> WriteAnswer {
 pub fn plain_record_of(trace: &[u8], next: usize) -> RecordAnswer {
     // SAFETY: the trace is lent with its length.
     unsafe { plain_record(trace.as_ptr(), trace.len(), next) }
+}
+
+/// The plain implementation's answer to a command, with what it leaves in the block.
+pub fn plain_command_on(handset: Handset, block: &mut [u8]) -> CommandAnswer {
+    // SAFETY: the block is lent with its length.
+    unsafe { plain_command(handset, block.as_mut_ptr(), block.len()) }
 }
 
 /// The plain implementation's answer to a feed.

@@ -8,8 +8,9 @@
 //! combination ([`every`]) or at random ([`random`]), and on memory that is lent
 //! from [`guarded`]. [`form`] has the two forms in which claims are checked. [`trace`]
 //! builds recorded drives as bytes. [`fates`] sends, loses and decodes what a window brings,
-//! [`silences`] tells why a window is silent, in wrong ways too, and [`charging`] builds what a
-//! credit is given. [`vectors`] reads the cases that come with the requests.
+//! [`silences`] tells why a window is silent, in wrong ways too, [`charging`] builds what a
+//! credit is given, and [`registers`] has the places and flags of a register block, and wrong ways
+//! to carry out its commands. [`vectors`] reads the cases that come with the requests.
 
 pub mod charging;
 pub mod compare;
@@ -20,25 +21,26 @@ pub mod guarded;
 pub mod model;
 pub mod plain;
 pub mod random;
+pub mod registers;
 pub mod silences;
 pub mod trace;
 pub mod types;
 pub mod vectors;
 
 pub use types::{
-    Account, AnsweredAnswer, Block, Changed, ClaimsAnswer, ConfirmedAnswer, CreditAnswer, Exchange,
-    Fed, GameAnswer, Grant, Handset, Heard, InverseAnswer, Made, Opened, ReadingAnswer,
-    RecordAnswer, Release, ReplayAnswer, ResourceAnswer, Sent, SentWindow, Settings, SilenceAnswer,
-    Sizes, Slot, Step, WindowAnswer, WriteAnswer, NONE, NOT_TOLD,
+    Account, AnsweredAnswer, Block, Changed, ClaimsAnswer, CommandAnswer, ConfirmedAnswer,
+    CreditAnswer, Exchange, Fed, GameAnswer, Grant, Handset, Heard, InverseAnswer, Made, Opened,
+    ReadingAnswer, RecordAnswer, Release, ReplayAnswer, ResourceAnswer, Sent, SentWindow, Settings,
+    SilenceAnswer, Sizes, Slot, Step, WindowAnswer, WriteAnswer, NONE, NOT_TOLD,
 };
 
 /// The engine's calls under their C names.
 pub mod c {
     use super::{
-        Account, AnsweredAnswer, Changed, ClaimsAnswer, ConfirmedAnswer, CreditAnswer, Fed,
-        GameAnswer, Handset, InverseAnswer, Made, Opened, ReadingAnswer, RecordAnswer,
-        ReplayAnswer, ResourceAnswer, SentWindow, Settings, SilenceAnswer, WindowAnswer,
-        WriteAnswer,
+        Account, AnsweredAnswer, Changed, ClaimsAnswer, CommandAnswer, ConfirmedAnswer,
+        CreditAnswer, Fed, GameAnswer, Handset, InverseAnswer, Made, Opened, ReadingAnswer,
+        RecordAnswer, ReplayAnswer, ResourceAnswer, SentWindow, Settings, SilenceAnswer,
+        WindowAnswer, WriteAnswer,
     };
 
     extern "C" {
@@ -148,6 +150,8 @@ pub mod c {
         ) -> CreditAnswer;
 
         pub fn feedback_game(size: u16, grants: u16, losses: u16) -> GameAnswer;
+
+        pub fn feedback_command(handset: Handset, block: *mut u8, length: usize) -> CommandAnswer;
     }
 }
 
@@ -321,4 +325,11 @@ pub fn credit(exchange: Exchange, account: Account) -> CreditAnswer {
 pub fn game(size: u16, grants: u16, losses: u16) -> GameAnswer {
     // SAFETY: the call takes numbers and gives numbers, and is lent no memory.
     unsafe { c::feedback_game(size, grants, losses) }
+}
+
+/// The engine's answer to the command of a register block, behind which a handset is mapped, with
+/// what it leaves in the block.
+pub fn command(handset: Handset, block: &mut [u8]) -> CommandAnswer {
+    // SAFETY: the block is lent with its own length, to be written.
+    unsafe { c::feedback_command(handset, block.as_mut_ptr(), block.len()) }
 }

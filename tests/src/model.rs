@@ -5,13 +5,15 @@
 //! are a search in that list: the resource of a pair is the place where it lies,
 //! and a pair or a place that is not in the list is refused. A second port has the
 //! place behind that. The multiplexed replies are laid out likewise: every state of a
-//! window, with its symbol. Of the game every play is gone through.
+//! window, with its symbol. Of the game every play is gone through. A register block is taken
+//! apart into what its bytes are for.
 
 mod charging;
 mod confirmation;
 mod game;
 mod handset;
 mod programs;
+mod registers;
 mod replay;
 mod replies;
 mod silence;
@@ -57,7 +59,8 @@ const SPECIALS: [(u16, [u16; 2]); 2] = [(8, [0, 5]), (6, [0, 4])];
 /// after: 17 after 6, 18 after 12, 19 after 17, 20 after 9, 24 after 19, 25 after 18, 26 after
 /// 25. What 26 needs is known only where neither 13 nor 14 is met. Those of a trace
 /// are tried where it is opened: 21 and 22 before all of these, 23 behind those of the
-/// settings; where it is written 23 is tried last. 27 is alone in its call.
+/// settings; where it is written 23 is tried last. 27 is alone in its call. Those of a register
+/// block, 29 and 28, come before all others there.
 const ORDER: [u16; 23] =
     [1, 2, 3, 4, 5, 6, 17, 19, 24, 7, 8, 9, 20, 10, 11, 12, 18, 25, 26, 13, 14, 15, 16];
 

@@ -2,12 +2,13 @@
 //! lookup, the formula, a loop over the regions, a closed form for the inverse,
 //! one pass over a window, a match for the symbols, a replay that looks back into the
 //! trace, records that are spelled by a mask, positions of a window as sets of bits, a closed
-//! form for the game. The benchmark measures the engine against these, and the fuzzing compares
-//! with them.
+//! form for the game, flags of a register block as bits in place. The benchmark measures the
+//! engine against these, and the fuzzing compares with them.
 
 mod charging;
 mod game;
 mod handset;
+mod registers;
 mod replay;
 mod spelling;
 mod station;
@@ -19,6 +20,7 @@ pub use handset::{
     plain_change_mode, plain_feed_grant, plain_feed_nothing, plain_feed_release,
     plain_feed_scheduled, plain_make, plain_silence,
 };
+pub use registers::plain_command;
 pub use replay::{plain_record, plain_replay};
 pub use spelling::plain_trace_write;
 pub use station::{plain_claims, plain_claims_bits, plain_reading};

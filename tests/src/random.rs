@@ -1,7 +1,8 @@
 //! Pseudo-random inputs from fixed seeds, the same in every run.
 
 use crate::every::{mixed_cells, SPECIALS};
-use crate::model::{edge, is_short, Model, Window, NRB};
+use crate::model::{edge, is_short, is_uplink, Model, Window, NRB};
+use crate::registers::{Written, CLEAR, FEED, NO_COMMAND, SIZE};
 use crate::trace::{put_number, record_of, Trace, FIRST_AT};
 use crate::{
     Account, Block, Exchange, Grant, Handset, Heard, Release, Sent, SentWindow, Settings, Slot,
@@ -311,6 +312,66 @@ impl Random {
         }
     }
 
+    /// A register block of any bytes.
+    pub fn register_block(&mut self) -> [u8; SIZE] {
+        [(); SIZE].map(|()| self.any_byte())
+    }
+
+    /// What is written to a register block before the next command of a good handset: mostly a
+    /// feed, else a clear of any flags, none, or another command.
+    pub fn written(&mut self, model: &Model, handset: Handset) -> Written {
+        let command = match self.below(32) {
+            0 => self.any_byte(),
+            1 | 2 => NO_COMMAND,
+            3..=7 => CLEAR,
+            _ => FEED,
+        };
+        let record = match command {
+            FEED => self.next_record(model, handset),
+            _ => {
+                let dropped = self.any_flags();
+                let [cce, dai, results] = [0; 3].map(|_: u8| self.any_byte());
+                Slot { kind: dropped, cce, dai, results }
+            }
+        };
+        Written { record, command, mask: self.any_flags() }
+    }
+
+    /// Any flags of a register block, once in three in any byte.
+    fn any_flags(&mut self) -> u8 {
+        match self.once_in(3) {
+            true => self.any_byte(),
+            false => self.below(8) as u8,
+        }
+    }
+
+    /// A record for the next subframe of a good handset, mostly one that is taken there, with the
+    /// DAI by the rule. What its kind does not use has any value.
+    fn next_record(&mut self, model: &Model, handset: Handset) -> Slot {
+        let Handset { settings, next, .. } = handset;
+        let dai = match self.once_in(8) {
+            true => 1 + self.below16(4),
+            false => 1 + pdcchs_heard(model, handset) % 4,
+        };
+        let grant = Grant { dai, ..self.grant(settings) };
+        let Grant { blocks, first, second, cce, .. } = grant;
+        let drawn = match self.below(8) {
+            _ if is_uplink(settings.config, next) && !self.once_in(12) => Heard::Nothing,
+            0..4 => Heard::Grant(grant),
+            4 => Heard::Block(Block { blocks, first, second }),
+            5 => Heard::Release(Release { cce, dai }),
+            _ => Heard::Nothing,
+        };
+        let record = self.with_unused(record_of(drawn));
+        match self.below(24) {
+            0 => Slot { kind: self.any_byte(), ..record },
+            1 => Slot { cce: self.any_byte(), ..record },
+            2 => Slot { dai: self.any_byte(), ..record },
+            3 => Slot { results: self.any_byte(), ..record },
+            _ => record,
+        }
+    }
+
     /// Bytes of any value.
     pub fn bytes(&mut self, length: usize) -> Vec<u8> {
         (0..length).map(|_| self.any_byte()).collect()
@@ -541,4 +602,20 @@ fn pdcchs_before(model: &Model, settings: Settings, records: &[Slot]) -> u16 {
         kind == Some(Slot::GRANT) || kind == Some(Slot::RELEASE)
     };
     subframes.filter(|at| is_pdcch(*at)).count() as u16
+}
+
+/// How many PDCCHs a handset heard in the window that its next subframe is in; none in an uplink
+/// one.
+fn pdcchs_heard(model: &Model, handset: Handset) -> u16 {
+    let Handset { settings, next, past, .. } = handset;
+    let answered = model.answered(settings, next);
+    let Some(window) = model.window(settings.config, answered.n) else {
+        return 0;
+    };
+    let ago = window.k.iter().filter(|k| **k > answered.k).map(|k| k - answered.k);
+    let is_pdcch = |ago: &u16| {
+        let kind = past[usize::from(*ago) - 1].kind;
+        kind == Slot::GRANT || kind == Slot::RELEASE
+    };
+    ago.filter(is_pdcch).count() as u16
 }

@@ -233,6 +233,17 @@ pub struct GameAnswer {
     pub radio: u16,
 }
 
+/// The answer of a command of a register block: a refusal, or 0; 1 if the interrupt line is high
+/// afterwards, else 0; and the handset afterwards, which a refusal leaves. Beside a block that has
+/// not 16 bytes the line is 0.
+#[repr(C)]
+#[derive(Clone, Copy, Debug, PartialEq, Eq)]
+pub struct CommandAnswer {
+    pub refusal: u16,
+    pub line: u16,
+    pub handset: Handset,
+}
+
 /// The answer of a replay: refused before any record (kind 0), done (1), or stopped at
 /// the record whose feed is refused (2), with that record's number; and how many
 /// windows were written.
@@ -731,5 +742,12 @@ impl GameAnswer {
     /// Whether the radio can force it.
     pub fn of(radio_forces: bool) -> Self {
         Self { refusal: 0, radio: radio_forces.into() }
+    }
+}
+
+impl CommandAnswer {
+    /// Beside a refusal, 0 for none, stands whether the line is high.
+    pub fn of(refusal: u16, is_high: bool, handset: Handset) -> Self {
+        Self { refusal, line: is_high.into(), handset }
     }
 }

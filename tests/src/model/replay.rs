@@ -128,7 +128,7 @@ fn settings_in(bytes: &[u8]) -> Settings {
 }
 
 /// Kind, first CCE, DAI, results.
-fn record_in(bytes: &[u8]) -> Slot {
+pub(super) fn record_in(bytes: &[u8]) -> Slot {
     Slot { kind: bytes[0], cce: bytes[1], dai: bytes[2], results: bytes[3] }
 }
 
@@ -148,7 +148,7 @@ pub(super) fn used(record: Slot) -> Slot {
 }
 
 /// What a record of which all is used says that its subframe heard.
-fn heard(record: Slot) -> Heard {
+pub(super) fn heard(record: Slot) -> Heard {
     let Slot { kind, cce, dai, results } = record;
     let (cce, dai) = (cce.into(), dai.into());
     let [first, second, two] = [1, 2, 4].map(|bit| u16::from(results & bit != 0));
@@ -160,8 +160,9 @@ fn heard(record: Slot) -> Heard {
     }
 }
 
-/// The eight bytes of the window that a feed answers, if it answers one.
-fn window_bytes(number: usize, fed: &Fed) -> Option<[u8; 8]> {
+/// The eight bytes of the window that a feed answers, if it answers one; the number is that of
+/// its subframe, a count from 0 of which the last digit is the subframe in the frame.
+pub(super) fn window_bytes(number: usize, fed: &Fed) -> Option<[u8; 8]> {
     let kind = match fed.kind {
         Fed::SILENT => 0,
         Fed::BUNDLED => 1,

@@ -128,19 +128,26 @@ fn feed_nothing(handset: &Handset) -> Fed {
     if limits.is_downlink(handset.next) {
         return Fed::answer(Fed::TAKEN, after);
     }
+    match answered_next(handset) {
+        None => Fed::answer(Fed::NO_WINDOW, after),
+        Some(None) => Fed::answer(Fed::SILENT, after),
+        Some(Some(Reply { kind, resource, bits })) => {
+            Fed::reply(kind, resource, bits, after).with_second(second(&handset.settings, resource))
+        }
+    }
+}
+
+/// What a good state answers in the next subframe, if that has a window: a reply, or silence.
+#[inline(always)]
+pub(super) fn answered_next(handset: &Handset) -> Option<Option<Reply>> {
     let settings = &handset.settings;
     let (config, n) = (usize::from(settings.config), usize::from(handset.next));
     let window = K[config][n];
     if window.is_empty() {
-        return Fed::answer(Fed::NO_WINDOW, after);
+        return None;
     }
     let mode = handset.modes >> (BEGINS[config][n] - 1) & 1;
-    match reply(settings, mode, window, |k| handset.past[usize::from(k) - 1]) {
-        Some(Reply { kind, resource, bits }) => {
-            Fed::reply(kind, resource, bits, after).with_second(second(settings, resource))
-        }
-        None => Fed::answer(Fed::SILENT, after),
-    }
+    Some(reply(settings, mode, window, |k| handset.past[usize::from(k) - 1]))
 }
 
 /// A feed of a grant, under the signature of the C call.
@@ -312,7 +319,7 @@ impl Limits {
 }
 
 /// The limits of a lent state, unless it is bad.
-fn limits_of_good(handset: &Handset) -> Option<Limits> {
+pub(super) fn limits_of_good(handset: &Handset) -> Option<Limits> {
     let settings = &handset.settings;
     check(settings).ok()?;
     let multiplexed = handset.modes & Handset::ALL_MULTIPLEXING != 0;
@@ -359,7 +366,7 @@ fn results(blocks: u16, first: u16, second: u16) -> u8 {
     u8::from(first != 0) | u8::from(second != 0) << 1 | u8::from(blocks == 2) << 2
 }
 
-fn remember(handset: &Handset, slot: Slot) -> Handset {
+pub(super) fn remember(handset: &Handset, slot: Slot) -> Handset {
     let mut after = *handset;
     after.past.copy_within(..12, 1);
     after.past[0] = slot;

@@ -11,7 +11,7 @@ use std::slice;
 pub(super) const HEADER: usize = 8;
 pub(super) const SETTINGS: usize = 10;
 pub(super) const RECORD: usize = 4;
-const WINDOW: usize = 8;
+pub(super) const WINDOW: usize = 8;
 
 /// The parts of a trace that lie in it, of any values.
 pub(super) struct Parts<'a> {
@@ -142,7 +142,7 @@ pub(super) fn slot(record: &[u8; RECORD]) -> Slot {
 }
 
 /// What the kind of a record uses; the rest is 0.
-fn used(record: Slot) -> Slot {
+pub(super) fn used(record: Slot) -> Slot {
     let bits = if record.results & Slot::TWO != 0 { 7 } else { Slot::FIRST };
     let results = record.results & bits;
     match record.kind {
@@ -182,7 +182,7 @@ fn play(settings: &Settings, records: &[[u8; RECORD]], out: &mut [u8]) -> Replay
     ReplayAnswer::done(written)
 }
 
-fn window_bytes(n: u16, reply: Option<Reply>) -> [u8; WINDOW] {
+pub(super) fn window_bytes(n: u16, reply: Option<Reply>) -> [u8; WINDOW] {
     let Some(Reply { kind, resource, bits: (b0, b1) }) = reply else {
         return [n as u8, 0, 0, 0, 0, 0, 0, 0];
     };
