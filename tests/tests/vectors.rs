@@ -4,8 +4,8 @@
 
 use feedback_tests::charging::Windows;
 use feedback_tests::compare::{
-    plain_confirmed_of, plain_credit_of, plain_feed, plain_record_of, plain_replay_on,
-    plain_trace_write_on,
+    plain_command_on, plain_confirmed_of, plain_credit_of, plain_feed, plain_record_of,
+    plain_replay_on, plain_trace_write_on,
 };
 use feedback_tests::form::Form;
 use feedback_tests::model::{Game, Model};
@@ -13,13 +13,14 @@ use feedback_tests::plain::{
     plain_add, plain_change_mode, plain_game, plain_inverse, plain_make, plain_open_account,
     plain_reading, plain_resource, plain_silence,
 };
+use feedback_tests::registers::{is_high, Written, FEED, WRONG, ZEROS};
 use feedback_tests::vectors::{cases, heard, step, Case};
 use feedback_tests::{
-    change_mode, confirmed, credit, feed, game, inverse, make, open_account, reading, record,
-    replay, resource, silence, trace_write, window, Account, Changed, ClaimsAnswer,
-    ConfirmedAnswer, CreditAnswer, Exchange, Fed, GameAnswer, Handset, Heard, InverseAnswer,
-    Opened, ReadingAnswer, RecordAnswer, ReplayAnswer, ResourceAnswer, Sent, SentWindow, Settings,
-    SilenceAnswer, Slot, Step, WriteAnswer, NOT_TOLD,
+    change_mode, command, confirmed, credit, feed, game, inverse, make, open_account, reading,
+    record, replay, resource, silence, trace_write, window, Account, Changed, ClaimsAnswer,
+    CommandAnswer, ConfirmedAnswer, CreditAnswer, Exchange, Fed, GameAnswer, Handset, Heard,
+    InverseAnswer, Opened, ReadingAnswer, RecordAnswer, ReplayAnswer, ResourceAnswer, Sent,
+    SentWindow, Settings, SilenceAnswer, Slot, Step, WriteAnswer, NOT_TOLD,
 };
 use std::fmt::Debug;
 
@@ -198,6 +199,15 @@ impl Who<'_> {
             Self::Engine => game(size, grants, losses),
             Self::Model(model) => model.game(size, grants, losses),
             Self::Plain => plain_game(size, grants, losses),
+        }
+    }
+
+    /// The answer to a command, with what is left in the block.
+    fn command(&self, handset: Handset, block: &mut [u8]) -> CommandAnswer {
+        match self {
+            Self::Engine => command(handset, block),
+            Self::Model(model) => model.command(handset, block),
+            Self::Plain => plain_command_on(handset, block),
         }
     }
 
@@ -763,6 +773,70 @@ fn game_of(case: &Case) -> [u16; 3] {
     ["size", "G", "L"].map(|name| case.number(name))
 }
 
+/// A command: its number from 0, and the block, the line and the refusal after it.
+type CommandStep = (usize, Vec<u8>, u16, u16);
+
+/// A list of commands for a handset and a block of zeros: six bytes are written before each. It
+/// gets the block and the handset that the one before left. The first command after which something
+/// is otherwise than it should be is shown, or else the last.
+fn commands_line(
+    case: &Case,
+    made: Handset,
+    command: impl Fn(Handset, &mut [u8]) -> CommandAnswer,
+) -> (Option<CommandStep>, Option<CommandStep>) {
+    let (commands, blocks) = (case.bytes("commands"), case.bytes("blocks"));
+    let (lines, refusals) = (case.numbers("lines"), case.numbers("refusals"));
+    let number = refusals.len();
+    let whole = (commands.len(), blocks.len(), lines.len()) == (6 * number, 16 * number, number);
+    assert!(whole, "{case}: block, line and refusal of each command");
+    let (mut handset, mut block) = (made, ZEROS);
+    let mut last = (None, None);
+    for (at, (written, due)) in commands.chunks(6).zip(blocks.chunks(16)).enumerate() {
+        Written::of(written.try_into().expect("six bytes")).write(&mut block);
+        let given = command(handset, &mut block);
+        last = (
+            Some((at, block.to_vec(), given.line, given.refusal)),
+            Some((at, due.to_vec(), lines[at], refusals[at])),
+        );
+        if last.0 != last.1 {
+            break;
+        }
+        handset = given.handset;
+    }
+    last
+}
+
+/// The handset that a list of commands starts from.
+fn made_for(case: &Case, who: &Who) -> Handset {
+    let (refusal, handset) = who.make(case.settings());
+    assert_eq!(refusal, 0, "{case}: {} makes no handset", who.name());
+    handset
+}
+
+/// After a command: the block, the line, the refusal, the subframe that the handset expects, and
+/// whether all of the handset is as it was.
+type Commanded = (Vec<u8>, u16, u16, u16, bool);
+
+/// One command on a lent block and handset. A refusal leaves the handset, and so do all commands
+/// but a feed. Of the line beside 29 the files say nothing; the call says 0.
+fn command_line(
+    case: &Case,
+    command: impl Fn(Handset, &mut [u8]) -> CommandAnswer,
+) -> Option<(Commanded, Commanded)> {
+    let handset = case.handset()?;
+    let lent = case.bytes("lent");
+    let mut block = lent.clone();
+    let CommandAnswer { refusal, line, handset: after } = command(handset, &mut block);
+    let given = (block, line, refusal, after.next, after.bytes() == handset.bytes());
+    let refusal = case.number("refusal");
+    let line = match case.text("line") {
+        "?" if refusal == 29 => 0,
+        _ => case.number("line"),
+    };
+    let is_left = refusal != 0 || lent[4] != FEED;
+    Some((given, (case.bytes("block"), line, refusal, case.number("expects_after"), is_left)))
+}
+
 #[test]
 fn u01_settings() {
     let text = include_str!("../data/u01-settings.csv");
@@ -1034,4 +1108,80 @@ fn u12_game() {
     numbers.sort();
     let all = Game::all().map(|game| [game.size, game.grants, game.losses]);
     assert_eq!(numbers, all.collect::<Vec<_>>());
+}
+
+#[test]
+fn u13_lists() {
+    let text = include_str!("../data/u13-lists.csv");
+    let line = |case: &Case, who: &Who| {
+        Some(commands_line(case, made_for(case, who), |handset, block| who.command(handset, block)))
+    };
+    Tally::of("u13-lists.csv", text, line).finish(49, 0);
+    let (mut by_command, mut by_line) = ([0; 4], [0; 2]);
+    for case in cases("u13-lists.csv", text) {
+        let (commands, lines) = (case.bytes("commands"), case.numbers("lines"));
+        commands.chunks(6).for_each(|written| by_command[usize::from(written[4].min(3))] += 1);
+        lines.iter().for_each(|line| by_line[usize::from(*line)] += 1);
+        let blocks = case.bytes("blocks");
+        let same = blocks.chunks(16).zip(lines).all(|(block, line)| is_high(block) == (line == 1));
+        assert!(same, "{case}: the line is that of the block");
+    }
+    println!("none, feed, clear, another: {by_command:?}; line low and high: {by_line:?}");
+    assert_eq!((by_command, by_line), ([47, 1295, 136, 57], [571, 964]));
+}
+
+/// Left out are the lines that remember a mode over 1, which has no bit.
+#[test]
+fn u13_steps() {
+    let text = include_str!("../data/u13-steps.csv");
+    let line =
+        |case: &Case, who: &Who| command_line(case, |handset, block| who.command(handset, block));
+    Tally::of("u13-steps.csv", text, line).finish(691 - 34, 34);
+    let cases = cases("u13-steps.csv", text);
+    let held = cases.iter().filter(|case| case.handset().is_some());
+    let mut by_refusal = [0; 30];
+    held.for_each(|case| by_refusal[usize::from(case.number("refusal"))] += 1);
+    println!("lines by refusal {by_refusal:?}");
+    let of_each = [0, 8, 9, 10, 11, 12, 18, 20, 22, 28, 29].map(|number| by_refusal[number]);
+    assert_eq!(of_each.iter().sum::<u64>(), 691 - 34);
+    assert_eq!(of_each, [263, 38, 55, 19, 16, 22, 5, 23, 34, 116, 66]);
+}
+
+/// The wrong rules that none of the lists gives away: of a handset they show nothing but its
+/// replies, no state there is bad, and the other bits of byte 5 stay 0. And those that no single
+/// command gives away.
+const RIGHT_IN_LISTS: [&str; 8] = [
+    "bit 1 without bit 2 kept",
+    "the record remembered as it stands",
+    "clear drops bits 3 to 7",
+    "none answers 8 on a bad state",
+    "clear answers 8 on a bad state",
+    "the line over all eight bits",
+    "28 before 29",
+    "8 before 22",
+];
+const RIGHT_IN_STEPS: [&str; 2] =
+    ["bit 1 without bit 2 kept", "the record remembered as it stands"];
+
+/// Each rule that differs from the papers' in one point is given away by lines of the files, but
+/// for two that differ in the handset alone.
+#[test]
+fn u13_gives_wrong_rules_away() {
+    let model = Model::new();
+    let lists = cases("u13-lists.csv", include_str!("../data/u13-lists.csv"));
+    let steps = cases("u13-steps.csv", include_str!("../data/u13-steps.csv"));
+    for (name, wrong) in WRONG {
+        let command = |handset, block: &mut [u8]| wrong(&model, handset, block);
+        let by_list = |case: &&Case| {
+            let (given, due) = commands_line(case, Handset::fresh(case.settings()), command);
+            given != due
+        };
+        let by_step =
+            |case: &&Case| command_line(case, command).is_some_and(|(given, due)| given != due);
+        let in_lists = lists.iter().filter(by_list).count();
+        let in_steps = steps.iter().filter(by_step).count();
+        println!("{name}: {in_lists} lists, {in_steps} single commands");
+        assert_eq!(in_lists == 0, RIGHT_IN_LISTS.contains(&name), "{name}");
+        assert_eq!(in_steps == 0, RIGHT_IN_STEPS.contains(&name), "{name}");
+    }
 }
