@@ -27,6 +27,7 @@ mod printed;
 mod programs;
 mod reading;
 mod refusals;
+mod registers;
 mod replay;
 mod replay_cases;
 mod replay_feeds;
