@@ -28,6 +28,7 @@ mod programs;
 mod reading;
 mod refusals;
 mod registers;
+mod registers_cases;
 mod replay;
 mod replay_cases;
 mod replay_feeds;
