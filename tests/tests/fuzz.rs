@@ -7,24 +7,27 @@
 //! a number, as many times more are made, from further seeds.
 
 use feedback_tests::compare::{
-    hold_beside_the_feed, plain_confirmed_of, plain_credit_of, plain_feed, plain_record_of,
-    plain_replay_on, plain_trace_write_on, Comparison, Lent, LentTrace, Shown,
+    hold_beside_the_feed, plain_command_on, plain_confirmed_of, plain_credit_of, plain_feed,
+    plain_record_of, plain_replay_on, plain_trace_write_on, Comparison, Lent, LentTrace, Shown,
 };
 use feedback_tests::form::Form;
-use feedback_tests::guarded::BOTH;
+use feedback_tests::guarded::{Guarded, BOTH};
 use feedback_tests::model::{edge, is_short, is_uplink, Model, NRB};
 use feedback_tests::plain::{
     plain_answered, plain_change_mode, plain_game, plain_inverse, plain_make, plain_open_account,
     plain_reading, plain_resource, plain_silence, plain_window,
 };
 use feedback_tests::random::Random;
+use feedback_tests::registers::{
+    is_high, Written, CLEAR, FEED, FLAGS, MASK, NO_COMMAND, OVERWRITTEN, READY, SIZE, ZEROS,
+};
 use feedback_tests::trace::{
     number_at, record_of, spelled_length, Trace, RECORDS_AT, SETTINGS_AT, WINDOW,
 };
 use feedback_tests::{
-    answered, change_mode, confirmed, credit, feed, game, inverse, make, open_account, reading,
-    resource, silence, window, Account, Changed, Fed, Handset, Heard, Settings, SilenceAnswer,
-    Slot, WriteAnswer, NOT_TOLD,
+    answered, change_mode, command, confirmed, credit, feed, game, inverse, make, open_account,
+    reading, resource, silence, window, Account, Changed, Fed, Handset, Heard, Settings,
+    SilenceAnswer, Slot, WriteAnswer, NOT_TOLD,
 };
 use std::env;
 
@@ -47,6 +50,7 @@ const CONFIRMED_CALLS: u64 = 1_024_000;
 const CREDIT_CALLS: u64 = 1_024_000;
 const OPEN_CALLS: u64 = 256_000;
 const GAME_CALLS: u64 = 256_000;
+const COMMAND_CALLS: u64 = 2_048_000;
 
 const _: () = assert!(
     WINDOW_CALLS
@@ -68,6 +72,7 @@ const _: () = assert!(
         + CREDIT_CALLS
         + OPEN_CALLS
         + GAME_CALLS
+        + COMMAND_CALLS
         >= 10_000_000
 );
 
@@ -892,4 +897,76 @@ fn games() {
     comparison.finish_with(calls / SAMPLE, &[0, 27], &[]);
     println!("{of_the_radio} games of the radio");
     assert!(of_the_radio > 5_000);
+}
+
+/// What is written to a register block for a handset of any kind: mostly a feed, as above, of a
+/// kind that there is.
+fn written(handset: Handset, random: &mut Random) -> Written {
+    let command = match random.below(16) {
+        0 => random.any_byte(),
+        1 => NO_COMMAND,
+        2..5 => CLEAR,
+        _ => FEED,
+    };
+    let heard = heard_by(handset, random);
+    let mut record = random.with_unused(record_of(heard));
+    if command != FEED || random.once_in(32) {
+        record.kind = random.any_byte();
+    }
+    Written { record, command, mask: random.any_byte() }
+}
+
+/// A block and a handset that go on from command to command, or others, damaged ones too; once in
+/// 64 a block of another length.
+#[test]
+fn commands() {
+    let model = Model::new();
+    let mut comparison = Comparison::with(&model);
+    let mut memory = Guarded::new(SIZE);
+    let (mut handset, mut block) = (Handset::NONE, ZEROS);
+    let (mut by_line, mut replies, mut overwritten) = ([0; 2], 0, 0);
+    let calls = fuzz(20, COMMAND_CALLS, |random, ask_model| {
+        let lent_handset = lent(handset, random);
+        if random.once_in(64) {
+            block = random.register_block();
+        }
+        written(lent_handset, random).write(&mut block);
+        let length = if random.once_in(64) { random.below(40) } else { SIZE };
+        let bytes = match length {
+            SIZE => block.to_vec(),
+            _ => random.bytes(length),
+        };
+        let mut plain_left = bytes.clone();
+        let plain = plain_command_on(lent_handset, &mut plain_left);
+        let flush = random.one_of(&BOTH);
+        let left = memory.bytes(&bytes, flush);
+        let given = command(lent_handset, left);
+        assert!(
+            given == plain && left == plain_left,
+            "feedback_command({lent_handset:?}, {bytes:?}), flush at the {flush:?}: the engine \
+             gives {given:?} and leaves {left:?}, the plain implementation {plain:?} and \
+             {plain_left:?}"
+        );
+        if length == SIZE {
+            assert_eq!(given.line == 1, is_high(left), "{left:?}");
+            assert_eq!(left[MASK], block[MASK], "{left:?}");
+            let came = !block[FLAGS] & left[FLAGS];
+            replies += u64::from(came & READY != 0);
+            overwritten += u64::from(came & OVERWRITTEN != 0);
+            block.copy_from_slice(left);
+        }
+        by_line[usize::from(given.line)] += 1;
+        if ask_model {
+            comparison.command(&mut memory, lent_handset, &bytes);
+        }
+        handset = kept(lent_handset, given.refusal, given.handset, random);
+        1
+    });
+    assert_eq!(calls, COMMAND_CALLS * times());
+    // The model is asked twice, with the block flush at either end.
+    let refusals = [0, 8, 9, 10, 11, 12, 18, 20, 22, 28, 29];
+    comparison.finish_with(2 * (calls / SAMPLE), &refusals, &[]);
+    println!("line low and high {by_line:?}, {replies} replies ready, {overwritten} overwritten");
+    assert!(by_line.iter().all(|number| *number > 100_000));
+    assert!(replies > 50_000 && overwritten > 20_000);
 }

@@ -3,12 +3,12 @@
 use feedback_tests::form::Form;
 use feedback_tests::trace::Trace;
 use feedback_tests::{
-    answered, change_mode, claims, claims_bits, confirmed, credit, feed, game, inverse, layout_5,
-    make, open_account, reading, record, replay, resource, silence, trace_write, window, Account,
-    AnsweredAnswer, Block, Changed, ClaimsAnswer, ConfirmedAnswer, CreditAnswer, Exchange, Fed,
-    GameAnswer, Grant, Handset, Heard, InverseAnswer, Made, Opened, ReadingAnswer, RecordAnswer,
-    Release, ReplayAnswer, ResourceAnswer, Sent, SentWindow, Settings, SilenceAnswer, Slot,
-    WindowAnswer, WriteAnswer, NOT_TOLD,
+    answered, change_mode, claims, claims_bits, command, confirmed, credit, feed, game, inverse,
+    layout_5, make, open_account, reading, record, replay, resource, silence, trace_write, window,
+    Account, AnsweredAnswer, Block, Changed, ClaimsAnswer, CommandAnswer, ConfirmedAnswer,
+    CreditAnswer, Exchange, Fed, GameAnswer, Grant, Handset, Heard, InverseAnswer, Made, Opened,
+    ReadingAnswer, RecordAnswer, Release, ReplayAnswer, ResourceAnswer, Sent, SentWindow, Settings,
+    SilenceAnswer, Slot, WindowAnswer, WriteAnswer, NOT_TOLD,
 };
 use std::mem::{align_of, offset_of, size_of};
 
@@ -113,6 +113,11 @@ fn answers_with_a_handset_have_it_last() {
     assert_eq!((size_of::<Changed>(), align_of::<Changed>()), (76, 2));
     assert_eq!(offset_of!(Changed, refusal), 0);
     assert_eq!(offset_of!(Changed, handset), 2);
+
+    assert_eq!((size_of::<CommandAnswer>(), align_of::<CommandAnswer>()), (78, 2));
+    assert_eq!(offset_of!(CommandAnswer, refusal), 0);
+    assert_eq!(offset_of!(CommandAnswer, line), 2);
+    assert_eq!(offset_of!(CommandAnswer, handset), 4);
 
     assert_eq!((size_of::<Fed>(), align_of::<Fed>()), (86, 2));
     assert_eq!(offset_of!(Fed, refusal), 0);
@@ -449,6 +454,50 @@ fn every_number_of_a_game_arrives() {
         let given = [game(9 + more, 5, 4), game(9, 5 + more, 4), game(9, 5, 4 + more)];
         assert_eq!(given, [GameAnswer { refusal: 27, radio: 0 }; 3], "bit {bit}");
     }
+}
+
+/// Every byte of the block of a command is where it is due, each with a value of its own before,
+/// and every byte of the handset comes back. In configuration 5 five grants of the window of 2 were
+/// heard, of which the last in time is at position 8: first CCE 96 there has resource
+/// 0 × 61 + 8 × 97 + 96 above N1. One first block was not decoded.
+#[test]
+fn every_byte_of_a_command_comes_back() {
+    let settings = Settings::plain(5, 110, 2047, 0, 2);
+    let mut handset = Handset { next: 2, ..Handset::fresh(settings) };
+    let mut dai = 0;
+    for (at, slot) in handset.past.iter_mut().enumerate().rev() {
+        let ago = at as u8 + 1;
+        let heard = [12, 11, 9, 8, 6].contains(&ago);
+        dai = if heard { dai % 4 + 1 } else { dai };
+        let results = 16 * ago + if ago == 9 { 6 } else { 7 };
+        *slot = Slot { kind: heard.into(), cce: 90 + ago, dai, results };
+    }
+    let mut after = Handset { next: 3, ..handset };
+    after.past.rotate_right(1);
+    after.past[0] = Slot::NOTHING;
+    let mut block = [0, 1, 2, 3, 1, 0xf8, 0x79, 7, 8, 9, 10, 11, 12, 13, 14, 15];
+    let given = command(handset, &mut block);
+    assert_eq!(given, CommandAnswer { refusal: 0, line: 1, handset: after });
+    // 2047 + 8 × 97 + 96 is 11 × 256 + 103.
+    assert_eq!(block, [0, 1, 2, 3, 1, 0xf9, 0x79, 7, 2, 1, 103, 11, 0, 1, 0, 0]);
+}
+
+/// So does every byte of a handset that is bad, and bit 1 of the mask alone is not set.
+#[test]
+fn every_byte_of_a_bad_handset_comes_back_from_a_command() {
+    let bytes: [u8; 74] = std::array::from_fn(|at| 101 + at as u8);
+    let bad = Handset::from_bytes(bytes);
+    for (asked, number, refusal) in [(0, 7, 0), (1, 8, 8), (2, 7, 0), (0x80, 28, 28)] {
+        let mut block = [0, 1, 2, 3, asked, 0xfa, 0xfd, 7, 8, 9, 10, 11, 12, 13, 14, 15];
+        let given = command(bad, &mut block);
+        let due = [0, 1, 2, 3, asked, 0xfa, 0xfd, number, 8, 9, 10, 11, 12, 13, 14, 15];
+        assert_eq!((given.refusal, given.line, block), (refusal, 0, due));
+        assert_eq!(given.handset.bytes(), bytes, "{asked}");
+    }
+    let mut long = [0x99; 17];
+    let given = command(bad, &mut long);
+    assert_eq!((given.refusal, given.line, long), (29, 0, [0x99; 17]));
+    assert_eq!(given.handset.bytes(), bytes);
 }
 
 /// Of a mode change the refusal and the handset come back, and all 16 bits of the new mode

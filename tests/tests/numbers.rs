@@ -1,15 +1,15 @@
-//! Every refusal number, 1 to 27, from every call that can give it. What is due
+//! Every refusal number, 1 to 29, from every call that can give it. What is due
 //! is written out by hand; the model has no part here.
 
 use feedback_tests::form::FORMS;
 use feedback_tests::trace::{put_number, Trace, LENGTH_AT, SETTINGS_AT};
 use feedback_tests::{
-    answered, change_mode, confirmed, credit, feed_grant, feed_nothing, feed_release,
+    answered, change_mode, command, confirmed, credit, feed_grant, feed_nothing, feed_release,
     feed_scheduled, game, inverse, make, open_account, reading, record, replay, resource, silence,
-    trace_write, window, Account, AnsweredAnswer, Block, Changed, ClaimsAnswer, ConfirmedAnswer,
-    CreditAnswer, Exchange, Fed, GameAnswer, Grant, Handset, InverseAnswer, Made, Opened,
-    ReadingAnswer, RecordAnswer, Release, ReplayAnswer, ResourceAnswer, Sent, SentWindow, Settings,
-    SilenceAnswer, Slot, WindowAnswer, WriteAnswer, NONE, NOT_TOLD,
+    trace_write, window, Account, AnsweredAnswer, Block, Changed, ClaimsAnswer, CommandAnswer,
+    ConfirmedAnswer, CreditAnswer, Exchange, Fed, GameAnswer, Grant, Handset, InverseAnswer, Made,
+    Opened, ReadingAnswer, RecordAnswer, Release, ReplayAnswer, ResourceAnswer, Sent, SentWindow,
+    Settings, SilenceAnswer, Slot, WindowAnswer, WriteAnswer, NONE, NOT_TOLD,
 };
 use std::fmt::Debug;
 
@@ -82,7 +82,7 @@ const REFUSED: [(u16, Settings); 28] = [
 ];
 
 /// Counts the refusals that came as they were due.
-struct Count([u64; 28]);
+struct Count([u64; 30]);
 
 impl Count {
     fn due<T: Debug + PartialEq>(&mut self, number: u16, given: T, due: T) {
@@ -212,8 +212,28 @@ impl Count {
         self.due(number, game(size, grants, losses), GameAnswer::refused(number));
     }
 
+    /// Bits 0, 2 and 4 of byte 5 are set before, and bit 1 of the mask alone. Bytes 5 and 7 alone
+    /// change, and the handset is left as it was; the line is high.
+    fn command(&mut self, number: u16, handset: Handset, record: [u8; 4], asked: u8) {
+        let [kind, cce, dai, results] = record;
+        let block =
+            |flags, last| [kind, cce, dai, results, asked, flags, 2, last, 1, 2, 3, 4, 5, 6, 7, 8];
+        let mut left = block(0b1_0101, 99);
+        let given = command(handset, &mut left);
+        let due = CommandAnswer { refusal: number, line: 1, handset };
+        self.due(number, (given, left), (due, block(0b1_0111, number as u8)));
+    }
+
+    /// The block is left as it was, and the line is not high.
+    fn other_block(&mut self, number: u16, handset: Handset, block: &[u8]) {
+        let mut left = block.to_vec();
+        let given = command(handset, &mut left);
+        let due = CommandAnswer { refusal: number, line: 0, handset };
+        self.due(number, (given, left), (due, block.to_vec()));
+    }
+
     /// The handset is left as it was, whatever it is fed, and keeps its mode. A refusal has no
-    /// cause.
+    /// cause. None and clear are not refused.
     fn bad_state(&mut self, handset: Handset) {
         let fed = Fed::refused(8, handset);
         self.due(8, feed_nothing(handset), fed);
@@ -225,12 +245,19 @@ impl Count {
         self.feed_release(8, handset, RELEASE);
         self.feed_release(8, handset, Release { cce: 61, dai: 0 });
         self.change_mode(8, handset, 0);
+        self.command(8, handset, [0, 0, 0, 0], 1);
+        self.command(8, handset, [1, 61, 0, 5], 1);
+        for asked in [0, 2] {
+            let mut block = [0, 0, 0, 0, asked, 7, 7, 99, 1, 2, 3, 4, 5, 6, 7, 8];
+            let due = CommandAnswer { refusal: 0, line: 1, handset };
+            assert_eq!(command(handset, &mut block), due, "{asked}");
+        }
     }
 }
 
 #[test]
 fn every_number_occurs() {
-    let mut count = Count([0; 28]);
+    let mut count = Count([0; 30]);
     let fresh = make(CELL).handset;
     assert_eq!(fresh, Handset::fresh(CELL));
 
@@ -343,6 +370,11 @@ fn every_number_occurs() {
     records_stopped_at(&mut count);
     sent_and_credited(&mut count);
     games(&mut count);
+    commands(&mut count, fresh);
+    for (prefix, special) in SHORT {
+        let short = CELL.with_special(prefix, special);
+        commands_in_short_specials(&mut count, Handset { settings: short, ..fresh });
+    }
 
     println!("refusals by number: {:?}", count.0);
     let of_settings = |causes: u64| 10 * causes;
@@ -351,8 +383,8 @@ fn every_number_occurs() {
     let at_records = |causes: u64| 3 * causes;
     // The confirmed blocks, and a credit.
     let both = |causes: u64| 2 * causes;
-    // Seven feeds, the cause of a silence and a mode change.
-    let bad_states = |states: u64| 9 * states;
+    // Seven feeds, the cause of a silence, a mode change and two commands.
+    let bad_states = |states: u64| 11 * states;
     let states = bad_states(28 + 9 * 7 + 4 + 3) + 1;
     let remembering = bad_states(9 * 6 + 4 * 2 + 2) + 2;
     let shorts = 4;
@@ -366,29 +398,92 @@ fn every_number_occurs() {
         of_settings(1) + on_traces(1) + 3 + 1,
         of_settings(3) + on_traces(2),
         5 * 8 + 7 + 1 + shorts + 6,
-        states + remembering + shorts * bad_states(3 * 2) + bad_states(13) + 2 * 13 + 3 + of_ports,
-        2 + 4 + shorts * 3 + at_records(3),
-        2 + 3 + at_records(2) + both(4 * 2),
-        3 + 2 + 5 + shorts * (2 + 2) + at_records(2) + 2 + both(3 * 2),
-        2 + 2 + shorts * 2 + at_records(2) + both(4 * 2),
+        states + remembering + shorts * bad_states(6) + bad_states(13) + 2 * 13 + 3 + of_ports + 3,
+        2 + 4 + shorts * 3 + at_records(3) + 3 * 2,
+        2 + 3 + at_records(2) + both(4 * 2) + 2,
+        3 + 2 + 5 + shorts * (2 + 2) + at_records(2) + 2 + both(3 * 2) + 2,
+        2 + 2 + shorts * 2 + at_records(2) + both(4 * 2) + 2,
         8 + 2 + 4 + 7 * 4 + both(4 + 1) + 3,
         7 + 3 + 2 + both(4) + 3,
         (3 + 2) * 2,
         (3 + 3) * 2,
         of_settings(4) + on_traces(4),
-        3 + 4 + shorts * 2 + at_records(2) + 1 + both(3),
+        3 + 4 + shorts * 2 + at_records(2) + 1 + both(3) + 2,
         of_settings(8) + on_traces(4),
-        shorts * (2 * 6 + 2 * 4) + at_records(shorts * 2) + both(shorts * 2),
+        shorts * (2 * 6 + 2 * 4) + at_records(shorts * 2) + both(shorts * 2) + shorts * 2 * 4,
         3 * 4,
-        3 * 2 + 2,
+        3 * 2 + 2 + 5 * 2,
         on_traces(2),
         of_settings(7) + 4 + 13,
         7 * (4 + 1) + 3 * 2 + 7 * 2,
         3 * 4,
         6 * 3 + 9 + 5 + 5 * 3 + 1,
+        5 * 2,
+        13 * 2,
     ];
     assert_eq!(count.0, counts);
     assert!(count.0[1..].iter().all(|number| *number > 0));
+}
+
+/// The commands of a register block, one cause after another put right. What a record's kind does
+/// not use is not judged.
+fn commands(count: &mut Count, fresh: Handset) {
+    let all_wrong = [4, 61, 5, 7];
+    let bad = Handset { next: 10, ..fresh };
+    let block: Vec<u8> = [4, 61, 5, 7, 3].into_iter().chain([255; 65_552]).collect();
+    for length in [0, 1, 4, 5, 6, 7, 8, 15, 17, 32, 256, 272, 65_552] {
+        count.other_block(29, bad, &block[..length]);
+        count.other_block(29, fresh, &vec![0; length]);
+    }
+    for asked in [3, 4, 127, 128, 255] {
+        count.command(28, bad, all_wrong, asked);
+        count.command(28, fresh, [0, 0, 0, 0], asked);
+    }
+    for kind in [4, 5, 128, 129, 255] {
+        count.command(22, bad, [kind, 61, 5, 7], 1);
+        count.command(22, fresh, [kind, 0, 1, 0], 1);
+    }
+    let uplink = Handset { next: 2, ..fresh };
+    for kind in [1, 2, 3] {
+        count.command(8, bad, [kind, 61, 5, 7], 1);
+        count.command(9, uplink, [kind, 61, 5, 7], 1);
+        count.command(9, uplink, [kind, 60, 4, 1], 1);
+    }
+    count.command(10, fresh, [1, 61, 5, 4], 1);
+    count.command(10, fresh, [2, 61, 5, 7], 1);
+    count.command(11, fresh, [1, 61, 5, 3], 1);
+    count.command(11, fresh, [3, 61, 0, 7], 1);
+    count.command(12, fresh, [1, 60, 5, 3], 1);
+    count.command(12, fresh, [3, 60, 0, 7], 1);
+    count.command(18, fresh, [2, 60, 4, 1], 1);
+    let scheduled = Handset { settings: SCHEDULED, ..fresh };
+    let taken = feed_scheduled(scheduled, BLOCK).handset;
+    count.command(18, taken, [2, 60, 4, 1], 1);
+    for (handset, record) in [
+        (fresh, [0, 61, 5, 255]),
+        (fresh, [1, 60, 4, 0b1111_1011]),
+        (fresh, [3, 60, 1, 255]),
+        (scheduled, [2, 61, 5, 0b1111_1011]),
+    ] {
+        let [kind, cce, dai, results] = record;
+        let mut block = [kind, cce, dai, results, 1, 0, 255, 0, 0, 0, 0, 0, 0, 0, 0, 0];
+        let before = block;
+        let answer = command(handset, &mut block);
+        assert_eq!((answer.refusal, answer.line, answer.handset.next), (0, 0, 1), "{record:?}");
+        assert_eq!(block, before, "{record:?}");
+    }
+}
+
+/// 9 comes before 20, and 20 before 10, 11, 12 and 18; a release is taken.
+fn commands_in_short_specials(count: &mut Count, fresh: Handset) {
+    for next in [1, 6] {
+        let handset = Handset { next, ..fresh };
+        for record in [[1, 61, 5, 7], [1, 60, 4, 1], [2, 61, 5, 7], [2, 60, 4, 1]] {
+            count.command(20, handset, record, 1);
+        }
+        let mut block = [3, 60, 4, 255, 1, 0, 255, 0, 0, 0, 0, 0, 0, 0, 0, 0];
+        assert_eq!(command(handset, &mut block).refusal, 0);
+    }
 }
 
 /// Games: a size that is not 1 to 9, more grants than subframes, and more losses than nine; alone
