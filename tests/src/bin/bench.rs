@@ -7,7 +7,7 @@
 //! machine, and no figure fails.
 
 use feedback_tests::c::{
-    feedback_answered, feedback_change_mode, feedback_confirmed, feedback_credit,
+    feedback_answered, feedback_change_mode, feedback_command, feedback_confirmed, feedback_credit,
     feedback_feed_grant, feedback_feed_nothing, feedback_feed_release, feedback_feed_scheduled,
     feedback_game, feedback_inverse, feedback_make, feedback_open_account, feedback_reading,
     feedback_replay, feedback_resource, feedback_silence, feedback_trace_write, feedback_window,
@@ -17,15 +17,16 @@ use feedback_tests::every;
 use feedback_tests::form::{Form, OnClaims};
 use feedback_tests::model::{bundles, edge, is_short, is_uplink, Game, Model, Window};
 use feedback_tests::plain::{
-    plain_answered, plain_change_mode, plain_confirmed, plain_credit, plain_game, plain_inverse,
-    plain_make, plain_open_account, plain_reading, plain_replay, plain_resource, plain_silence,
-    plain_trace_write, plain_window,
+    plain_answered, plain_change_mode, plain_command, plain_confirmed, plain_credit, plain_game,
+    plain_inverse, plain_make, plain_open_account, plain_reading, plain_replay, plain_resource,
+    plain_silence, plain_trace_write, plain_window,
 };
 use feedback_tests::random::Random;
-use feedback_tests::trace::{Trace, LONGEST, WINDOW};
+use feedback_tests::registers::{Written, ALL, FLAGS, REPLY, SIZE};
+use feedback_tests::trace::{record_of, Trace, LONGEST, WINDOW};
 use feedback_tests::{
-    Account, AnsweredAnswer, Block, Changed, ConfirmedAnswer, CreditAnswer, Exchange, Fed,
-    GameAnswer, Grant, Handset, Heard, Opened, ReadingAnswer, Release, ReplayAnswer,
+    Account, AnsweredAnswer, Block, Changed, CommandAnswer, ConfirmedAnswer, CreditAnswer,
+    Exchange, Fed, GameAnswer, Grant, Handset, Heard, Opened, ReadingAnswer, Release, ReplayAnswer,
     ResourceAnswer, Settings, SilenceAnswer, WindowAnswer, WriteAnswer, NOT_TOLD,
 };
 use std::hint::black_box;
@@ -111,6 +112,10 @@ replay keeps no state: it checks the settings once and looks back into the trace
 trace is written when all its records have been checked as in a replay, and in plain
 Rust that check makes no reply.
 
+A command of a register block is carried out on a copy of the block, with any flags and mask. A
+feed is that of the handsets of runs, with their whole state checked; a clear looks at no handset,
+and what it takes is passing one.
+
 | call | ours, ns | plain Rust, ns | ratio |
 |---|---:|---:|---:|"
     );
@@ -128,6 +133,7 @@ Rust that check makes no reply.
     charging(&model, &mut Random::new(7));
     silences(&model, &mut Random::new(8));
     games(&mut Random::new(9));
+    registers(&model, &mut Random::new(10));
 }
 
 fn numbers(model: &Model, random: &mut Random) {
@@ -522,6 +528,44 @@ fn games(random: &mut Random) {
     let all: Vec<Game> = Game::all().collect();
     let inputs: Vec<Game> = (0..INPUTS).map(|_| all[random.below(all.len())]).collect();
     row("game", &inputs, inputs.len(), engine_game, plain_rust_game);
+}
+
+/// A register block before a command, and the handset behind it.
+struct Command {
+    handset: Handset,
+    block: [u8; SIZE],
+}
+
+/// What is written for a feed to the block before its command.
+type Writes<'a> = &'a dyn Fn(&Feed) -> Written;
+
+/// Commands of register blocks: feeds of a grant, feeds of the uplink that bring a reply, and
+/// clears of all flags.
+fn registers(model: &Model, random: &mut Random) {
+    let runs: Vec<Run> = (0..RUNS).map(|_| run(model, random)).collect();
+    let feeds: Vec<Feed> = runs.iter().flat_map(|run| feeds_of(model, run)).collect();
+    let replies = |feed: &Feed| {
+        let kind = model.feed(feed.handset, feed.heard).kind;
+        kind == Fed::BUNDLED || kind == Fed::MULTIPLEXED
+    };
+    let fed = |feed: &Feed| Written::feed(record_of(feed.heard), ALL);
+    let clear = |_: &Feed| Written::clear(ALL, ALL);
+    let rows: [(&str, Fits, Writes); 3] = [
+        ("command, feed, downlink, grant", &|feed| feed.heard != Heard::Nothing, &fed),
+        ("command, feed, uplink, a reply", &replies, &fed),
+        ("command, clear", &|_| true, &clear),
+    ];
+    for (name, fits, written) in rows {
+        let fitting = feeds.iter().filter(|feed| fits(feed)).take(INPUTS / 4);
+        let inputs: Vec<Command> = fitting
+            .map(|feed| {
+                let mut block = random.register_block();
+                written(feed).write(&mut block);
+                Command { handset: feed.handset, block }
+            })
+            .collect();
+        row(name, &inputs, inputs.len(), engine_command, plain_rust_command);
+    }
 }
 
 fn two_port_settings(random: &mut Random) -> Settings {
@@ -960,4 +1004,26 @@ fn plain_rust_game(input: &Game) -> u64 {
 
 fn forced(answer: GameAnswer) -> u64 {
     u64::from(answer.refusal) << 16 | u64::from(answer.radio)
+}
+
+fn engine_command(input: &Command) -> u64 {
+    let mut block = input.block;
+    // SAFETY: the block is lent with its length.
+    let answer = unsafe { feedback_command(input.handset, block.as_mut_ptr(), block.len()) };
+    shown(answer, block)
+}
+
+fn plain_rust_command(input: &Command) -> u64 {
+    let mut block = input.block;
+    // SAFETY: the block is lent with its length.
+    let answer = unsafe { plain_command(input.handset, block.as_mut_ptr(), block.len()) };
+    shown(answer, block)
+}
+
+/// The resource and bits that the block shows, its flags, and the answer.
+fn shown(answer: CommandAnswer, block: [u8; SIZE]) -> u64 {
+    let (answer, block) = (black_box(&answer), black_box(&block));
+    let reply = block[REPLY + 2..].first_chunk().map_or(0, |reply| u32::from_le_bytes(*reply));
+    let answered = u64::from(answer.refusal) << 8 | u64::from(answer.handset.next);
+    u64::from(reply) << 32 | u64::from(block[FLAGS]) << 24 | answered << 1 | u64::from(answer.line)
 }
