@@ -13,8 +13,8 @@ use feedback_tests::registers::{
 };
 use feedback_tests::trace::{Trace, WINDOW};
 use feedback_tests::{
-    command, feed_grant, feed_nothing, feed_release, feed_scheduled, make, replay, Block,
-    CommandAnswer, Fed, Grant, Handset, Release, ReplayAnswer, Settings, Slot,
+    change_mode, command, feed_grant, feed_nothing, feed_release, feed_scheduled, make, replay,
+    Block, CommandAnswer, Fed, Grant, Handset, Release, ReplayAnswer, Settings, Slot,
 };
 
 /// A command, with the block and the handset before it and the block after it.
@@ -340,42 +340,99 @@ fn feed_of(handset: Handset, record: Slot) -> Option<Fed> {
     }
 }
 
-/// After each command of many lists the block is that of the running handset with the flags beside
-/// it, and the handset returned is the running one, every byte.
+/// Lists beside a running handset, and what was met on the way.
+struct Beside<'a> {
+    model: &'a Model,
+    sights: Sights,
+    by_refusal: [u64; 30],
+}
+
+impl<'a> Beside<'a> {
+    fn new(model: &'a Model) -> Self {
+        Self { model, sights: Sights::default(), by_refusal: [0; 30] }
+    }
+
+    /// One command. After it the block is that of the running handset with the flags beside it, and
+    /// the handset returned is the running one, every byte.
+    fn hold(
+        &mut self,
+        panel: &mut Panel,
+        handset: Handset,
+        block: &mut [u8; SIZE],
+        random: &mut Random,
+    ) -> Handset {
+        let written = random.written(self.model, handset);
+        written.write(block);
+        let before = *block;
+        let answer = command(handset, block);
+        let (refusal, high) = panel.command(written);
+        let due = CommandAnswer::of(refusal, high, panel.handset);
+        let block_due = panel.block(written);
+        assert!(
+            answer == due && *block == block_due,
+            "{written:?} on {handset:?} and {before:?}: {answer:?} and {block:?}; the running \
+             handset gives {due:?} and {block_due:?}"
+        );
+        assert_eq!(answer.handset.bytes(), panel.handset.bytes(), "{written:?} on {handset:?}");
+        self.by_refusal[usize::from(refusal)] += 1;
+        let has_window = has_window(self.model, handset);
+        self.sights.see(&Seen { handset, before: &before, after: &block[..], answer, has_window });
+        answer.handset
+    }
+}
+
+/// Many lists from fresh handsets and blocks of zeros.
 #[test]
 fn equals_the_running_handset_with_flags_beside_it() {
     const LISTS: u64 = 2000;
     const COMMANDS: u64 = 300;
     let model = Model::new();
-    let (mut sights, mut by_refusal) = (Sights::default(), [0; 30]);
+    let mut beside = Beside::new(&model);
     for seed in 0..LISTS {
         let mut random = Random::new(2000 + seed);
         let fresh = make(settings(&mut random)).handset;
         let (mut handset, mut block, mut panel) = (fresh, ZEROS, Panel::new(fresh));
-        for at in 0..COMMANDS {
-            let written = random.written(&model, handset);
-            written.write(&mut block);
-            let before = block;
-            let answer = command(handset, &mut block);
-            let (refusal, high) = panel.command(written);
-            let due = CommandAnswer::of(refusal, high, panel.handset);
-            assert!(
-                answer == due && block == panel.block(written),
-                "list {seed}, command {at}, {written:?} on {handset:?} and {before:?}: {answer:?} \
-                 and {block:?}; the running handset gives {due:?} and {:?}",
-                panel.block(written)
-            );
-            assert_eq!(answer.handset.bytes(), panel.handset.bytes(), "list {seed}, command {at}");
-            by_refusal[usize::from(refusal)] += 1;
-            let has_window = has_window(&model, handset);
-            sights.see(&Seen { handset, before: &before, after: &block, answer, has_window });
-            handset = answer.handset;
+        for _ in 0..COMMANDS {
+            handset = beside.hold(&mut panel, handset, &mut block, &mut random);
         }
     }
-    println!("by refusal {by_refusal:?}");
-    assert_eq!(by_refusal.iter().sum::<u64>(), LISTS * COMMANDS);
-    assert!(REFUSALS.into_iter().all(|number| by_refusal[number] > 1000));
-    sights.assert_each(1000);
+    println!("by refusal {:?}", beside.by_refusal);
+    assert_eq!(beside.by_refusal.iter().sum::<u64>(), LISTS * COMMANDS);
+    assert!(REFUSALS.into_iter().all(|number| beside.by_refusal[number] > 1000));
+    beside.sights.assert_each(1000);
+}
+
+/// The same while the mode of the handset changes between commands, by its own call: each reply is
+/// of its window's mode. Counted are those of another mode than the one that stands.
+#[test]
+fn goes_on_through_mode_changes() {
+    const LISTS: u64 = 500;
+    const COMMANDS: u64 = 300;
+    let model = Model::new();
+    let mut beside = Beside::new(&model);
+    let (mut changes, mut in_another_mode) = (0, [0; 2]);
+    for seed in 0..LISTS {
+        let mut random = Random::new(5000 + seed);
+        let fresh = make(random.scheduled_settings()).handset;
+        let (mut handset, mut block, mut panel) = (fresh, ZEROS, Panel::new(fresh));
+        for _ in 0..COMMANDS {
+            if random.once_in(6) {
+                let changed = change_mode(handset, random.below16(2));
+                changes += u64::from(changed.refusal == 0);
+                (handset, panel.handset) = (changed.handset, changed.handset);
+            }
+            let (before, lent) = (block, handset);
+            handset = beside.hold(&mut panel, handset, &mut block, &mut random);
+            let window = model.window(lent.settings.config, lent.next);
+            let is_long = window.is_some_and(|window| window.size() > 1);
+            let replied = handset != lent && is_long && before[REPLY..] != block[REPLY..];
+            let of_kind = |kind: u8| replied && block[REPLY + 1] == kind;
+            in_another_mode[0] += u64::from(of_kind(1) && lent.settings.mode == 1);
+            in_another_mode[1] += u64::from(of_kind(2) && lent.settings.mode == 0);
+        }
+    }
+    println!("{changes} changes, {in_another_mode:?} replies, by mode, while the other stands");
+    assert!(changes > 10_000 && in_another_mode.iter().all(|number| *number > 500));
 }
 
 /// Records that a replay takes to the end, with the windows that it writes.
