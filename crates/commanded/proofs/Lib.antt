@@ -1,2 +1,3 @@
 mod Run
 mod Worked
+mod WrongCalls
