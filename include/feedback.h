@@ -1520,7 +1520,8 @@ struct feedback_game_answer feedback_game(uint16_t size, uint16_t grants, uint16
  * zeros, with bytes 0 to 4 and 6 written as you like in between and no others: the handset
  * is always the one to which the feeds that were not refused lead, one by one, and bytes 5
  * and 7 to 15 are the flags, the last number and the last reply that these rules give
- * beside it (crates/registers/specs).
+ * beside it (crates/registers/specs/Lists.antt). Those feeds are a run of which the theorem
+ * about both ends speaks (crates/commanded/specs/Run.antt).
  *
  * Refuses 29 and 28, and for a feed then 22, 8, 9, 20, 10, 11, 12 and 18. 29 is a length
  * that is not FEEDBACK_BLOCK_BYTES: no byte changes then, and line is 0. 28 is a command
