@@ -36,7 +36,7 @@ static void command(struct device *device, uint8_t number)
     firmware(device);
 }
 
-/* A reply that is read in subframe s. It was sent in the last n, maybe in the frame before. */
+/* A reply that is read in subframe s. It is that of the last n, maybe in the frame before. */
 static void show_reply(const uint8_t *reply, unsigned s)
 {
     unsigned n = reply[0], kind = reply[1] == 0 ? FEEDBACK_KIND_SILENT : reply[1];
@@ -66,7 +66,7 @@ static unsigned interrupt(struct device *device, unsigned s)
 static void unmask(struct device *device, unsigned s, uint8_t flags)
 {
     printf("frame %u subframe %u: interrupts by %s\n", s / 10, s % 10,
-           flags & FEEDBACK_FLAG_READY ? "replies and refusals" : "refusals alone");
+           flags & FEEDBACK_FLAG_READY ? "every flag" : "refusals alone");
     device->registers[FEEDBACK_BLOCK_MASK] = flags;
     command(device, FEEDBACK_COMMAND_NONE);
     if (device->line)

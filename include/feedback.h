@@ -729,7 +729,7 @@ struct feedback_slot {
  * one and gives back the next.
  * It is plain bytes: it may be copied, stored, and given back later, as often as you
  * like, on a machine of the same byte order. Other bytes may be given as well: a call
- * then refuses 8, or answers as for what these bytes say was heard, and in which mode.
+ * that looks at them then refuses 8, or answers as for what these bytes say was heard, and in which mode.
  * Bytes and bits of a slot that have no meaning are carried along unchanged; a feed puts
  * 0 into such bytes of the slot that it adds. Bits of modes that have no meaning are
  * carried along by a change of mode, and dropped by the next feed that is not refused.
@@ -1203,7 +1203,7 @@ struct feedback_made feedback_make(struct feedback_settings settings);
 /*
  * The mode changes between two subframes, while windows may be open.
  *
- *   handset    the state that feedback_make, or the feed or change before, answered
+ *   handset    the state that feedback_make, or the feed, change or command before, answered
  *   mode       the new mode, one of enum feedback_mode
  *
  * The subframes that are fed from now on are fed in the new mode. Nothing else moves:
@@ -1232,7 +1232,7 @@ struct feedback_changed feedback_change_mode(struct feedback_handset handset, ui
  * no change of mode among them, empty its memory: after so long a sleep a fresh handset
  * that is made in the mode that stands, with handset.settings, and next set is the same.)
  *
- *   handset    the state that feedback_make, or the feed or change before, answered
+ *   handset    the state that feedback_make, or the feed, change or command before, answered
  *
  * In a downlink subframe the kind of the answer is FEEDBACK_KIND_TAKEN. In an
  * uplink subframe it is what to send in that very subframe: FEEDBACK_KIND_BUNDLED
@@ -1252,7 +1252,7 @@ struct feedback_fed feedback_feed_nothing(struct feedback_handset handset);
  * feed and ask for the cause with it later (fed.handset would tell of the next subframe).
  * The other feeds are never silent: in an uplink subframe they are refused 8 or 9.
  *
- *   handset    the state that feedback_make, or the feed or change before, answered: the
+ *   handset    the state that feedback_make, or the feed, change or command before, answered: the
  *              one from before the silence
  *
  * All of fed is what feedback_feed_nothing answers. If that is not silent, cause is
@@ -1278,7 +1278,7 @@ struct feedback_silence_answer feedback_silence(struct feedback_handset handset)
 /*
  * The next subframe brought a grant.
  *
- *   handset    the state that feedback_make, or the feed or change before, answered
+ *   handset    the state that feedback_make, or the feed, change or command before, answered
  *   blocks     transport blocks carried, 1 to the setting's
  *   first      the first block, or the only one: decoded unless this is 0
  *   second     the second block: decoded unless this is 0; without effect on any
@@ -1304,7 +1304,7 @@ struct feedback_fed feedback_feed_grant(struct feedback_handset handset, uint16_
  * has in this subframe and that could not be decoded is fed here too, as not decoded:
  * then it is answered. After feedback_feed_nothing it is not.
  *
- *   handset    the state that feedback_make, or the feed or change before, answered
+ *   handset    the state that feedback_make, or the feed, change or command before, answered
  *   blocks     transport blocks carried, 1 to the setting's
  *   first      the first block, or the only one: decoded unless this is 0
  *   second     the second block: decoded unless this is 0; without effect on any
@@ -1326,7 +1326,7 @@ struct feedback_fed feedback_feed_scheduled(struct feedback_handset handset, uin
  * The next subframe brought a release: a PDCCH that releases the schedule. It counts as
  * a heard grant that decoded everything, its first CCE and its DAI included.
  *
- *   handset    the state that feedback_make, or the feed or change before, answered
+ *   handset    the state that feedback_make, or the feed, change or command before, answered
  *   cce        the first CCE of the release, 0 to N_4 - 1
  *   dai        the DAI of the release, 1 to 4 (in configuration 0 too, where no
  *              reply depends on it)
@@ -1500,7 +1500,8 @@ struct feedback_game_answer feedback_game(uint16_t size, uint16_t grants, uint16
  * are then what feedback_replay writes of this window, with n the subframe that was fed
  * and, of a handset with two ports, the resource of the first; bit 0 of byte 5 is set, and
  * bit 2 too where bit 0 was set before the command. A subframe that is taken or has no
- * window changes no byte.
+ * window changes no byte. The reply is to be sent in the subframe that was just fed: one
+ * that was overwritten before it was sent never reached the station.
  *
  * Only a clear drops flags, and nothing resets byte 4 or byte 7: a feed that is not refused
  * leaves bit 1 and the number of an earlier refusal there, this number and the reply in
@@ -1520,8 +1521,10 @@ struct feedback_game_answer feedback_game(uint16_t size, uint16_t grants, uint16
  * zeros, with bytes 0 to 4 and 6 written as you like in between and no others: the handset
  * is always the one to which the feeds that were not refused lead, one by one, and bytes 5
  * and 7 to 15 are the flags, the last number and the last reply that these rules give
- * beside it (crates/registers/specs/Lists.antt). Those feeds are a run of which the theorem
- * about both ends speaks (crates/commanded/specs/Run.antt).
+ * beside it (crates/registers/specs/Lists.antt). The feeds among the commands, refused ones
+ * too, with any feeds by their own calls and changes of mode in between, are a run of feeds:
+ * what is proved of the replies of such a run, read by feedback_reading, holds of those that
+ * the block shows (crates/commanded/specs/Run.antt).
  *
  * Refuses 29 and 28, and for a feed then 22, 8, 9, 20, 10, 11, 12 and 18. 29 is a length
  * that is not FEEDBACK_BLOCK_BYTES: no byte changes then, and line is 0. 28 is a command

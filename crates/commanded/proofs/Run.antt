@@ -2,16 +2,15 @@
 use Prim.Native.Nat.{ℕ, zero, suc, ◌+◌, ◌%◌, ◌<◌}
 use mathlib.Core.Bool.{Bool, true, false, cond, ◌&&◌}
 use mathlib.Core.List.{List, [], ◌∷◌, ◌++◌}
-use mathlib.Core.Path.{◌≡◌, refl, sym, ap, ◌∙◌}
+use mathlib.Core.Path.{◌≡◌, refl, sym, ap, ◌∙◌, subst}
 use native.Mathlib.Nat.{add-zero, zero-add, add-suc, suc-add, le_of_suc-le-suc, not-suc-le-zero}
 use native.Mathlib.Omega.{arith}
 use lib.Dec.{eqb, leb}
-use lib.ListN.{length, get_or, take, drop, length-append}
+use lib.ListN.{length, get_or, take, length-append}
 use lib.Seq.{take_at, get_or-append_seam}
 use borrow.Author.Tests.{eqb-true, eqb-false}
 use Rattle.std.proofs.Common.{Result, Ok, Err}
 use Rattle.std.proofs.lemmas.Bool.{and_parts}
-use Rattle.frame.proofs.Bools.{either}
 use Rattle.frame.specs.declared.Settings.{Settings}
 use Rattle.frame.specs.Refusals.{number_in}
 use Rattle.frame.specs.Settings.{settings_refusal}
@@ -21,46 +20,56 @@ use Rattle.heard.specs.Memory.{none}
 use Rattle.reply.specs.declared.Answer.{Answer}
 use Rattle.reply.specs.declared.Answer.TheVariants.{Taken, NoWindow, Silent, Sent}
 use Rattle.handset.specs.declared.Handset.{Handset}
-use Rattle.handset.specs.Change.{change_of}
+use Rattle.handset.specs.Change.{Changed, change_of}
 use Rattle.handset.specs.Feed.{Fed, feed_of}
 use Rattle.handset.specs.Make.{make_of}
-use Rattle.reader.specs.Record.{brought_by}
+use Rattle.reader.specs.Record.{slot_at, brought_by}
 use Rattle.replaying.specs.Written.{bytes_of}
 use Rattle.registers.specs.Call.{AfterCommand, command_of}
-use Rattle.registers.specs.Machine.{Written, Running, started, answered, drop_flags, Stepped, refused_as, feed_step, step, shown_as, seen}
+use Rattle.registers.specs.Machine.{Written, Running, started, go_on, answered, drop_flags, Stepped, refused_as, feed_step, step, shown_as, seen}
 use Rattle.registers.specs.Lists.{rewritten}
+use Rattle.registers.specs.Exactly.{Shown}
+use Rattle.registers.proofs.Exactly.{calls_exactly}
 use Rattle.registers.proofs.Lists.{seen_same, eight_kept, refusal_keeps}
 use Rattle.agreement.specs.Demand3.{feedback_engine, handset_at, IsFeed, cause_at}
 use Rattle.agreement.proofs.Demand3.{demand3}
-use Rattle.agreement.proofs.SameModes.{AllFeeds, made_settings}
-use Rattle.agreement.specs.Run.{Item, feed, change, item_at, handset_after, cause_after, heard_from, heard_in_run}
+use Rattle.agreement.proofs.Modes.{Allowed, made_allowed, standing_allowed}
+use Rattle.agreement.specs.Run.{Item, feed, change, item_at, handset_after, cause_after, heard_from, heard_in_run, standing}
 use Rattle.agreement.proofs.Feeds.{cause_in, Past, cause_past}
-use Rattle.agreement.proofs.Memory.{ValidPast, unchanged, accepted_unchanged, refused_unchanged, made_fresh}
-use Rattle.commanded.specs.Run.{feeds, run_of, Lent, lent_after, lent_at, call_at, item_after, subframe_after, answer_to, CommandsRun}
+use Rattle.agreement.proofs.Memory.{ValidPast, after, accepted_after, refused_after, changed_after, made_fresh}
+use Rattle.commanded.specs.Run.{Act, command, own_feed, own_change, feeds, run_of, Lent, lent_after, lent_at, block_at, call_at, item_after, subframe_after, answer_to, CommandsRun}
 
--- What is running after a list of commands, and what a driver wrote last.
-running_after : Running → List Written → Running
+-- What is running after what was done, and what a driver wrote last.
+running_after : Running → List Act → Running
 running_after r [] = r
-running_after r (w ∷ ws) = running_after (step w r).running ws
+running_after r (command w ∷ acts) = running_after (step w r).running acts
+running_after r (own_feed x ∷ acts) = running_after (go_on (feed_of r.handset x).handset r) acts
+running_after r (own_change m ∷ acts) = running_after (go_on (change_of r.handset m).handset r) acts
 
-last_written : Written → List Written → Written
+last_written : Written → List Act → Written
 last_written v [] = v
-last_written v (w ∷ ws) = last_written w ws
+last_written v (command w ∷ acts) = last_written w acts
+last_written v (own_feed x ∷ acts) = last_written v acts
+last_written v (own_change m ∷ acts) = last_written v acts
 
--- What is lent after them shows what is running then.
-lent_shows : (v : Written) (r : Running) → length r.reply ≡ 8 → (ws : List Written)
-    → lent_after command_of (record { block = shown_as v r; handset = r.handset }) ws
-    ≡ record { block = shown_as (last_written v ws) (running_after r ws); handset = (running_after r ws).handset }
+-- What is lent after it shows what is running then.
+lent_shows : (v : Written) (r : Running) → length r.reply ≡ 8 → (acts : List Act)
+    → lent_after command_of (record { block = shown_as v r; handset = r.handset }) acts
+    ≡ record { block = shown_as (last_written v acts) (running_after r acts); handset = (running_after r acts).handset }
 unfolding running_after last_written
 lent_shows v r eight [] = refl
-lent_shows v r eight (w ∷ ws) =
-    ap (λ (a : AfterCommand). lent_after command_of (record { block = a.block; handset = a.told.handset }) ws) (seen_same w r eight)
-    ∙ lent_shows w (step w r).running (eight_kept w r eight) ws
+lent_shows v r eight (command w ∷ acts) =
+    ap (λ (a : AfterCommand). lent_after command_of (record { block = a.block; handset = a.told.handset }) acts) (seen_same w r eight)
+    ∙ lent_shows w (step w r).running (eight_kept w r eight) acts
+lent_shows v r eight (own_feed x ∷ acts) = lent_shows v (go_on (feed_of r.handset x).handset r) eight acts
+lent_shows v r eight (own_change m ∷ acts) = lent_shows v (go_on (change_of r.handset m).handset r) eight acts
 
-eight_after : (r : Running) → length r.reply ≡ 8 → (ws : List Written) → length (running_after r ws).reply ≡ 8
+eight_after : (r : Running) → length r.reply ≡ 8 → (acts : List Act) → length (running_after r acts).reply ≡ 8
 unfolding running_after
 eight_after r eight [] = eight
-eight_after r eight (w ∷ ws) = eight_after (step w r).running (eight_kept w r eight) ws
+eight_after r eight (command w ∷ acts) = eight_after (step w r).running (eight_kept w r eight) acts
+eight_after r eight (own_feed x ∷ acts) = eight_after (go_on (feed_of r.handset x).handset r) eight acts
+eight_after r eight (own_change m ∷ acts) = eight_after (go_on (change_of r.handset m).handset r) eight acts
 
 -- A feed in the machine, and any other command.
 step_feeds : (w : Written) (r : Running) → feeds w ≡ true
@@ -102,61 +111,55 @@ answered_handset n (Ok NoWindow) h r keeps = refl
 answered_handset n (Ok Silent) h r keeps = refl
 answered_handset n (Ok (Sent a)) h r keeps = refl
 
-answered_reply : (n : ℕ) (x : Result Answer ℕ) (h : Handset) (r : Running) → (bytes_of n x ≡ [] → ⊥) → (answered n x h r).reply ≡ bytes_of n x
-answered_reply n (Err k) h r some = absurd (some refl)
-answered_reply n (Ok Taken) h r some = absurd (some refl)
-answered_reply n (Ok NoWindow) h r some = absurd (some refl)
-answered_reply n (Ok Silent) h r some = refl
-answered_reply n (Ok (Sent a)) h r some = refl
-
--- The handset that is running after a list of commands is that of the feeds among them.
-running_handset : (r : Running) (ws : List Written) → (running_after r ws).handset ≡ handset_after feed_of change_of r.handset (run_of ws)
+-- The handset that is running after what was done is that of the feeds and changes among it.
+running_handset : (r : Running) (acts : List Act) → (running_after r acts).handset ≡ handset_after feed_of change_of r.handset (run_of acts)
 unfolding running_after run_of
 running_handset r [] = refl
-running_handset r (w ∷ ws) = running_handset (step w r).running ws ∙ go (feeds w) refl
+running_handset r (own_feed x ∷ acts) = running_handset (go_on (feed_of r.handset x).handset r) acts
+running_handset r (own_change m ∷ acts) = running_handset (go_on (change_of r.handset m).handset r) acts
+running_handset r (command w ∷ acts) = running_handset (step w r).running acts ∙ go (feeds w) refl
   where
     x : Heard
     x = brought_by w.slot
 
     go : (b : Bool) → feeds w ≡ b
-        → handset_after feed_of change_of (step w r).running.handset (run_of ws)
-        ≡ handset_after feed_of change_of r.handset (cond b (feed x ∷ run_of ws) (run_of ws))
+        → handset_after feed_of change_of (step w r).running.handset (run_of acts)
+        ≡ handset_after feed_of change_of r.handset (cond b (feed x ∷ run_of acts) (run_of acts))
     go true e =
         let s = step_feeds w r e in
         let f : Fed = feed_of r.handset x in
-        ap (λ (t : Stepped). handset_after feed_of change_of t.running.handset (run_of ws)) s
-        ∙ ap (λ (h : Handset). handset_after feed_of change_of h (run_of ws)) (answered_handset r.handset.next f.answer f.handset r (refusal_keeps r.handset x))
-    go false e = ap (λ (h : Handset). handset_after feed_of change_of h (run_of ws)) (step_other w r e)
+        ap (λ (t : Stepped). handset_after feed_of change_of t.running.handset (run_of acts)) s
+        ∙ ap (λ (h : Handset). handset_after feed_of change_of h (run_of acts)) (answered_handset r.handset.next f.answer f.handset r (refusal_keeps r.handset x))
+    go false e = ap (λ (h : Handset). handset_after feed_of change_of h (run_of acts)) (step_other w r e)
 
--- The feeds among two lists of commands.
-run_append : (xs ys : List Written) → run_of (xs ++ ys) ≡ run_of xs ++ run_of ys
+-- The items among two lists of acts.
+run_append : (xs ys : List Act) → run_of (xs ++ ys) ≡ run_of xs ++ run_of ys
 unfolding run_of
 run_append [] ys = refl
-run_append (w ∷ ws) ys = rw (run_append ws ys) (go (feeds w))
+run_append (own_feed x ∷ acts) ys = ap (λ (items : List Item). feed x ∷ items) (run_append acts ys)
+run_append (own_change m ∷ acts) ys = ap (λ (items : List Item). change m ∷ items) (run_append acts ys)
+run_append (command w ∷ acts) ys = rw (run_append acts ys) (go (feeds w))
   where
-    go : (b : Bool) → cond b (feed (brought_by w.slot) ∷ (run_of ws ++ run_of ys)) (run_of ws ++ run_of ys) ≡ cond b (feed (brought_by w.slot) ∷ run_of ws) (run_of ws) ++ run_of ys
+    go : (b : Bool)
+        → cond b (feed (brought_by w.slot) ∷ (run_of acts ++ run_of ys)) (run_of acts ++ run_of ys)
+        ≡ cond b (feed (brought_by w.slot) ∷ run_of acts) (run_of acts) ++ run_of ys
     go true = refl
     go false = refl
 
--- A command that feeds, and those after it.
-run_feeds : (w : Written) (ws : List Written) → feeds w ≡ true → run_of (w ∷ ws) ≡ feed (brought_by w.slot) ∷ run_of ws
+-- A command that feeds, and what is done after it.
+run_feeds : (w : Written) (acts : List Act) → feeds w ≡ true → run_of (command w ∷ acts) ≡ feed (brought_by w.slot) ∷ run_of acts
 unfolding run_of
-run_feeds w ws f = rw f
-
--- They are feeds, and no changes of mode.
-all_feeds : (ws : List Written) → AllFeeds (run_of ws)
-unfolding run_of
-all_feeds [] = tt
-all_feeds (w ∷ ws) = either AllFeeds (feeds w) (feed (brought_by w.slot) ∷ run_of ws) (run_of ws) (all_feeds ws) (all_feeds ws)
+run_feeds w acts f = rw f
 
 module _ (set : Settings) (good : settings_refusal set ≡ 0) where
-  -- The refusal of a feed after a history is the history's cause.
-  refusal_after : (l : List Heard) → ValidPast set l → (x : Heard) → number_in (feed_of (unchanged set l) x).answer ≡ cause_after set l x
-  refusal_after l valid x = go (cause_after set l x) refl
+  -- The refusal of a feed after a history, in any of its modes, is the history's cause.
+  refusal_after : (m : ℕ) (ms : List ℕ) → Allowed set (m ∷ ms) → (l : List Heard) → ValidPast set l → (x : Heard)
+      → number_in (feed_of (after set m ms l) x).answer ≡ cause_after set l x
+  refusal_after m ms allowed l valid x = go (cause_after set l x) refl
     where
-      go : (k : ℕ) → cause_after set l x ≡ k → number_in (feed_of (unchanged set l) x).answer ≡ k
-      go zero e = rw (accepted_unchanged set good l valid x e) refl
-      go (suc k) e = rw (refused_unchanged set good l valid x (λ z. omega arith)) e
+      go : (k : ℕ) → cause_after set l x ≡ k → number_in (feed_of (after set m ms l) x).answer ≡ k
+      go zero e = rw (accepted_after set good m ms allowed l valid x e) refl
+      go (suc k) e = rw (refused_after set good m ms allowed l valid x (λ z. omega arith)) e
 
   module _ (heard : List Heard) where
     -- The run's list of heard things goes on, after the history l, with what the items still to come bring.
@@ -168,25 +171,30 @@ module _ (set : Settings) (good : settings_refusal set ≡ 0) where
       next : h.next ≡ s % 10
       refusal : number_in (feed_of h x).answer ≡ cause_in set heard s x
 
-    each : (items : List Item) → AllFeeds items → (l : List Heard) → ValidPast set l → Past Nothing heard l → Rest l items
+    each : (items : List Item) (m : ℕ) (ms : List ℕ) → Allowed set (m ∷ ms) → (l : List Heard) → ValidPast set l → Past Nothing heard l → Rest l items
         → (i : ℕ) (x : Heard) → i < length items → item_at items i ≡ feed x
-        → At (handset_after feed_of change_of (unchanged set l) (take i items)) (length l + length (heard_from set l (take i items))) x
-    each [] feeds l valid past rest i x h is = absurd (not-suc-le-zero h)
-    each (change m ∷ items) feeds l valid past rest i x h is = absurd feeds
-    each (feed y ∷ items) feeds l valid past rest zero x h is =
+        → At (handset_after feed_of change_of (after set m ms l) (take i items)) (length l + length (heard_from set l (take i items))) x
+    each [] m ms allowed l valid past rest i x h is = absurd (not-suc-le-zero h)
+    each (change new ∷ items) m ms allowed l valid past rest zero x h is = absurd (cc)
+    each (change new ∷ items) m ms allowed l valid past rest (suc i) x h is =
+        subst (λ (g : Handset). At (handset_after feed_of change_of g (take i items)) (length l + length (heard_from set l (take i items))) x)
+        (sym (ap (λ (c : Changed). c.handset) (changed_after set good m ms allowed l valid new)))
+        (each items (standing set m new) ms (standing_allowed set good m new allowed.0, allowed.1) l valid past rest i x (le_of_suc-le-suc h) is)
+    each (feed y ∷ items) m ms allowed l valid past rest zero x h is =
         let same : y ≡ x = cc in
         record {
           next = ap (λ (s : ℕ). s % 10) (sym (add-zero (length l)));
-          refusal = refusal_after l valid x ∙ sym (cause_past set heard l past x) ∙ ap (λ (s : ℕ). cause_in set heard s x) (sym (add-zero (length l)));
+          refusal = refusal_after m ms allowed l valid x ∙ sym (cause_past set heard l past x) ∙ ap (λ (s : ℕ). cause_in set heard s x) (sym (add-zero (length l)));
         }
-    each (feed y ∷ items) feeds l valid past rest (suc i) x h is =
-        go (eqb (cause_after set l y) 0) refl rest (λ l' valid' past' rest'. each items feeds l' valid' past' rest' i x (le_of_suc-le-suc h) is)
+    each (feed y ∷ items) m ms allowed l valid past rest (suc i) x h is =
+        go (eqb (cause_after set l y) 0) refl rest
+        (λ ms' allowed' l' valid' past' rest'. each items m ms' allowed' l' valid' past' rest' i x (le_of_suc-le-suc h) is)
       where
         go : (b : Bool) → eqb (cause_after set l y) 0 ≡ b
             → ((j : ℕ) → get_or heard (length l + j) Nothing ≡ get_or (cond b (y ∷ heard_from set (y ∷ l) items) (heard_from set l items)) j Nothing)
-            → ((l' : List Heard) → ValidPast set l' → Past Nothing heard l' → Rest l' items
-            → At (handset_after feed_of change_of (unchanged set l') (take i items)) (length l' + length (heard_from set l' (take i items))) x)
-            → At (handset_after feed_of change_of (feed_of (unchanged set l) y).handset (take i items))
+            → ((ms' : List ℕ) → Allowed set (m ∷ ms') → (l' : List Heard) → ValidPast set l' → Past Nothing heard l' → Rest l' items
+            → At (handset_after feed_of change_of (after set m ms' l') (take i items)) (length l' + length (heard_from set l' (take i items))) x)
+            → At (handset_after feed_of change_of (feed_of (after set m ms l) y).handset (take i items))
             (length l + length (cond b (y ∷ heard_from set (y ∷ l) (take i items)) (heard_from set l (take i items)))) x
         go true b rest next =
             let none : cause_after set l y ≡ 0 = eqb-true (cause_after set l y) 0 b in
@@ -194,14 +202,21 @@ module _ (set : Settings) (good : settings_refusal set ≡ 0) where
             let more : Rest (y ∷ l) items = λ j.
             ap (λ (s : ℕ). get_or heard s Nothing) (suc-add (length l) j ∙ sym (add-suc (length l) j)) ∙ rest (suc j) in
             let count : length l + suc (length (heard_from set (y ∷ l) (take i items))) ≡ suc (length l) + length (heard_from set (y ∷ l) (take i items)) = omega arith in
-            rw (count, ap (λ (f : Fed). f.handset) (accepted_unchanged set good l valid y none)) (next (y ∷ l) (none, valid) (now, past) more)
+            rw (count, ap (λ (f : Fed). f.handset) (accepted_after set good m ms allowed l valid y none))
+            (next (m ∷ ms) (allowed.0, allowed) (y ∷ l) (none, valid) (now, past) more)
         go false b rest next =
-            rw (ap (λ (f : Fed). f.handset) (refused_unchanged set good l valid y (eqb-false (cause_after set l y) 0 b))) (next l valid past rest)
+            rw (ap (λ (f : Fed). f.handset) (refused_after set good m ms allowed l valid y (eqb-false (cause_after set l y) 0 b)))
+            (next ms allowed l valid past rest)
 
--- The lists of commands that end in w, and go on after it.
-module _ (set : Settings) (good : settings_refusal set ≡ 0) (before after : List Written) (w : Written) where
-  abbrev whole : List Written
-  whole = before ++ (w ∷ after)
+-- What is shown, by equal numbers, answers and blocks.
+shown_with : {n n' : ℕ} {a a' : Result Answer ℕ} {b b' : List ℕ} {c c' : AfterCommand} → n ≡ n' → a ≡ a' → b ≡ b' → c ≡ c'
+    → Shown (bytes_of n a) b c.block → Shown (bytes_of n' a') b' c'.block
+shown_with e f g h t = rw (← e, ← f, ← g, ← h) t
+
+-- What was done before a command w, and is done after it.
+module _ (set : Settings) (good : settings_refusal set ≡ 0) (before later : List Act) (w : Written) where
+  abbrev whole : List Act
+  whole = before ++ (command w ∷ later)
 
   -- What is running before w.
   r : Running
@@ -221,11 +236,11 @@ module _ (set : Settings) (good : settings_refusal set ≡ 0) (before after : Li
   call_is : call_at command_of set before w ≡ seen w (step w r)
   call_is = ap (λ (l : Lent). command_of (rewritten w l.block) l.handset) shows ∙ seen_same w r eight
 
-  items_are : run_of whole ≡ run_of before ++ run_of (w ∷ after)
-  items_are = run_append before (w ∷ after)
+  items_are : run_of whole ≡ run_of before ++ run_of (command w ∷ later)
+  items_are = run_append before (command w ∷ later)
 
   taken : take (item_after before) (run_of whole) ≡ run_of before
-  taken = ap (take (item_after before)) items_are ∙ take_at (run_of before) (run_of (w ∷ after)) (item_after before) refl
+  taken = ap (take (item_after before)) items_are ∙ take_at (run_of before) (run_of (command w ∷ later)) (item_after before) refl
 
   -- The handset that is lent is the run's; the run is counted to here.
   handset_is : r.handset ≡ handset_at feedback_engine set (run_of whole) (item_after before)
@@ -244,21 +259,20 @@ module _ (set : Settings) (good : settings_refusal set ≡ 0) (before after : Li
 
     item_is : IsFeed (run_of whole) (item_after before) x
     item_is =
-        let more : run_of (w ∷ after) ≡ feed (brought_by w.slot) ∷ run_of after = run_feeds w after f in
-        let all : run_of whole ≡ run_of before ++ (feed (brought_by w.slot) ∷ run_of after) = items_are ∙ ap (λ (l : List Item). run_of before ++ l) more in
+        let more : run_of (command w ∷ later) ≡ feed (brought_by w.slot) ∷ run_of later = run_feeds w later f in
+        let all : run_of whole ≡ run_of before ++ (feed (brought_by w.slot) ∷ run_of later) = items_are ∙ ap (λ (l : List Item). run_of before ++ l) more in
         record {
-          inside = rw (all, length-append (run_of before) (feed (brought_by w.slot) ∷ run_of after)) (omega arith);
-          brings = ap (λ (l : List Item). item_at l (item_after before)) all ∙ get_or-append_seam (run_of before) (feed (brought_by w.slot)) (run_of after) (feed Nothing);
+          inside = rw (all, length-append (run_of before) (feed (brought_by w.slot) ∷ run_of later)) (omega arith);
+          brings = ap (λ (l : List Item). item_at l (item_after before)) all ∙ get_or-append_seam (run_of before) (feed (brought_by w.slot)) (run_of later) (feed Nothing);
         }
 
     at_is : At set good (heard_in_run set (run_of whole)) (handset_at feedback_engine set (run_of whole) (item_after before))
         (subframe_after set whole before) x
     at_is =
-        let fresh : (make_of set).handset ≡ unchanged set [] = made_fresh set good in
-        let all = each set good (heard_in_run set (run_of whole)) (run_of whole) (all_feeds whole) [] tt tt
+        let all = each set good (heard_in_run set (run_of whole)) (run_of whole) set.mode [] (made_allowed set good, tt) [] tt tt
         (λ j. ap (λ (s : ℕ). get_or (heard_in_run set (run_of whole)) s Nothing) (zero-add j))
         (item_after before) x item_is.inside item_is.brings in
-        rw (fresh, ← zero-add (length (heard_from set [] (take (item_after before) (run_of whole))))) all
+        rw (made_fresh set good, ← zero-add (length (heard_from set [] (take (item_after before) (run_of whole))))) all
 
     seen_is : call_at command_of set before w
         ≡ seen w (record {
@@ -273,25 +287,28 @@ module _ (set : Settings) (good : settings_refusal set ≡ 0) (before after : Li
     cause_is : (call_at command_of set before w).told.refusal ≡ cause_at set (run_of whole) (item_after before) (brought_by w.slot)
     cause_is = refusal_is ∙ at_is.refusal
 
-    reply_is : (bytes_of (subframe_after set whole before % 10) (answer_to set whole before w) ≡ [] → ⊥)
-        → drop 8 (call_at command_of set before w).block ≡ bytes_of (subframe_after set whole before % 10) (answer_to set whole before w)
-    reply_is some =
+    reply_is : (call_at command_of set before w).told.refusal ≡ 0
+        → Shown (bytes_of (subframe_after set whole before % 10) (answer_to set whole before w)) (block_at command_of set before w) (call_at command_of set before w).block
+    unfolding slot_at
+    reply_is refused =
         let n : r.handset.next ≡ subframe_after set whole before % 10 = ap (λ (h : Handset). h.next) handset_is ∙ at_is.next in
         let a : (feed_of r.handset x).answer ≡ answer_to set whole before w = ap (λ (h : Handset). (feed_of h x).answer) handset_is in
-        let shown = answered_reply r.handset.next (feed_of r.handset x).answer (feed_of r.handset x).handset r (rw (n, a) some) in
-        ap (λ (c : AfterCommand). drop 8 c.block) seen_is ∙ shown ∙ rw (n, a)
+        let sixteen : length (shown_as w r) ≡ 16 = omega (arith, eight) in
+        let lent : block_at command_of set before w ≡ shown_as w r = ap (λ (l : Lent). rewritten w l.block) shows in
+        let called : call_at command_of set before w ≡ command_of (shown_as w r) r.handset = ap (λ (l : Lent). command_of (rewritten w l.block) l.handset) shows in
+        let one : w.command ≡ 1 = eqb-true w.command 1 (and_parts (eqb w.command 1) (leb w.slot.kind 3) f).0 in
+        shown_with n a (sym lent) (sym called) ((calls_exactly (shown_as w r) r.handset).fed sixteen one (ap (λ (c : AfterCommand). c.told.refusal) (sym called) ∙ refused)).0
 
   other_is : feeds w ≡ false → (call_at command_of set before w).told.handset ≡ (lent_at command_of set before).handset
   other_is e = ap (λ (a : AfterCommand). a.told.handset) call_is ∙ step_other w r e ∙ sym (ap (λ (l : Lent). l.handset) shows)
 
 pub commands_run : CommandsRun command_of
-commands_run set good ws =
+commands_run set good acts =
     record {
       item = λ before w at f. rw at.1 (item_is set good before at.0 w f);
       handset = λ before w at. rw at.1 (lent_is set good before at.0 w);
       refusal = λ before w at f. rw at.1 (refusal_is set good before at.0 w f, cause_is set good before at.0 w f);
       reply = λ before w at f. rw at.1 (reply_is set good before at.0 w f);
       other = λ before w at e. other_is set good before at.0 w e;
-      mode = λ s. made_settings set (run_of ws) (all_feeds ws) s;
-      holds = λ sent schedule brings. demand3.run set good sent schedule (run_of ws) brings;
+      holds = λ sent schedule brings. demand3.run set good sent schedule (run_of acts) brings;
     }

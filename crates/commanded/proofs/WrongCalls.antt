@@ -1,4 +1,4 @@
--- What the statements shut out: for each a call with one fault, and commands of which the statement does not hold.
+-- What the statements shut out, field by field: a call with a fault, and commands of which the field does not hold.
 --
 --   BlockEquals: `from_zeros`, which follows from `onwards`
 --     a reply that finds no other one overwrites                 not_always_overwritten
@@ -9,13 +9,15 @@
 --     byte 8 is the subframe after the one fed                   not_next_subframe
 --     a silent window is no reply                                not_silent_unseen
 --     a subframe that is taken is a reply                        not_taken_shown
---     a kind over 3 feeds nothing                                not_kind_fed
+--     a kind over 3 is not refused                               not_kind_fed
 --     a command over 2 is none                                   not_command_taken
 --     a refusal clears the reply                                 not_reply_cleared
 --     a command is done once                                     not_command_reset
 --     the line is that of the flags alone                        not_unmasked
 --     the line is judged before the command                      not_line_before
 --     what a record does not use is remembered                   not_unused_kept
+--     the second port's resource is shown                        not_second_port
+--     the high byte of the resource comes first                  not_high_first
 --   CallsExactly
 --     refusal       28 before 29                                 not_command_first
 --     same_length   half of the block is lost                    not_half
@@ -33,8 +35,10 @@
 --     handset       a refused feed takes the subframe            not_subframe_taken
 --     refusal       no refusal is told                           not_untold
 --     reply         byte 8 is the subframe after the one fed     not_reply_next
+--                   no reply is announced                        not_unannounced
+--                   a subframe that is taken is a reply          not_taken_announced
 --     other         none feeds nothing                           not_none_feeds
---   Its other fields speak of the commands alone, and not of a call.
+--   Its other fields, `item` and `holds`, speak of what is done alone, and not of a call.
 -- Assumes nothing.
 use Prim.Native.Nat.{ℕ, zero, suc, ◌+◌, ◌*◌, ◌/◌, ◌%◌, ◌≤◌}
 use mathlib.Core.Bool.{Bool, false, cond, ◌&&◌, ◌||◌, false≢true}
@@ -42,22 +46,27 @@ use mathlib.Core.List.{List, [], ◌∷◌, ◌++◌}
 use mathlib.Core.Path.{◌≡◌, refl, sym, ap}
 use native.Mathlib.Omega.{arith}
 use lib.Dec.{eqb, ltb}
-use lib.ListN.{get_or, set, take, replicate}
+use Rattle.std.proofs.Common.{Option, Some, None, Result, Ok}
+use lib.ListN.{length, get_or, set, take, replicate}
 use Rattle.heard.specs.declared.Heard.TheVariants.{Nothing}
 use Rattle.heard.specs.Memory.{none, heard_in}
+use Rattle.resource.specs.declared.Resource.{Resource}
 use Rattle.handset.specs.declared.Handset.{Handset}
 use Rattle.handset.specs.Feed.{feed_of}
-use Rattle.handset.specs.Make.{fresh, no_settings}
+use Rattle.handset.specs.Make.{fresh, no_settings, make_of}
 use Rattle.handset.specs.Sound.{state_refusal}
-use Rattle.reader.specs.Record.{slot_at}
+use Rattle.reply.specs.declared.Answer.{Answer}
+use Rattle.reply.specs.declared.Answer.TheVariants.{Sent}
+use Rattle.reader.specs.Record.{slot_at, brought_by}
+use Rattle.replaying.specs.Written.{window_bytes, bytes_of}
 use Rattle.registers.specs.declared.flags.Flags.{Flags}
-use Rattle.registers.specs.Call.{AfterCommand, Call, line_of, command_of}
+use Rattle.registers.specs.Call.{shown_block, AfterCommand, Call, line_of, command_of}
 use Rattle.registers.specs.Exactly.{BothHave, CallsExactly}
 use Rattle.registers.specs.Machine.{Written}
 use Rattle.registers.specs.Lists.{BlockEquals}
-use Rattle.engines.proofs.Worked.{cell}
-use Rattle.commanded.specs.Run.{CommandsRun}
-use Rattle.commanded.proofs.Worked.{commands, written, nothing_fed, cleared, made}
+use Rattle.engines.proofs.Worked.{cell, times}
+use Rattle.commanded.specs.Run.{Act, command, CommandsRun}
+use Rattle.commanded.proofs.Worked.{commands, written, nothing_fed, cleared, made, two_ports}
 
 -- The right call, with what it leaves changed.
 abbrev changed : (List ℕ → Handset → AfterCommand → AfterCommand) → Call
@@ -86,20 +95,23 @@ bit_set w x = eqb (x / w % 2) 1
 abbrev at_byte : ℕ → (ℕ → ℕ) → AfterCommand → AfterCommand
 at_byte i change a = with_block (set a.block i (change (byte i a.block))) a
 
--- It is a feed that is not refused, and a window's.
-abbrev feeds_on : List ℕ → AfterCommand → Bool
-feeds_on b a = eqb (byte 4 b) 1 && eqb a.told.refusal 0
+-- The command is a feed, and what is answered to its record; whether that is a window's, or of a subframe that is taken or has none.
+abbrev answer : List ℕ → Handset → Result Answer ℕ
+answer b h = (feed_of h (brought_by (slot_at b 0))).answer
 
-abbrev shows : List ℕ → AfterCommand → Bool
-shows b a = feeds_on b a && bit_set 1 (byte 5 a.block)
+abbrev fed_window : List ℕ → Handset → Bool
+fed_window b h = eqb (byte 4 b) 1 && eqb (length (bytes_of h.next (answer b h))) 8
+
+abbrev fed_other : List ℕ → Handset → AfterCommand → Bool
+fed_other b h a = eqb (byte 4 b) 1 && eqb a.told.refusal 0 && eqb (length (bytes_of h.next (answer b h))) 0
 
 -- The calls with one fault each.
 
 always_overwritten : Call
-always_overwritten = changed (λ b h a. cond (shows b a) (at_byte 5 (λ x. 5) a) a)
+always_overwritten = changed (λ b h a. cond (fed_window b h) (at_byte 5 (λ x. x / 8 * 8 + 4 + x % 4) a) a)
 
 never_overwritten : Call
-never_overwritten = changed (λ b h a. at_byte 5 (λ x. x % 4) a)
+never_overwritten = changed (λ b h a. cond (fed_window b h) (at_byte 5 (λ x. x / 8 * 8 + byte 5 b % 8 / 4 * 4 + x % 4) a) a)
 
 number_reset : Call
 number_reset = changed (λ b h a. cond (eqb a.told.refusal 0) (at_byte 7 (λ x. 0) a) a)
@@ -111,13 +123,13 @@ clear_by_mask : Call
 clear_by_mask b h = cond (eqb (byte 4 b) 2) (with_block (set (command_of (set b 0 (byte 6 b)) h).block 0 (byte 0 b)) (command_of b h)) (command_of b h)
 
 next_subframe : Call
-next_subframe = changed (λ b h a. cond (shows b a) (at_byte 8 suc a) a)
+next_subframe = changed (λ b h a. cond (fed_window b h) (at_byte 8 suc a) a)
 
 silent_unseen : Call
-silent_unseen = changed (λ b h a. cond (shows b a && eqb (byte 9 a.block) 0) (with_block b a) a)
+silent_unseen = changed (λ b h a. cond (fed_window b h && eqb (byte 9 a.block) 0) (with_block b a) a)
 
 taken_shown : Call
-taken_shown = changed (λ b h a. cond (feeds_on b a) (at_byte 5 (λ x. 1) a) a)
+taken_shown = changed (λ b h a. cond (fed_other b h a) (with_block (shown_block a.block (window_bytes h.next 0 0 0 0)) a) a)
 
 kind_fed : Call
 kind_fed = changed (λ b h a. cond (eqb a.told.refusal 22) (with_refused 0 (with_block b a)) a)
@@ -139,7 +151,21 @@ line_before = changed (λ b h a. with_line (line_of b) a)
 
 -- the block that the right call leaves, and the handset that remembers the record as it stands
 unused_kept : Call
-unused_kept = changed (λ b h a. with_handset (feed_of h (heard_in (slot_at b 0))).handset a)
+unused_kept = changed (λ b h a. cond (eqb (byte 4 b) 1) (with_handset (feed_of h (heard_in (slot_at b 0))).handset a) a)
+
+abbrev second_resource : Option Resource → ℕ
+second_resource None = 0
+second_resource (Some r) = r.0
+
+abbrev second_in : Result Answer ℕ → ℕ
+second_in (Ok (Sent r)) = second_resource r.second
+second_in other = 0
+
+second_port : Call
+second_port = changed (λ b h a. cond (fed_window b h) (at_byte 10 (λ x. second_in (answer b h) % 256) (at_byte 11 (λ x. second_in (answer b h) / 256) a)) a)
+
+high_first : Call
+high_first = changed (λ b h a. cond (fed_window b h) (at_byte 10 (λ x. byte 11 a.block) (at_byte 11 (λ x. byte 10 a.block) a)) a)
 
 command_first : Call
 command_first = changed (λ b h a. cond (ltb 2 (byte 4 b)) (with_refused 28 a) a)
@@ -174,11 +200,14 @@ subframe_taken = changed (λ b h a. cond (eqb a.told.refusal 0) a (with_handset 
 untold : Call
 untold = changed (λ b h a. with_refused 0 a)
 
+unannounced : Call
+unannounced = changed (λ b h a. with_line false (at_byte 5 (λ x. 0) a))
+
 none_feeds : Call
 none_feeds = changed (λ b h a. cond (eqb (byte 4 b) 0) (with_handset (feed_of h Nothing).handset a) a)
 
 unfoldable faults : Unit {0}
-unfolding commands always_overwritten never_overwritten number_reset flag_reset clear_by_mask next_subframe silent_unseen taken_shown kind_fed command_taken reply_cleared command_reset unmasked line_before unused_kept command_first half short_shown above_dropped refusal_ready none_clears all_cleared none_refused all_bits subframe_taken untold none_feeds
+unfolding commands always_overwritten never_overwritten number_reset flag_reset clear_by_mask next_subframe silent_unseen taken_shown kind_fed command_taken reply_cleared command_reset unmasked line_before unused_kept second_port high_first command_first half short_shown above_dropped refusal_ready none_clears all_cleared none_refused all_bits subframe_taken untold unannounced none_feeds
 faults = tt
 
 -- BlockEquals: byte i, the line or the handset after the call of number k, from a fresh handset.
@@ -268,10 +297,22 @@ not_unused_kept d =
     let e : 3 ≡ 1 = ap (λ (seen : List AfterCommand). (get_or (after 0 seen).told.handset.past 0 none).results) (d.from_zeros made (written 1 1 3 1 3 0 ∷ [])) in
     omega (arith, e)
 
+-- The reply of Worked.antt on two ports, the last of eight calls: resource 339, 83 and 1 in bytes, and 340.
+abbrev two_blocks_fed : List Written
+two_blocks_fed = written 1 1 5 1 7 0 ∷ written 1 1 12 2 5 0 ∷ times 6 (nothing_fed 0) []
+
+not_second_port : BlockEquals second_port → ⊥
+unfolding faults
+not_second_port d = let e : 84 ≡ 83 = ap (byte_after 7 10) (d.from_zeros (make_of two_ports).handset two_blocks_fed) in omega (arith, e)
+
+not_high_first : BlockEquals high_first → ⊥
+unfolding faults
+not_high_first d = let e : 1 ≡ 83 = ap (byte_after 7 10) (d.from_zeros (make_of two_ports).handset two_blocks_fed) in omega (arith, e)
+
 -- CallsExactly: any block and handset.
 
 abbrev block : ℕ → ℕ → ℕ → ℕ → List ℕ
-block command dropped flags mask = dropped ∷ 0 ∷ 0 ∷ 0 ∷ command ∷ flags ∷ mask ∷ 9 ∷ replicate 8 0
+block asked dropped flags mask = dropped ∷ 0 ∷ 0 ∷ 0 ∷ asked ∷ flags ∷ mask ∷ 9 ∷ replicate 8 0
 
 not_command_first : CallsExactly command_first → ⊥
 unfolding faults
@@ -335,31 +376,46 @@ not_all_bits d = let h = ((d (block 0 0 128 128) made).line refl).0 refl in none
     none_of (suc (suc zero)) low e = omega (arith, e.0)
     none_of (suc (suc (suc i))) low e = omega arith
 
--- CommandsRun: a grant of DAI 0, which 12 refuses, and then nothing.
+-- CommandsRun: a grant of DAI 0, which 12 refuses, and nothing.
 
-abbrev refused_first : List Written
-refused_first = written 1 1 3 0 1 0 ∷ []
+abbrev refused_grant : Written
+refused_grant = written 1 1 3 0 1 0
+
+abbrev fed : Act
+fed = command (nothing_fed 1)
 
 not_subframe_taken : CommandsRun subframe_taken → ⊥
 unfolding faults
 not_subframe_taken d =
-    let e : 1 ≡ 0 = ap (λ (h : Handset). h.next) ((d (cell 1 0) refl (refused_first ++ one_silence)).handset refused_first (nothing_fed 1) (nothing_fed 1 ∷ nothing_fed 1 ∷ [], refl)) in
+    let before : List Act = command refused_grant ∷ [] in
+    let e : 1 ≡ 0 = ap (λ (h : Handset). h.next) ((d (cell 1 0) refl (before ++ (fed ∷ []))).handset before (nothing_fed 1) ([], refl)) in
     omega (arith, e)
 
 not_untold : CommandsRun untold → ⊥
 unfolding faults
 not_untold d =
-    let e : 0 ≡ 12 = ((d (cell 1 0) refl refused_first).refusal [] (written 1 1 3 0 1 0) ([], refl) refl).0 in
+    let e : 0 ≡ 12 = ((d (cell 1 0) refl (command refused_grant ∷ [])).refusal [] refused_grant ([], refl) refl).0 in
     omega (arith, e)
 
 not_reply_next : CommandsRun next_subframe → ⊥
 unfolding faults
 not_reply_next d =
-    let e : 3 ≡ 2 = ap (byte 0) ((d (cell 1 0) refl one_silence).reply (nothing_fed 1 ∷ nothing_fed 1 ∷ []) (nothing_fed 1) ([], refl) refl (λ e. absurd (cc))) in
+    let e : 3 ≡ 2 = ap (byte 0) ((d (cell 1 0) refl (fed ∷ fed ∷ fed ∷ [])).reply (fed ∷ fed ∷ []) (nothing_fed 1) ([], refl) refl refl).0 in
+    omega (arith, e)
+
+not_unannounced : CommandsRun unannounced → ⊥
+unfolding faults
+not_unannounced d =
+    false≢true (ap (λ (f : Flags). f.ready) ((d (cell 1 0) refl (fed ∷ fed ∷ fed ∷ [])).reply (fed ∷ fed ∷ []) (nothing_fed 1) ([], refl) refl refl).1)
+
+not_taken_announced : CommandsRun taken_shown → ⊥
+unfolding faults
+not_taken_announced d =
+    let e : 1 ≡ 0 = ap (byte 5) ((d (cell 1 0) refl (fed ∷ [])).reply [] (nothing_fed 1) ([], refl) refl refl) in
     omega (arith, e)
 
 not_none_feeds : CommandsRun none_feeds → ⊥
 unfolding faults
 not_none_feeds d =
-    let e : 1 ≡ 0 = ap (λ (h : Handset). h.next) ((d (cell 1 0) refl (written 0 0 0 0 0 0 ∷ [])).other [] (written 0 0 0 0 0 0) ([], refl) refl) in
+    let e : 1 ≡ 0 = ap (λ (h : Handset). h.next) ((d (cell 1 0) refl (command (written 0 0 0 0 0 0) ∷ [])).other [] (written 0 0 0 0 0 0) ([], refl) refl) in
     omega (arith, e)

@@ -22,7 +22,7 @@ impl From<(Commanded, Handset)> for CommandAnswer {
     #[tactic(auto, using(frame::proofs::Bools::cast_bit))]
     fn from((commanded, handset): (Commanded, Handset)) -> CommandAnswer {
         CommandAnswer {
-            refusal: commanded.refused.map_or_else(u16::from, |()| 0),
+            refusal: commanded.done.map_or_else(u16::from, |()| 0),
             line: commanded.line as u16,
             handset,
         }

@@ -82,29 +82,42 @@ refusal_some h x k e none = go (feed_refusal h x) e
     go zero e = absurd (cc)
     go (suc j) e = absurd (cc)
 
--- None, clear and a command over 2, with a handset; so is a block that has not 16 bytes.
-abbrev quietly : List ℕ → Handset → Bool → Bool → Bool → AfterCommand
-quietly b h whole none clear =
+-- None, clear, a kind over 3 and a command over 2, with a handset; so is a block that has not 16 bytes.
+abbrev quietly : List ℕ → Handset → Bool → Bool → Bool → Bool → AfterCommand
+quietly b h whole none feed clear =
     cond whole
-    (after_command b (cond none (record { block = Ok b; handset = h }) (cond clear (record { block = Ok (cleared_block b); handset = h }) (record { block = Err 28; handset = h }))))
+    (after_command b
+    (cond none (record { block = Ok b; handset = h })
+    (cond feed (record { block = Err 22; handset = h })
+    (cond clear (record { block = Ok (cleared_block b); handset = h })
+    (record { block = Err 28; handset = h })))))
     (record { told = record { refusal = 29; line = false; handset = h }; block = b })
 
-other_handset : (b : List ℕ) (h other : Handset) → (get_or b 4 0 ≡ 1 → ⊥)
+other_handset : (b : List ℕ) (h other : Handset) → (get_or b 4 0 ≡ 1 → 3 < get_or b 0 0)
     → command_of b other
     ≡ record { told = record { refusal = (command_of b h).told.refusal; line = (command_of b h).told.line; handset = other }; block = (command_of b h).block }
-unfolding command_of obeyed
-other_handset b h other quiet = rw (ne_eqb (get_or b 4 0) 1 quiet) (go (eqb (length b) 16) (eqb (get_or b 4 0) 0) (eqb (get_or b 4 0) 2))
+unfolding command_of obeyed window_brought handset_fed slot_at
+other_handset b h other quiet = by_command (eqb (get_or b 4 0) 1) refl
   where
-    go : (whole none clear : Bool)
-        → quietly b other whole none clear
+    go : (whole none feed clear : Bool)
+        → quietly b other whole none feed clear
         ≡ record {
-          told = record { refusal = (quietly b h whole none clear).told.refusal; line = (quietly b h whole none clear).told.line; handset = other };
-          block = (quietly b h whole none clear).block;
+          told = record { refusal = (quietly b h whole none feed clear).told.refusal; line = (quietly b h whole none feed clear).told.line; handset = other };
+          block = (quietly b h whole none feed clear).block;
         }
-    go false none clear = refl
-    go true true clear = refl
-    go true false true = refl
-    go true false false = refl
+    go false none feed clear = refl
+    go true true feed clear = refl
+    go true false true clear = refl
+    go true false false true = refl
+    go true false false false = refl
+
+    by_command : (feed : Bool) → eqb (get_or b 4 0) 1 ≡ feed
+        → command_of b other
+        ≡ record { told = record { refusal = (command_of b h).told.refusal; line = (command_of b h).told.line; handset = other }; block = (command_of b h).block }
+    by_command true e =
+        rw (e, lt-leb (get_or b 0 0) 3 (quiet (eqb-true (get_or b 4 0) 1 e)))
+        (go (eqb (length b) 16) (eqb (get_or b 4 0) 0) true (eqb (get_or b 4 0) 2))
+    by_command false e = rw e (go (eqb (length b) 16) (eqb (get_or b 4 0) 0) false (eqb (get_or b 4 0) 2))
 
 -- The line, bit by bit.
 module _ (x y : ℕ) where

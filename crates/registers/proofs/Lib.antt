@@ -1,2 +1,2 @@
-mod Exactly
+pub mod Exactly
 pub mod Lists

@@ -28,8 +28,8 @@ cleared_block b = flagged (λ f. without f (flags_in (get_or b 0 0))) b
 abbrev pub shown_block : List ℕ → List ℕ → List ℕ
 shown_block b reply = put_at 8 reply (flagged with_reply b)
 
--- "Bytes 0 to 3 are a record as in a trace": 22 for a kind over 3; else the refusal of its feed, or the window's bytes, none where the
--- subframe has no window.
+-- "Bytes 0 to 3 are a record as in a trace": 22 for a kind over 3; else the refusal of its feed, or the window's bytes, none for "taken"
+-- and "no window".
 unfoldable pub window_brought : List ℕ → Handset → Result (Option (List ℕ)) ℕ
 window_brought b h = cond (leb (slot_at b 0).kind 3) (window_fed h.next (feed_of h (brought_by (slot_at b 0))).answer) (Err 22)
 
@@ -79,7 +79,7 @@ pub record Told : Type 0 where
 
 -- In the code's terms.
 abbrev pub told_by : Commanded → Handset → Told
-told_by c h = record { refusal = refusal_in c.refused; line = c.line; handset = h }
+told_by c h = record { refusal = refusal_in c.done; line = c.line; handset = h }
 
 -- The answer, and the block afterwards.
 pub record AfterCommand : Type 0 where

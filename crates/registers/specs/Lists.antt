@@ -28,5 +28,6 @@ runs r (w ∷ ws) = seen w (step w r) ∷ runs (step w r).running ws
 pub record BlockEquals (call : Call) : Type 0 where
   -- with any handset at the start, fresh ones among them
   pub from_zeros : (h : Handset) (ws : List Written) → calls call (replicate 16 0) h ws ≡ runs (started h) ws
-  -- and from any block that shows a running handset, whatever stands in its other bytes and whatever came before
+  -- and from any block that shows a running handset, whatever a driver wrote last and whatever came before. Bits 3 to 7 of byte 5 are 0 in
+  -- it, as they are after zeros; Exactly.antt says that they keep any other value too.
   pub onwards : (v : Written) (r : Running) → length r.reply ≡ 8 → (ws : List Written) → calls call (shown_as v r) r.handset ws ≡ runs r ws

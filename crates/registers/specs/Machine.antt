@@ -34,7 +34,7 @@ pub record Running : Type 0 where
 abbrev pub started : Handset → Running
 started h = record { handset = h; ready = false; refused = false; overwritten = false; number = 0; reply = replicate 8 0 }
 
--- "bit 1 refusal; .. 7 the refusal number": a refusal leaves all else, the handset too.
+-- "bit 1 refusal, .. 7 the refusal number": a refusal leaves all else, the handset too.
 abbrev pub refuse : ℕ → Running → Running
 refuse k r =
     record { handset = r.handset; ready = r.ready; refused = true; overwritten = r.overwritten; number = k; reply = r.reply }

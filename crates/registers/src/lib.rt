@@ -1,6 +1,6 @@
 // The handset as a register block (document 02, U13): 16 lent bytes, in which a command is written and flags and the last reply are read.
-// specs/Call.antt has what a call makes of any bytes and any handset, specs/Machine.antt the running handset with its flags beside it,
-// and specs/Lists.antt that the two agree along every list of commands.
+// specs/Call.antt has what a call makes of any bytes and any handset, specs/Exactly.antt the same in words, specs/Machine.antt the running
+// handset with its flags beside it, and specs/Lists.antt that the two agree along every list of commands.
 #![tactic(auto)]
 
 mod flags;
@@ -15,7 +15,6 @@ use frame::Refusal;
 use handset::Handset;
 use heard::{Heard, Slot};
 use replaying::WINDOW;
-use trace::byte_at;
 
 // The bytes of a block, and where its parts stand: a record as in a trace, the command, the flags, the interrupt mask, the number of the
 // last refusal, and the last reply as in a replay.
@@ -31,10 +30,10 @@ const REFUSAL: usize = 7;
 
 const REPLY: usize = 8;
 
-// What a command comes to beside the block and the handset: whether it was refused, and whether the interrupt line is high.
+// What a command comes to beside the block and the handset: that it was done or its refusal, and whether the interrupt line is high.
 #[derive(Clone, Copy, Debug, PartialEq, Eq)]
 pub struct Commanded {
-    pub refused: Result<(), Refusal>,
+    pub done: Result<(), Refusal>,
     pub line: bool,
 }
 
@@ -122,16 +121,16 @@ pub fn command(block: &mut [u8], handset: &mut Handset) -> Commanded
 {
     let Some(block) = block.as_mut_array() else {
         return Commanded {
-            refused: Err(Refusal::RegisterBlock),
+            done: Err(Refusal::RegisterBlock),
             line: false,
         };
     };
-    let refused = obey(block, handset);
-    if let Err(refusal) = refused {
+    let done = obey(block, handset);
+    if let Err(refusal) = done {
         refuse(block, refusal);
     }
     Commanded {
-        refused,
+        done,
         line: line_of(block),
     }
 }

@@ -22,7 +22,7 @@ abbrev pub bytes_of : ℕ → Result Answer ℕ → List ℕ
 bytes_of n (Ok a) = answer_bytes n a
 bytes_of n (Err k) = []
 
--- The same where a subframe without a window is told apart: none.
+-- The same where "taken" and "no window" are told apart: none.
 abbrev pub window_in : ℕ → Answer → Option (List ℕ)
 window_in n Silent = Some (answer_bytes n Silent)
 window_in n (Sent r) = Some (answer_bytes n (Sent r))

@@ -23,7 +23,7 @@ pub fn feed_record(handset: &mut Handset, number: u16, slot: Slot) -> Result<Ans
         .map_err(|refusal| Stop::AtRecord(refusal, number))
 }
 
-// Feeds what a subframe brings, and gives the eight bytes of its window; none where it has no window.
+// Feeds what a subframe brings, and gives the eight bytes of its window; none for "taken" and "no window".
 pub fn feed_window(handset: &mut Handset, x: Heard) -> Result<Option<[u8; WINDOW]>, Refusal>
     ensures window { numbered result ≡ window_fed handset.old.next (feed_of handset.old x).answer }
     ensures after { handset.new ≡ (feed_of handset.old x).handset }

@@ -7,7 +7,7 @@ use reply::Answer;
 // The bytes of a window.
 pub const WINDOW: usize = 8;
 
-// The eight bytes of a window, from the answer at subframe n: n, kind, resource in two, b0, b1, two zeros; none without a window.
+// The eight bytes of a window, from the answer at subframe n: n, kind, resource in two, b0, b1, two zeros; none for "taken" and "no window".
 #[tactic(auto, unfolding(crate::specs::Written::window_bytes))]
 pub(crate) fn window_bytes(n: u16, answer: Answer) -> Option<[u8; WINDOW]>
     requires { (n ≤ 255) × FitsBytes answer }
