@@ -726,13 +726,13 @@ struct feedback_slot {
  * The state of a handset. 74 bytes without padding.
  *
  * feedback_make makes one; a feed, a change of mode or a command of a register block takes
- * one and gives back the next.
- * It is plain bytes: it may be copied, stored, and given back later, as often as you
- * like, on a machine of the same byte order. Other bytes may be given as well: a call
- * that looks at them then refuses 8, or answers as for what these bytes say was heard, and in which mode.
- * Bytes and bits of a slot that have no meaning are carried along unchanged; a feed puts
- * 0 into such bytes of the slot that it adds. Bits of modes that have no meaning are
- * carried along by a change of mode, and dropped by the next feed that is not refused.
+ * one and gives back the next. It is plain bytes: it may be copied, stored, and given back
+ * later, as often as you like, on a machine of the same byte order. Other bytes may be
+ * given as well: a call that looks at them then refuses 8, or answers as for what these
+ * bytes say was heard, and in which mode. Bytes and bits of a slot that have no meaning are
+ * carried along unchanged; a feed puts 0 into such bytes of the slot that it adds. Bits of
+ * modes that have no meaning are carried along by a change of mode, and dropped by the next
+ * feed that is not refused.
  *
  * A handset that was stored by a version before 5.0.0 has 64, 66, 70 or 72 bytes and
  * another layout: it cannot be fed to this one. Make a fresh handset.
@@ -1252,8 +1252,8 @@ struct feedback_fed feedback_feed_nothing(struct feedback_handset handset);
  * feed and ask for the cause with it later (fed.handset would tell of the next subframe).
  * The other feeds are never silent: in an uplink subframe they are refused 8 or 9.
  *
- *   handset    the state that feedback_make, or the feed, change or command before, answered: the
- *              one from before the silence
+ *   handset    the state that feedback_make, or the feed, change or command before, answered:
+ *              the one from before the silence
  *
  * All of fed is what feedback_feed_nothing answers. If that is not silent, cause is
  * FEEDBACK_CAUSE_NONE. If it is, in the mode of the window, one of two is the cause:
