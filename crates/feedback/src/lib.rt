@@ -30,9 +30,9 @@ use frame::{Settings, Window};
 use handset::Handset;
 use heard::{Grant, Heard, Release, ScheduledBlock};
 use numbers::{
-    AnsweredAnswer, ChangedAnswer, ClaimsAnswer, CommandAnswer, ConfirmedAnswer, CreditAnswer, FedAnswer,
-    GameAnswer, InverseAnswer, MadeAnswer, OpenedAnswer, ReadingAnswer, RecordAnswer, ReplayAnswer,
-    ResourceAnswer, SilenceAnswer, WindowAnswer, WriteAnswer,
+    AnsweredAnswer, ChangedAnswer, ClaimsAnswer, CommandAnswer, ConfirmedAnswer, CreditAnswer,
+    FedAnswer, GameAnswer, InverseAnswer, MadeAnswer, OpenedAnswer, ReadingAnswer, RecordAnswer,
+    ReplayAnswer, ResourceAnswer, SilenceAnswer, WindowAnswer, WriteAnswer,
 };
 use resource::{Cce, Resource};
 
