@@ -1500,8 +1500,8 @@ struct feedback_game_answer feedback_game(uint16_t size, uint16_t grants, uint16
  * are then what feedback_replay writes of this window, with n the subframe that was fed
  * and, of a handset with two ports, the resource of the first; bit 0 of byte 5 is set, and
  * bit 2 too where bit 0 was set before the command. A subframe that is taken or has no
- * window changes no byte. The reply is to be sent in the subframe that was just fed: one
- * that was overwritten before it was sent never reached the station.
+ * window changes no byte. A reply that is not silent is to be sent in the subframe that was
+ * just fed: one that was overwritten before never reached the station.
  *
  * Only a clear drops flags, and nothing resets byte 4 or byte 7: a feed that is not refused
  * leaves bit 1 and the number of an earlier refusal there, this number and the reply in
@@ -1514,17 +1514,17 @@ struct feedback_game_answer feedback_game(uint16_t size, uint16_t grants, uint16
  *
  * None and clear do not look at the handset: they refuse no state, and give back the one
  * that was lent, byte for byte. Nothing is kept between calls: lend the handset of the
- * answer to the next. That may also be a feed or a change of mode by its own call, which
- * changes no block.
+ * answer to the next. The next call may also be a feed or a change of mode by its own call:
+ * it changes no block, and its reply is in its own answer alone.
  *
  * It is proved, for every list of commands from a handset of feedback_make and a block of
  * zeros, with bytes 0 to 4 and 6 written as you like in between and no others: the handset
  * is always the one to which the feeds that were not refused lead, one by one, and bytes 5
  * and 7 to 15 are the flags, the last number and the last reply that these rules give
  * beside it (crates/registers/specs/Lists.antt). The feeds among the commands, refused ones
- * too, with any feeds by their own calls and changes of mode in between, are a run of feeds:
- * what is proved of the replies of such a run, read by feedback_reading, holds of those that
- * the block shows (crates/commanded/specs/Run.antt).
+ * too but for those refused 22, with any feeds by their own calls and changes of mode in
+ * between, are a run of feeds: what is proved of the replies of such a run, read by
+ * feedback_reading, holds of those that the block shows (crates/commanded/specs/Run.antt).
  *
  * Refuses 29 and 28, and for a feed then 22, 8, 9, 20, 10, 11, 12 and 18. 29 is a length
  * that is not FEEDBACK_BLOCK_BYTES: no byte changes then, and line is 0. 28 is a command

@@ -8,8 +8,8 @@ use feedback_tests::guarded::Guarded;
 use feedback_tests::model::{is_uplink, Model};
 use feedback_tests::random::Random;
 use feedback_tests::registers::{
-    is_high, Found, Written, ALL, CLEAR, COMMAND, FEED, FLAGS, NO_COMMAND, OVERWRITTEN, READY,
-    REFUSED, REPLY, SIZE, ZEROS,
+    is_high, Found, Written, ALL, CLEAR, COMMAND, FEED, FLAGS, MASK, NO_COMMAND, OVERWRITTEN,
+    READY, REFUSED, REPLY, SIZE, ZEROS,
 };
 use feedback_tests::trace::{Trace, WINDOW};
 use feedback_tests::{
@@ -402,15 +402,16 @@ fn equals_the_running_handset_with_flags_beside_it() {
     beside.sights.assert_each(1000);
 }
 
-/// The same while the mode of the handset changes between commands, by its own call: each reply is
-/// of its window's mode. Counted are those of another mode than the one that stands.
+/// The same while between commands the mode of the handset changes and a subframe is fed, by their
+/// own calls, which touch no block. Each command is held to the model too, so each reply is of its
+/// window's mode. Counted are those of another mode than the one that stands.
 #[test]
-fn goes_on_through_mode_changes() {
+fn goes_on_through_own_calls() {
     const LISTS: u64 = 500;
     const COMMANDS: u64 = 300;
     let model = Model::new();
     let mut beside = Beside::new(&model);
-    let (mut changes, mut in_another_mode) = (0, [0; 2]);
+    let (mut changes, mut own_feeds, mut in_another_mode) = (0, 0, [0; 2]);
     for seed in 0..LISTS {
         let mut random = Random::new(5000 + seed);
         let fresh = make(random.scheduled_settings()).handset;
@@ -421,8 +422,21 @@ fn goes_on_through_mode_changes() {
                 changes += u64::from(changed.refusal == 0);
                 (handset, panel.handset) = (changed.handset, changed.handset);
             }
+            if random.once_in(20) {
+                let fed = feed_nothing(handset);
+                own_feeds += u64::from(fed.refusal == 0);
+                (handset, panel.handset) = (fed.handset, fed.handset);
+            }
             let (before, lent) = (block, handset);
             handset = beside.hold(&mut panel, handset, &mut block, &mut random);
+            let mut due = before;
+            due[..FLAGS].copy_from_slice(&block[..FLAGS]);
+            due[MASK] = block[MASK];
+            let told = model.command(lent, &mut due);
+            assert!(
+                told.handset == handset && due == block,
+                "{lent:?} and {before:?}: {block:?}, {due:?} by the model"
+            );
             let window = model.window(lent.settings.config, lent.next);
             let is_long = window.is_some_and(|window| window.size() > 1);
             let replied = handset != lent && is_long && before[REPLY..] != block[REPLY..];
@@ -431,8 +445,9 @@ fn goes_on_through_mode_changes() {
             in_another_mode[1] += u64::from(of_kind(2) && lent.settings.mode == 0);
         }
     }
-    println!("{changes} changes, {in_another_mode:?} replies, by mode, while the other stands");
-    assert!(changes > 10_000 && in_another_mode.iter().all(|number| *number > 500));
+    println!("{changes} changes, {own_feeds} own feeds, {in_another_mode:?} replies, by mode, while the other stands");
+    assert!(changes > 10_000 && own_feeds > 5000);
+    assert!(in_another_mode.iter().all(|number| *number > 500));
 }
 
 /// Records that a replay takes to the end, with the windows that it writes.

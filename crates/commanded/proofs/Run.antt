@@ -37,15 +37,9 @@ use Rattle.agreement.proofs.Modes.{Allowed, made_allowed, standing_allowed}
 use Rattle.agreement.specs.Run.{Item, feed, change, item_at, handset_after, cause_after, heard_from, heard_in_run, standing}
 use Rattle.agreement.proofs.Feeds.{cause_in, Past, cause_past}
 use Rattle.agreement.proofs.Memory.{ValidPast, after, accepted_after, refused_after, changed_after, made_fresh}
-use Rattle.commanded.specs.Run.{Act, command, own_feed, own_change, feeds, run_of, Lent, lent_after, lent_at, block_at, call_at, item_after, subframe_after, answer_to, CommandsRun}
+use Rattle.commanded.specs.Run.{Act, command, own_feed, own_change, feeds, run_of, Lent, lent_after, lent_at, block_at, call_at, running_after, running_at, item_after, subframe_after, answer_to, CommandsRun}
 
--- What is running after what was done, and what a driver wrote last.
-running_after : Running → List Act → Running
-running_after r [] = r
-running_after r (command w ∷ acts) = running_after (step w r).running acts
-running_after r (own_feed x ∷ acts) = running_after (go_on (feed_of r.handset x).handset r) acts
-running_after r (own_change m ∷ acts) = running_after (go_on (change_of r.handset m).handset r) acts
-
+-- What a driver wrote last.
 last_written : Written → List Act → Written
 last_written v [] = v
 last_written v (command w ∷ acts) = last_written w acts
@@ -219,18 +213,17 @@ module _ (set : Settings) (good : settings_refusal set ≡ 0) (before later : Li
   whole = before ++ (command w ∷ later)
 
   -- What is running before w.
-  r : Running
-  r = running_after (started (make_of set).handset) before
+  abbrev r : Running
+  r = running_at set before
 
   eight : length r.reply ≡ 8
-  unfolding r
   eight = eight_after (started (make_of set).handset) refl before
 
   v : Written
   v = last_written (record { slot = none; command = 0; mask = 0 }) before
 
   shows : lent_at command_of set before ≡ record { block = shown_as v r; handset = r.handset }
-  unfolding r v
+  unfolding v
   shows = lent_shows (record { slot = none; command = 0; mask = 0 }) (started (make_of set).handset) refl before
 
   call_is : call_at command_of set before w ≡ seen w (step w r)
@@ -244,7 +237,6 @@ module _ (set : Settings) (good : settings_refusal set ≡ 0) (before later : Li
 
   -- The handset that is lent is the run's; the run is counted to here.
   handset_is : r.handset ≡ handset_at feedback_engine set (run_of whole) (item_after before)
-  unfolding r
   handset_is =
       running_handset (started (make_of set).handset) before
       ∙ ap (handset_after feed_of change_of (make_of set).handset) (sym taken)
@@ -305,6 +297,7 @@ module _ (set : Settings) (good : settings_refusal set ≡ 0) (before later : Li
 pub commands_run : CommandsRun command_of
 commands_run set good acts =
     record {
+      equals = λ before w at. call_is set good before at.0 w;
       item = λ before w at f. rw at.1 (item_is set good before at.0 w f);
       handset = λ before w at. rw at.1 (lent_is set good before at.0 w);
       refusal = λ before w at f. rw at.1 (refusal_is set good before at.0 w f, cause_is set good before at.0 w f);

@@ -7,6 +7,7 @@ use mathlib.Core.Bool.{Bool, true, false}
 use mathlib.Core.List.{List, [], ◌∷◌, ◌++◌, map}
 use mathlib.Core.Path.{◌≡◌, refl}
 use lib.ListN.{drop, replicate}
+use Rattle.heard.specs.declared.Heard.TheVariants.{Nothing}
 use Rattle.handset.specs.declared.Handset.{Handset}
 use Rattle.handset.specs.Make.{make_of}
 use Rattle.reader.specs.Record.{slot_at, used_results, used_in, brought_by}
@@ -20,12 +21,12 @@ use Rattle.engines.proofs.Finite.{sending, scheduled, brought}
 use Rattle.engines.proofs.ChangedRuns.{after_refused, after_refused_holds}
 use Rattle.engines.proofs.Worked.{cell, scheduled_cell, all_heard, all_heard_holds}
 use Rattle.frame.specs.declared.Settings.{Settings}
-use Rattle.commanded.specs.Run.{Act, command, own_change, run_of, call_at}
+use Rattle.commanded.specs.Run.{Act, command, own_feed, own_change, run_of, call_at, running_after}
 use Rattle.commanded.proofs.Run.{commands_run}
 
 -- The definitions that a list of commands computes with, beside those of the handset.
 unfoldable pub commands : Unit {0}
-unfolding handsets slot_at used_results used_in brought_by window_bytes window_brought handset_fed obeyed command_of feed_step step run_of
+unfolding handsets slot_at used_results used_in brought_by window_bytes window_brought handset_fed obeyed command_of feed_step step run_of running_after
 commands = tt
 
 abbrev pub written : ℕ → ℕ → ℕ → ℕ → ℕ → ℕ → Written
@@ -153,8 +154,8 @@ pub mode_changed_holds : HoldsAfter feedback_engine (cell 1 0) (sending after_re
 unfolding commands
 mode_changed_holds = (commands_run (cell 1 0) refl (mode_changed ++ fed_nothing 6)).holds (sending after_refused.sends) after_refused_holds.schedule after_refused_holds.brings
 
--- Two antenna ports, two blocks, N1 300: of the grants of 0 and 1 the second one's first block alone decoded. The reply in 7 is on resource
--- 339, 83 and 1 in bytes; 340, the second port's, is not shown.
+-- Two antenna ports, two blocks, N1 300: the grant of 0 decoded both blocks, that of 1 the first alone. The reply in 7 is on resource 339, 83
+-- and 1 in bytes; 340, the second port's, is not shown.
 abbrev pub two_ports : Settings
 two_ports = record { config = 1; nrb = 50; n1 = 300; mode = 0; blocks = 2; scheduled = 65535; prefix = 0; special = 7; ports = 2 }
 
@@ -170,3 +171,12 @@ pub block_shown : shown_at (scheduled_cell 1 0) (fed_nothing 4 ++ (command (writ
     ≡ 1 ∷ 5 ∷ 0 ∷ 0 ∷ 8 ∷ 1 ∷ 7 ∷ 0 ∷ 1 ∷ 0 ∷ 0 ∷ 0 ∷ []
 unfolding commands
 block_shown = refl
+
+-- Subframe 2 fed by its own call: its silence is not shown, and the next window is that of 3.
+pub own_feed_unshown : shown_at (cell 1 0) (fed_nothing 2 ++ (own_feed Nothing ∷ [])) (written 0 0 0 0 0 0) ≡ replicate 12 0
+unfolding commands
+own_feed_unshown = refl
+
+pub after_own_feed : shown_at (cell 1 0) (fed_nothing 2 ++ (own_feed Nothing ∷ [])) (nothing_fed 0) ≡ 1 ∷ 1 ∷ 0 ∷ 0 ∷ 3 ∷ replicate 7 0
+unfolding commands
+after_own_feed = refl

@@ -1,6 +1,6 @@
 -- What the statements shut out, field by field: a call with a fault, and commands of which the field does not hold.
 --
---   BlockEquals: `from_zeros`, which follows from `onwards`
+--   BlockEquals, from_zeros
 --     a reply that finds no other one overwrites                 not_always_overwritten
 --     no reply overwrites                                        not_never_overwritten
 --     a command that is not refused resets byte 7                not_number_reset
@@ -18,26 +18,29 @@
 --     what a record does not use is remembered                   not_unused_kept
 --     the second port's resource is shown                        not_second_port
 --     the high byte of the resource comes first                  not_high_first
+--   BlockEquals, onwards: on a block that no list of commands from zeros leads to
+--     bit 2 where byte 15 is not 0                               not_past_zeros
 --   CallsExactly
 --     refusal       28 before 29                                 not_command_first
 --     same_length   half of the block is lost                    not_half
 --     untouched     29 is shown in the block                     not_short_shown
 --     kept          the command byte is reset                    not_command_kept
---     above         clear drops all bits of byte 5               not_above_dropped
+--     above         clear drops bits 3 to 7 of byte 5            not_above_dropped
 --     refused       a refusal sets bit 0                         not_refusal_ready
 --     number_kept   a command that is not refused resets byte 7  not_number_kept
---     none          none drops the flags                         not_none_clears
+--     none          none drops the three flags                   not_none_clears
 --     clear         clear drops all three flags                  not_all_cleared
 --     any_handset   none is refused 8 in a bad state             not_none_refused
 --     fed           byte 8 is the subframe after the one fed     not_fed_next
 --     line          the line is judged by all eight bits         not_all_bits
 --   CommandsRun
+--     equals        none shows a reply                           not_made_up
 --     handset       a refused feed takes the subframe            not_subframe_taken
 --     refusal       no refusal is told                           not_untold
 --     reply         byte 8 is the subframe after the one fed     not_reply_next
 --                   no reply is announced                        not_unannounced
 --                   a subframe that is taken is a reply          not_taken_announced
---     other         none feeds nothing                           not_none_feeds
+--     other         none takes a subframe                        not_none_feeds
 --   Its other fields, `item` and `holds`, speak of what is done alone, and not of a call.
 -- Assumes nothing.
 use Prim.Native.Nat.{ℕ, zero, suc, ◌+◌, ◌*◌, ◌/◌, ◌%◌, ◌≤◌}
@@ -62,19 +65,22 @@ use Rattle.replaying.specs.Written.{window_bytes, bytes_of}
 use Rattle.registers.specs.declared.flags.Flags.{Flags}
 use Rattle.registers.specs.Call.{shown_block, AfterCommand, Call, line_of, command_of}
 use Rattle.registers.specs.Exactly.{BothHave, CallsExactly}
-use Rattle.registers.specs.Machine.{Written}
+use Rattle.registers.specs.Machine.{Written, Running}
 use Rattle.registers.specs.Lists.{BlockEquals}
 use Rattle.engines.proofs.Worked.{cell, times}
 use Rattle.commanded.specs.Run.{Act, command, CommandsRun}
 use Rattle.commanded.proofs.Worked.{commands, written, nothing_fed, cleared, made, two_ports}
 
--- The right call, with what it leaves changed.
+-- The right call, with what it leaves of a block of 16 bytes changed, or of any.
 abbrev changed : (List ℕ → Handset → AfterCommand → AfterCommand) → Call
-changed change b h = change b h (command_of b h)
+changed change b h = cond (eqb (length b) 16) (change b h (command_of b h)) (command_of b h)
 
--- Another block, refusal, line or handset.
+abbrev changed_any : (List ℕ → Handset → AfterCommand → AfterCommand) → Call
+changed_any change b h = change b h (command_of b h)
+
+-- Another block, by which the line is judged, another refusal, line or handset.
 abbrev with_block : List ℕ → AfterCommand → AfterCommand
-with_block b a = record { told = a.told; block = b }
+with_block b a = record { told = record { refusal = a.told.refusal; line = line_of b; handset = a.told.handset }; block = b }
 
 abbrev with_refused : ℕ → AfterCommand → AfterCommand
 with_refused k a = record { told = record { refusal = k; line = a.told.line; handset = a.told.handset }; block = a.block }
@@ -99,8 +105,8 @@ at_byte i change a = with_block (set a.block i (change (byte i a.block))) a
 abbrev answer : List ℕ → Handset → Result Answer ℕ
 answer b h = (feed_of h (brought_by (slot_at b 0))).answer
 
-abbrev fed_window : List ℕ → Handset → Bool
-fed_window b h = eqb (byte 4 b) 1 && eqb (length (bytes_of h.next (answer b h))) 8
+abbrev fed_window : List ℕ → Handset → AfterCommand → Bool
+fed_window b h a = eqb (byte 4 b) 1 && eqb a.told.refusal 0 && eqb (length (bytes_of h.next (answer b h))) 8
 
 abbrev fed_other : List ℕ → Handset → AfterCommand → Bool
 fed_other b h a = eqb (byte 4 b) 1 && eqb a.told.refusal 0 && eqb (length (bytes_of h.next (answer b h))) 0
@@ -108,10 +114,10 @@ fed_other b h a = eqb (byte 4 b) 1 && eqb a.told.refusal 0 && eqb (length (bytes
 -- The calls with one fault each.
 
 always_overwritten : Call
-always_overwritten = changed (λ b h a. cond (fed_window b h) (at_byte 5 (λ x. x / 8 * 8 + 4 + x % 4) a) a)
+always_overwritten = changed (λ b h a. cond (fed_window b h a) (at_byte 5 (λ x. x / 8 * 8 + 4 + x % 4) a) a)
 
 never_overwritten : Call
-never_overwritten = changed (λ b h a. cond (fed_window b h) (at_byte 5 (λ x. x / 8 * 8 + byte 5 b % 8 / 4 * 4 + x % 4) a) a)
+never_overwritten = changed (λ b h a. cond (fed_window b h a) (at_byte 5 (λ x. x / 8 * 8 + byte 5 b % 8 / 4 * 4 + x % 4) a) a)
 
 number_reset : Call
 number_reset = changed (λ b h a. cond (eqb a.told.refusal 0) (at_byte 7 (λ x. 0) a) a)
@@ -120,13 +126,13 @@ flag_reset : Call
 flag_reset = changed (λ b h a. cond (eqb a.told.refusal 0) (at_byte 5 (λ x. x / 4 * 4 + x % 2) a) a)
 
 clear_by_mask : Call
-clear_by_mask b h = cond (eqb (byte 4 b) 2) (with_block (set (command_of (set b 0 (byte 6 b)) h).block 0 (byte 0 b)) (command_of b h)) (command_of b h)
+clear_by_mask = changed (λ b h a. cond (eqb (byte 4 b) 2) (with_block (set (command_of (set b 0 (byte 6 b)) h).block 0 (byte 0 b)) a) a)
 
 next_subframe : Call
-next_subframe = changed (λ b h a. cond (fed_window b h) (at_byte 8 suc a) a)
+next_subframe = changed (λ b h a. cond (fed_window b h a) (at_byte 8 suc a) a)
 
 silent_unseen : Call
-silent_unseen = changed (λ b h a. cond (fed_window b h && eqb (byte 9 a.block) 0) (with_block b a) a)
+silent_unseen = changed (λ b h a. cond (fed_window b h a && eqb (byte 9 a.block) 0) (with_block b a) a)
 
 taken_shown : Call
 taken_shown = changed (λ b h a. cond (fed_other b h a) (with_block (shown_block a.block (window_bytes h.next 0 0 0 0)) a) a)
@@ -149,9 +155,9 @@ unmasked = changed (λ b h a. with_line (ltb 0 (byte 5 a.block)) a)
 line_before : Call
 line_before = changed (λ b h a. with_line (line_of b) a)
 
--- the block that the right call leaves, and the handset that remembers the record as it stands
+-- the right block, and a handset that remembers the record as it stands
 unused_kept : Call
-unused_kept = changed (λ b h a. cond (eqb (byte 4 b) 1) (with_handset (feed_of h (heard_in (slot_at b 0))).handset a) a)
+unused_kept = changed (λ b h a. cond (eqb (byte 4 b) 1 && eqb a.told.refusal 0) (with_handset (feed_of h (heard_in (slot_at b 0))).handset a) a)
 
 abbrev second_resource : Option Resource → ℕ
 second_resource None = 0
@@ -162,28 +168,34 @@ second_in (Ok (Sent r)) = second_resource r.second
 second_in other = 0
 
 second_port : Call
-second_port = changed (λ b h a. cond (fed_window b h) (at_byte 10 (λ x. second_in (answer b h) % 256) (at_byte 11 (λ x. second_in (answer b h) / 256) a)) a)
+second_port = changed (λ b h a. cond (fed_window b h a) (at_byte 10 (λ x. second_in (answer b h) % 256) (at_byte 11 (λ x. second_in (answer b h) / 256) a)) a)
 
 high_first : Call
-high_first = changed (λ b h a. cond (fed_window b h) (at_byte 10 (λ x. byte 11 a.block) (at_byte 11 (λ x. byte 10 a.block) a)) a)
+high_first = changed (λ b h a. cond (fed_window b h a) (at_byte 10 (λ x. byte 11 a.block) (at_byte 11 (λ x. byte 10 a.block) a)) a)
+
+past_zeros : Call
+past_zeros = changed (λ b h a. cond (eqb (byte 15 b) 0) a (at_byte 5 (λ x. x / 8 * 8 + 4 + x % 4) a))
+
+made_up : Call
+made_up = changed (λ b h a. cond (eqb (byte 4 b) 0) (with_block (shown_block a.block (window_bytes 2 1 31 1 0)) a) a)
 
 command_first : Call
-command_first = changed (λ b h a. cond (ltb 2 (byte 4 b)) (with_refused 28 a) a)
+command_first = changed_any (λ b h a. cond (ltb 2 (byte 4 b)) (with_refused 28 a) a)
 
 half : Call
 half = changed (λ b h a. with_block (take 8 a.block) a)
 
 short_shown : Call
-short_shown = changed (λ b h a. cond (eqb a.told.refusal 29) (at_byte 5 (λ x. 2) a) a)
+short_shown = changed_any (λ b h a. cond (eqb a.told.refusal 29) (at_byte 5 (λ x. 2) a) a)
 
 above_dropped : Call
 above_dropped = changed (λ b h a. cond (eqb (byte 4 b) 2) (at_byte 5 (λ x. x % 8) a) a)
 
 refusal_ready : Call
-refusal_ready = changed (λ b h a. cond (eqb a.told.refusal 0) a (at_byte 5 (λ x. 3) a))
+refusal_ready = changed (λ b h a. cond (eqb a.told.refusal 0) a (at_byte 5 (λ x. x / 2 * 2 + 1) a))
 
 none_clears : Call
-none_clears = changed (λ b h a. cond (eqb (byte 4 b) 0) (at_byte 5 (λ x. 0) a) a)
+none_clears = changed (λ b h a. cond (eqb (byte 4 b) 0) (at_byte 5 (λ x. x / 8 * 8) a) a)
 
 all_cleared : Call
 all_cleared = changed (λ b h a. cond (eqb (byte 4 b) 2) (at_byte 5 (λ x. x / 8 * 8) a) a)
@@ -201,13 +213,13 @@ untold : Call
 untold = changed (λ b h a. with_refused 0 a)
 
 unannounced : Call
-unannounced = changed (λ b h a. with_line false (at_byte 5 (λ x. 0) a))
+unannounced = changed (λ b h a. cond (fed_window b h a) (at_byte 5 (λ x. byte 5 b) a) a)
 
 none_feeds : Call
 none_feeds = changed (λ b h a. cond (eqb (byte 4 b) 0) (with_handset (feed_of h Nothing).handset a) a)
 
 unfoldable faults : Unit {0}
-unfolding commands always_overwritten never_overwritten number_reset flag_reset clear_by_mask next_subframe silent_unseen taken_shown kind_fed command_taken reply_cleared command_reset unmasked line_before unused_kept second_port high_first command_first half short_shown above_dropped refusal_ready none_clears all_cleared none_refused all_bits subframe_taken untold unannounced none_feeds
+unfolding commands always_overwritten never_overwritten number_reset flag_reset clear_by_mask next_subframe silent_unseen taken_shown kind_fed command_taken reply_cleared command_reset unmasked line_before unused_kept second_port high_first past_zeros made_up command_first half short_shown above_dropped refusal_ready none_clears all_cleared none_refused all_bits subframe_taken untold unannounced none_feeds
 faults = tt
 
 -- BlockEquals: byte i, the line or the handset after the call of number k, from a fresh handset.
@@ -309,6 +321,14 @@ not_high_first : BlockEquals high_first → ⊥
 unfolding faults
 not_high_first d = let e : 1 ≡ 83 = ap (byte_after 7 10) (d.from_zeros (make_of two_ports).handset two_blocks_fed) in omega (arith, e)
 
+-- A running handset whose last reply ends in 9.
+not_past_zeros : BlockEquals past_zeros → ⊥
+unfolding faults
+not_past_zeros d =
+    let r : Running = record { handset = made; ready = false; refused = false; overwritten = false; number = 0; reply = replicate 7 0 ++ (9 ∷ []) } in
+    let e : 4 ≡ 0 = ap (byte_after 0 5) (d.onwards (nothing_fed 0) r refl (written 0 0 0 0 0 0 ∷ [])) in
+    omega (arith, e)
+
 -- CallsExactly: any block and handset.
 
 abbrev block : ℕ → ℕ → ℕ → ℕ → List ℕ
@@ -383,6 +403,13 @@ refused_grant = written 1 1 3 0 1 0
 
 abbrev fed : Act
 fed = command (nothing_fed 1)
+
+not_made_up : CommandsRun made_up → ⊥
+unfolding faults
+not_made_up d =
+    let none_written : Written = written 0 0 0 0 0 0 in
+    let e : 2 ≡ 0 = ap (λ (a : AfterCommand). byte 8 a.block) ((d (cell 1 0) refl (command none_written ∷ [])).equals [] none_written ([], refl)) in
+    omega (arith, e)
 
 not_subframe_taken : CommandsRun subframe_taken → ⊥
 unfolding faults

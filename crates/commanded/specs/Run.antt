@@ -17,7 +17,7 @@ use Rattle.reader.specs.Record.{brought_by}
 use Rattle.replaying.specs.Written.{bytes_of}
 use Rattle.registers.specs.Call.{AfterCommand, Call}
 use Rattle.registers.specs.Exactly.{Shown}
-use Rattle.registers.specs.Machine.{Written}
+use Rattle.registers.specs.Machine.{Written, Running, started, go_on, step, seen}
 use Rattle.registers.specs.Lists.{rewritten}
 use Rattle.agreement.specs.Demand3.{feedback_engine, handset_at, fed_at, IsFeed, cause_at, HoldsAfter}
 use Rattle.agreement.specs.Run.{Item, feed, change, subframe_at, Schedule, BringsSent}
@@ -64,6 +64,16 @@ block_at call set before w = rewritten w (lent_at call set before).block
 abbrev pub call_at : Call → Settings → List Act → Written → AfterCommand
 call_at call set before w = call (block_at call set before w) (lent_at call set before).handset
 
+-- The running handset with its flags beside it after what was done: a feed or a change of its own moves the handset alone.
+unfoldable pub running_after : Running → List Act → Running
+running_after r [] = r
+running_after r (command w ∷ acts) = running_after (step w r).running acts
+running_after r (own_feed x ∷ acts) = running_after (go_on (feed_of r.handset x).handset r) acts
+running_after r (own_change m ∷ acts) = running_after (go_on (change_of r.handset m).handset r) acts
+
+abbrev pub running_at : Settings → List Act → Running
+running_at set before = running_after (started (make_of set).handset) before
+
 -- The item of the run that a feed after these acts is, and its subframe.
 abbrev pub item_after : List Act → ℕ
 item_after before = length (run_of before)
@@ -80,7 +90,10 @@ abbrev pub Stands : List Act → List Act → Written → Type 0
 Stands acts before w = (after : List Act) × (acts ≡ before ++ (command w ∷ after))
 
 pub record IsRun (call : Call) (set : Settings) (acts : List Act) : Type 0 where
-  -- a command that feeds is the run's next item,
+  -- Block, line, refusal and handset after each command are those of the running handset with its flags beside it, as in specs/Lists.antt
+  -- of `registers`, with feeds and changes of its own in between.
+  pub equals : (before : List Act) (w : Written) → Stands acts before w → call_at call set before w ≡ seen w (step w (running_at set before))
+  -- A command that feeds is the run's next item,
   pub item : (before : List Act) (w : Written) → Stands acts before w → feeds w ≡ true → IsFeed (run_of acts) (item_after before) (brought_by w.slot)
   -- the handset that is lent to it, or to any other command there, is the run's,
   pub handset : (before : List Act) (w : Written) → Stands acts before w
@@ -89,7 +102,8 @@ pub record IsRun (call : Call) (set : Settings) (acts : List Act) : Type 0 where
   pub refusal : (before : List Act) (w : Written) → Stands acts before w → feeds w ≡ true
       → ((call_at call set before w).told.refusal ≡ number_in (answer_to set acts before w))
       × ((call_at call set before w).told.refusal ≡ cause_at set (run_of acts) (item_after before) (brought_by w.slot))
-  -- and a reply is shown exactly where the run answers a window: its bytes, as a replay writes them, and its flags, else nothing.
+  -- and of a feed by command that is not refused a reply is shown exactly where the run answers a window: its bytes, as a replay writes
+  -- them, and its flags; else no byte changes.
   pub reply : (before : List Act) (w : Written) → Stands acts before w → feeds w ≡ true → (call_at call set before w).told.refusal ≡ 0
       → Shown (bytes_of (subframe_after set acts before % 10) (answer_to set acts before w)) (block_at call set before w) (call_at call set before w).block
   -- Any other command leaves the run where it is.

@@ -391,7 +391,7 @@ module _ (b : List ℕ) (whole : length b ≡ 16) where
                     ∙ ap flags_in (flags_there dropped)
                     ∙ flags_are (get_or b 5 0) (dropped (flags_in (get_or b 5 0))),
               );
-          any_handset = λ other quiet. other_handset b h other quiet;
+          any_handset = λ other quiet. other_handset b h other (quiet whole);
           fed = λ sixteen e none. rw (made, feed_obeyed e) (fed_shown (rw (made, feed_obeyed e) at none));
           line = λ sixteen.
               let x : ℕ = get_or (command_of b h).block 5 0 in
@@ -429,7 +429,7 @@ short_exactly b h short =
       number_kept = λ e. ap (λ (a : AfterCommand). get_or a.block 7 0) made;
       none = λ sixteen e. absurd (short sixteen);
       clear = λ sixteen e. absurd (short sixteen);
-      any_handset = λ other quiet. other_handset b h other quiet;
+      any_handset = λ other quiet. rw (made, short_left b other short);
       fed = λ sixteen e none. absurd (short sixteen);
       line = λ sixteen. absurd (short sixteen);
     }

@@ -55,7 +55,7 @@ pub record CallExactly (call : Call) (b : List ℕ) (h : Handset) : Type 0 where
       × (flags_in (get_or (call b h).block 5 0) ≡ without (flags_in (get_or b 5 0)) (flags_in (get_or b 0 0)))
   -- "None and clear don't look at the handset", nor does a command that is refused 29, 28 or 22: with any other handset the call does the
   -- same, and each is as it came
-  pub any_handset : (other : Handset) → (get_or b 4 0 ≡ 1 → 3 < get_or b 0 0)
+  pub any_handset : (other : Handset) → (length b ≡ 16 → get_or b 4 0 ≡ 1 → 3 < get_or b 0 0)
       → call b other
       ≡ record { told = record { refusal = (call b h).told.refusal; line = (call b h).told.line; handset = other }; block = (call b h).block }
   -- A feed that is not refused: where its subframe has a window, a silent one too, bytes 8 to 15 are that window's as in a replay, and the

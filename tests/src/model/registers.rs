@@ -1,6 +1,6 @@
 //! The handset behind a register block. The 16 bytes are taken apart into the things that they
 //! are for, a command changes these, and then every byte is put together anew. A flag is a truth
-//! value; so is every bit beside one that says nothing, and comes back as it was.
+//! value; so is each of the other bits, which say nothing and come back as they were.
 
 use super::replay::{heard, record_in, used, window_bytes};
 use super::Model;
