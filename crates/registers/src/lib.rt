@@ -58,7 +58,7 @@ fn refuse(block: &mut [u8; BLOCK], refusal: Refusal)
     block[REFUSAL] = refusal as u8;
 }
 
-// Drops the flags that byte 0 has.
+// Drops the flags that byte 0 has, which is no kind here.
 fn clear(block: &mut [u8; BLOCK])
     ensures { block.new ≡ cleared_block block.old }
 {
@@ -85,7 +85,7 @@ fn feed(block: &[u8; BLOCK], handset: &mut Handset) -> Result<Option<[u8; WINDOW
     replaying::feed_window(handset, Heard::from(record))
 }
 
-// Does what the command says; a refusal leaves block and handset as they were.
+// Does what the command says: 0 is none, 1 feed, 2 clear. A refusal leaves block and handset as they were.
 #[tactic(auto, unfolding(crate::specs::Call::obeyed))]
 fn obey(block: &mut [u8; BLOCK], handset: &mut Handset) -> Result<(), Refusal>
     ensures block { block_or_refusal result block.new ≡ (obeyed block.old handset.old).block }
