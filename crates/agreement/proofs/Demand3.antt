@@ -42,18 +42,18 @@ abbrev ItemHolds : Settings → (ℕ → Send) → List Heard → List ℕ → �
 ItemHolds set sent heard modes s h (feed x) = FeedHolds set sent heard modes s h x
 ItemHolds set sent heard modes s h (change m) = ChangeHolds set h m
 
+-- After l a list goes on, from subframe `at` on, as `rest` does.
+abbrev pub GoesOn : {A : Type 0} → A → List A → ℕ → List A → Type 0
+GoesOn none all at rest = (j : ℕ) → get_or all (at + j) none ≡ get_or rest j none
+
+pub here : {A : Type 0} (none : A) (all : List A) (at : ℕ) (x : A) (rest : List A) → GoesOn none all at (x ∷ rest) → get_or all at none ≡ x
+here none all at x rest on = ap (λ (s : ℕ). get_or all s none) (sym (add-zero at)) ∙ on 0
+
+pub further : {A : Type 0} (none : A) (all : List A) (at : ℕ) (x : A) (rest : List A) → GoesOn none all at (x ∷ rest) → GoesOn none all (suc at) rest
+further none all at x rest on j = ap (λ (s : ℕ). get_or all s none) (suc-add at j ∙ sym (add-suc at j)) ∙ on (suc j)
+
 module _ (set : Settings) (good : settings_refusal set ≡ 0) (sent : ℕ → Send) (schedule : Schedule set sent) (heard : List Heard) (modes : List ℕ)
     (brings : (s : ℕ) → s < length heard → Brings (sent s) (get_or heard s Nothing)) where
-  -- After l a list goes on, from subframe `at` on, as `rest` does.
-  abbrev GoesOn : {A : Type 0} → A → List A → ℕ → List A → Type 0
-  GoesOn none all at rest = (j : ℕ) → get_or all (at + j) none ≡ get_or rest j none
-
-  here : {A : Type 0} (none : A) (all : List A) (at : ℕ) (x : A) (rest : List A) → GoesOn none all at (x ∷ rest) → get_or all at none ≡ x
-  here none all at x rest on = ap (λ (s : ℕ). get_or all s none) (sym (add-zero at)) ∙ on 0
-
-  further : {A : Type 0} (none : A) (all : List A) (at : ℕ) (x : A) (rest : List A) → GoesOn none all at (x ∷ rest) → GoesOn none all (suc at) rest
-  further none all at x rest on j = ap (λ (s : ℕ). get_or all s none) (suc-add at j ∙ sym (add-suc at j)) ∙ on (suc j)
-
   -- After a history the run's lists go on with what the items still to come bring, and the modes that stand at them.
   record RunsOn (m : ℕ) (ms : List ℕ) (l : List Heard) (items : List Item) : Type 0 where
     history : History set heard modes m ms l

@@ -13,6 +13,7 @@ use lib.Dec.{eqb, leb, eqb-suc-zero}
 use lib.ListN.{length, get_or}
 use borrow.Author.Tests.{le-leb, eqb-true, eqb-false}
 use Rattle.frame.specs.declared.Settings.{Settings}
+use Rattle.frame.specs.Refusals.{number_in}
 use Rattle.frame.specs.Settings.{or_else, new_mode_refusal, settings_refusal, in_mode}
 use Rattle.frame.proofs.Accepted.{Accepted, accepted, accepted_in}
 use Rattle.heard.specs.declared.Heard.{Heard}
@@ -268,6 +269,14 @@ module _ (set : Settings) (good : settings_refusal set ≡ 0) (m : ℕ) (ms : Li
         go zero e = absurd (h e)
         go (suc k) e = refl
 
+  -- The refusal of a feed is the history's cause.
+  pub refusal_after : (x : Heard) → number_in (feed_of (after set m ms l) x).answer ≡ cause_after set l x
+  refusal_after x = go (cause_after set l x) refl
+    where
+      go : (k : ℕ) → cause_after set l x ≡ k → number_in (feed_of (after set m ms l) x).answer ≡ k
+      go zero e = rw (accepted_after x e) refl
+      go (suc k) e = rw (refused_after x (λ z. omega arith)) e
+
   -- A change is refused by 4, 5 and 24 alone; else the new mode stands, and nothing else moves.
   pub changed_after : (new : ℕ) → change_of (after set m ms l) new
       ≡ record { refusal = new_mode_refusal (in_mode set new); handset = after set (standing set m new) ms l }
@@ -298,3 +307,6 @@ module _ (set : Settings) (good : settings_refusal set ≡ 0) (l : List Heard) (
   pub refused_unchanged : (cause_after set l x ≡ 0 → ⊥)
       → feed_of (unchanged set l) x ≡ record { answer = Err (cause_after set l x); handset = unchanged set l }
   refused_unchanged = refused_after set good set.mode (map (λ (x : Heard). set.mode) l) (made_allowed set good, made_only l) l valid x
+
+  pub refusal_unchanged : number_in (feed_of (unchanged set l) x).answer ≡ cause_after set l x
+  refusal_unchanged = refusal_after set good set.mode (map (λ (x : Heard). set.mode) l) (made_allowed set good, made_only l) l valid x

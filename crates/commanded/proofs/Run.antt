@@ -3,7 +3,7 @@ use Prim.Native.Nat.{ℕ, zero, suc, ◌+◌, ◌%◌, ◌<◌}
 use mathlib.Core.Bool.{Bool, true, false, cond, ◌&&◌}
 use mathlib.Core.List.{List, [], ◌∷◌, ◌++◌}
 use mathlib.Core.Path.{◌≡◌, refl, sym, ap, ◌∙◌, subst}
-use native.Mathlib.Nat.{add-zero, zero-add, add-suc, suc-add, le_of_suc-le-suc, not-suc-le-zero}
+use native.Mathlib.Nat.{add-zero, zero-add, le_of_suc-le-suc, not-suc-le-zero}
 use native.Mathlib.Omega.{arith}
 use lib.Dec.{eqb, leb}
 use lib.ListN.{length, get_or, take, length-append}
@@ -32,11 +32,11 @@ use Rattle.registers.specs.Exactly.{Shown}
 use Rattle.registers.proofs.Exactly.{calls_exactly}
 use Rattle.registers.proofs.Lists.{seen_same, eight_kept, refusal_keeps}
 use Rattle.agreement.specs.Demand3.{feedback_engine, handset_at, IsFeed, cause_at}
-use Rattle.agreement.proofs.Demand3.{demand3}
+use Rattle.agreement.proofs.Demand3.{GoesOn, here, further, demand3}
 use Rattle.agreement.proofs.Modes.{Allowed, made_allowed, standing_allowed}
 use Rattle.agreement.specs.Run.{Item, feed, change, item_at, handset_after, cause_after, heard_from, heard_in_run, standing}
 use Rattle.agreement.proofs.Feeds.{cause_in, Past, cause_past}
-use Rattle.agreement.proofs.Memory.{ValidPast, after, accepted_after, refused_after, changed_after, made_fresh}
+use Rattle.agreement.proofs.Memory.{ValidPast, after, accepted_after, refused_after, refusal_after, changed_after, made_fresh}
 use Rattle.commanded.specs.Run.{Act, command, own_feed, own_change, feeds, run_of, Lent, lent_after, lent_at, block_at, call_at, running_after, running_at, item_after, subframe_after, answer_to, CommandsRun}
 
 -- What a driver wrote last.
@@ -146,19 +146,10 @@ unfolding run_of
 run_feeds w acts f = rw f
 
 module _ (set : Settings) (good : settings_refusal set ≡ 0) where
-  -- The refusal of a feed after a history, in any of its modes, is the history's cause.
-  refusal_after : (m : ℕ) (ms : List ℕ) → Allowed set (m ∷ ms) → (l : List Heard) → ValidPast set l → (x : Heard)
-      → number_in (feed_of (after set m ms l) x).answer ≡ cause_after set l x
-  refusal_after m ms allowed l valid x = go (cause_after set l x) refl
-    where
-      go : (k : ℕ) → cause_after set l x ≡ k → number_in (feed_of (after set m ms l) x).answer ≡ k
-      go zero e = rw (accepted_after set good m ms allowed l valid x e) refl
-      go (suc k) e = rw (refused_after set good m ms allowed l valid x (λ z. omega arith)) e
-
   module _ (heard : List Heard) where
     -- The run's list of heard things goes on, after the history l, with what the items still to come bring.
     abbrev Rest : List Heard → List Item → Type 0
-    Rest l items = (j : ℕ) → get_or heard (length l + j) Nothing ≡ get_or (heard_from set l items) j Nothing
+    Rest l items = GoesOn Nothing heard (length l) (heard_from set l items)
 
     -- The handset h at subframe s of the run, and its answer to what is brought there.
     record At (h : Handset) (s : ℕ) (x : Heard) : Type 0 where
@@ -178,23 +169,22 @@ module _ (set : Settings) (good : settings_refusal set ≡ 0) where
         let same : y ≡ x = cc in
         record {
           next = ap (λ (s : ℕ). s % 10) (sym (add-zero (length l)));
-          refusal = refusal_after m ms allowed l valid x ∙ sym (cause_past set heard l past x) ∙ ap (λ (s : ℕ). cause_in set heard s x) (sym (add-zero (length l)));
+          refusal = refusal_after set good m ms allowed l valid x ∙ sym (cause_past set heard l past x) ∙ ap (λ (s : ℕ). cause_in set heard s x) (sym (add-zero (length l)));
         }
     each (feed y ∷ items) m ms allowed l valid past rest (suc i) x h is =
         go (eqb (cause_after set l y) 0) refl rest
         (λ ms' allowed' l' valid' past' rest'. each items m ms' allowed' l' valid' past' rest' i x (le_of_suc-le-suc h) is)
       where
         go : (b : Bool) → eqb (cause_after set l y) 0 ≡ b
-            → ((j : ℕ) → get_or heard (length l + j) Nothing ≡ get_or (cond b (y ∷ heard_from set (y ∷ l) items) (heard_from set l items)) j Nothing)
+            → GoesOn Nothing heard (length l) (cond b (y ∷ heard_from set (y ∷ l) items) (heard_from set l items))
             → ((ms' : List ℕ) → Allowed set (m ∷ ms') → (l' : List Heard) → ValidPast set l' → Past Nothing heard l' → Rest l' items
             → At (handset_after feed_of change_of (after set m ms' l') (take i items)) (length l' + length (heard_from set l' (take i items))) x)
             → At (handset_after feed_of change_of (feed_of (after set m ms l) y).handset (take i items))
             (length l + length (cond b (y ∷ heard_from set (y ∷ l) (take i items)) (heard_from set l (take i items)))) x
         go true b rest next =
             let none : cause_after set l y ≡ 0 = eqb-true (cause_after set l y) 0 b in
-            let now : get_or heard (length l) Nothing ≡ y = ap (λ (s : ℕ). get_or heard s Nothing) (sym (add-zero (length l))) ∙ rest 0 in
-            let more : Rest (y ∷ l) items = λ j.
-            ap (λ (s : ℕ). get_or heard s Nothing) (suc-add (length l) j ∙ sym (add-suc (length l) j)) ∙ rest (suc j) in
+            let now = here Nothing heard (length l) y (heard_from set (y ∷ l) items) rest in
+            let more = further Nothing heard (length l) y (heard_from set (y ∷ l) items) rest in
             let count : length l + suc (length (heard_from set (y ∷ l) (take i items))) ≡ suc (length l) + length (heard_from set (y ∷ l) (take i items)) = omega arith in
             rw (count, ap (λ (f : Fed). f.handset) (accepted_after set good m ms allowed l valid y none))
             (next (m ∷ ms) (allowed.0, allowed) (y ∷ l) (none, valid) (now, past) more)

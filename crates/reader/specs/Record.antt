@@ -41,8 +41,12 @@ abbrev pub used_of : Slot → Result Slot ℕ
 used_of t = cond (leb t.kind 3) (Ok (used_in t)) (Err 22)
 
 -- The same as a reader's answer: a record, and not the end.
+abbrev pub as_record : Result Slot ℕ → Result (Option Slot) ℕ
+as_record (Ok t) = Ok (Some t)
+as_record (Err k) = Err k
+
 unfoldable pub read_as : Slot → Result (Option Slot) ℕ
-read_as t = cond (leb t.kind 3) (Ok (Some (used_in t))) (Err 22)
+read_as t = as_record (used_of t)
 
 -- The record of number i of any bytes: 21, or 22 for their parts; none, the end, where there are no more than i records; else record i,
 -- or 22 for its own kind.

@@ -34,41 +34,33 @@ use Rattle.replaying.proofs.Feeds.{taken_up, grows}
 use Rattle.replaying.proofs.Brought.{brought_length, brought_at_holds}
 use Rattle.agreement.specs.Demand3.{cause_at}
 use Rattle.agreement.specs.Run.{Item, feed, item_at, handset_after, cause_after, heard_from, heard_in_run, settings_in}
-use Rattle.agreement.proofs.Demand3.{demand3}
+use Rattle.agreement.proofs.Demand3.{GoesOn, here, further, demand3}
 use Rattle.agreement.proofs.Feeds.{cause_in, Past, cause_past}
-use Rattle.agreement.proofs.Memory.{ValidPast, unchanged, accepted_unchanged, refused_unchanged, made_fresh}
+use Rattle.agreement.proofs.Memory.{ValidPast, unchanged, accepted_unchanged, refused_unchanged, refusal_unchanged, made_fresh}
 use Rattle.agreement.proofs.SameModes.{AllFeeds, made_settings}
 use Rattle.recorded.specs.Run.{unless_refused, feeds_from, run_of, answer_to, bytes_from, IsRun}
 
 module _ (set : Settings) (good : settings_refusal set ≡ 0) where
-  -- The refusal of a feed after a history is the history's cause.
-  refusal_after : (l : List Heard) → ValidPast set l → (x : Heard) → number_in (feed_of (unchanged set l) x).answer ≡ cause_after set l x
-  refusal_after l valid x = go (cause_after set l x) refl
-    where
-      go : (k : ℕ) → cause_after set l x ≡ k → number_in (feed_of (unchanged set l) x).answer ≡ k
-      go zero e = rw (accepted_unchanged set good l valid x e) refl
-      go (suc k) e = rw (refused_unchanged set good l valid x (λ z. omega arith)) e
-
   -- A record after a history: taken up, it is remembered and the next one comes; refused, it is the last.
   module _ (x : Heard) (xs l : List Heard) (valid : ValidPast set l) where
     module _ (none : cause_after set l x ≡ 0) where
       feeds_on : feeds_from (unchanged set l) (x ∷ xs) ≡ feed x ∷ feeds_from (unchanged set (x ∷ l)) xs
       unfolding feeds_from
-      feeds_on = rw (refusal_after l valid x, none, accepted_unchanged set good l valid x none)
+      feeds_on = rw (refusal_unchanged set good l valid x, none, accepted_unchanged set good l valid x none)
 
       plays_on : played (unchanged set l) (length l) (x ∷ xs)
           ≡ behind (bytes_of (length l % 10) (feed_of (unchanged set l) x).answer) (played (unchanged set (x ∷ l)) (suc (length l)) xs)
       unfolding played
-      plays_on = rw (refusal_after l valid x, none, ap (λ (f : Fed). f.handset) (accepted_unchanged set good l valid x none))
+      plays_on = rw (refusal_unchanged set good l valid x, none, ap (λ (f : Fed). f.handset) (accepted_unchanged set good l valid x none))
 
     module _ (k : ℕ) (some : cause_after set l x ≡ suc k) where
       feeds_last : feeds_from (unchanged set l) (x ∷ xs) ≡ feed x ∷ []
       unfolding feeds_from
-      feeds_last = rw (refusal_after l valid x, some)
+      feeds_last = rw (refusal_unchanged set good l valid x, some)
 
       plays_last : played (unchanged set l) (length l) (x ∷ xs) ≡ record { refusal = suc k; number = length l; bytes = [] }
       unfolding played
-      plays_last = rw (refusal_after l valid x, some)
+      plays_last = rw (refusal_unchanged set good l valid x, some)
 
   feeds_none : (h : Handset) → feeds_from h [] ≡ []
   unfolding feeds_from
@@ -183,7 +175,7 @@ module _ (set : Settings) (good : settings_refusal set ≡ 0) where
           let each' = rw (feeds_on x xs l valid e) at each in
           let here : answers (length l) ≡ (feed_of (unchanged set l) x).answer = ap answers (sym (add-zero (length l))) ∙ each' 0 (omega arith) in
           let has' : has_window set.config (length l % 10) ≡ true = rw (add-zero (length l)) at has in
-          let t = taken_up (unchanged set l) x (refusal_after l valid x ∙ e) in
+          let t = taken_up (unchanged set l) x (refusal_unchanged set good l valid x ∙ e) in
           let new : List ℕ = bytes_of (length l % 10) (feed_of (unchanged set l) x).answer in
           let size : length new ≡ 8 = rw has' at t.gives.size in
           let none' : 8 * windows_before set.config (length l) - 8 * windows_before set.config (length l) ≡ 0 = omega arith in
@@ -197,13 +189,13 @@ module _ (set : Settings) (good : settings_refusal set ≡ 0) where
           ∙ ap (λ (f : Fed). (feed_of (handset_after feed_of change_of f.handset (take i (feeds_from (unchanged set (x ∷ l)) xs))) (get_or xs i Nothing)).answer) (accepted_unchanged set good l valid x e))
           j (le_of_suc-le-suc (rw (feeds_on x xs l valid e) at h)) (rw s at none) (rw s at has) in
           let new : List ℕ = bytes_of (length l % 10) (feed_of (unchanged set l) x).answer in
-          let size = grows (unchanged set l) x (taken_up (unchanged set l) x (refusal_after l valid x ∙ e)) (length l) refl in
+          let size = grows (unchanged set l) x (taken_up (unchanged set l) x (refusal_unchanged set good l valid x ∙ e)) (length l) refl in
           let rise = windows_rise set.config (suc (length l)) j in
           let d : 8 * windows_before set.config (suc (length l) + j) - 8 * windows_before set.config (length l)
           ≡ length new + (8 * windows_before set.config (suc (length l) + j) - 8 * windows_before set.config (suc (length l))) = omega (arith, size, rise) in
           rw (s, plays_on x xs l valid e, d, drop-append-add new (played (unchanged set (x ∷ l)) (suc (length l)) xs).bytes _) q
       go (suc k) e zero h none has next =
-          let z : suc k ≡ 0 = sym e ∙ sym (refusal_after l valid x) ∙ sym (ap number_in (each 0 h)) ∙ none in
+          let z : suc k ≡ 0 = sym e ∙ sym (refusal_unchanged set good l valid x) ∙ sym (ap number_in (each 0 h)) ∙ none in
           absurd (omega arith)
       go (suc k) e (suc j) h none has next = absurd (omega (arith, rw (feeds_last x xs l valid k e) at h))
 
@@ -211,7 +203,7 @@ module _ (set : Settings) (good : settings_refusal set ≡ 0) where
   module _ (heard : List Heard) where
     -- The run's list of heard things goes on, after the history l, with what the feeds still to come bring.
     abbrev Rest : List Heard → List Item → Type 0
-    Rest l items = (j : ℕ) → get_or heard (length l + j) Nothing ≡ get_or (heard_from set l items) j Nothing
+    Rest l items = GoesOn Nothing heard (length l) (heard_from set l items)
 
     record At (l xs : List Heard) (items : List Item) (p : Played) (i : ℕ) : Type 0 where
       item : item_at items i ≡ feed (get_or xs i Nothing)
@@ -225,8 +217,8 @@ module _ (set : Settings) (good : settings_refusal set ≡ 0) where
     each [] l valid past rest i h = absurd (not-suc-le-zero (rw (feeds_none (unchanged set l)) at h))
     each (x ∷ xs) l valid past rest i h = go (cause_after set l x) refl i h (each xs (x ∷ l))
       where
-        here : cause_in set heard (length l + 0) x ≡ cause_after set l x
-        here = rw (add-zero (length l)) (cause_past set heard l past x)
+        cause_here : cause_in set heard (length l + 0) x ≡ cause_after set l x
+        cause_here = rw (add-zero (length l)) (cause_past set heard l past x)
 
         -- no record after this one was refused at it
         later : (p : Played) → (p.refusal ≡ 0) ⊎ (suc (length l) ≤ p.number) → ◌≡◌ {A = ℕ} (cond (eqb (length l + 0) p.number) p.refusal 0) 0
@@ -244,12 +236,11 @@ module _ (set : Settings) (good : settings_refusal set ≡ 0) where
             → At l (x ∷ xs) (feeds_from (unchanged set l) (x ∷ xs)) (played (unchanged set l) (length l) (x ∷ xs)) i
         go zero e zero h next =
             let none = later (played (unchanged set (x ∷ l)) (suc (length l)) xs) (number_later (unchanged set (x ∷ l)) (suc (length l)) xs) in
-            rw (feeds_on x xs l valid e, plays_on x xs l valid e) (record { item = refl; count = refl; cause = here ∙ e ∙ sym none; refused = refusal_after l valid x ∙ sym here })
+            rw (feeds_on x xs l valid e, plays_on x xs l valid e) (record { item = refl; count = refl; cause = cause_here ∙ e ∙ sym none; refused = refusal_unchanged set good l valid x ∙ sym cause_here })
         go zero e (suc i) h next =
             let rest' = rw (feeds_on x xs l valid e, eq-eqb (cause_after set l x) 0 e) at rest in
-            let now : get_or heard (length l) Nothing ≡ x = ap (λ (s : ℕ). get_or heard s Nothing) (sym (add-zero (length l))) ∙ rest' 0 in
-            let more : Rest (x ∷ l) (feeds_from (unchanged set (x ∷ l)) xs) = λ j.
-            ap (λ (s : ℕ). get_or heard s Nothing) (suc-add (length l) j ∙ sym (add-suc (length l) j)) ∙ rest' (suc j) in
+            let now = here Nothing heard (length l) x (heard_from set (x ∷ l) (feeds_from (unchanged set (x ∷ l)) xs)) rest' in
+            let more = further Nothing heard (length l) x (heard_from set (x ∷ l) (feeds_from (unchanged set (x ∷ l)) xs)) rest' in
             let q = next (e, valid) (now, past) more i (le_of_suc-le-suc (rw (feeds_on x xs l valid e) at h)) in
             let s : length l + suc i ≡ suc (length l) + i = omega arith in
             rw (feeds_on x xs l valid e, plays_on x xs l valid e)
@@ -263,7 +254,7 @@ module _ (set : Settings) (good : settings_refusal set ≡ 0) where
             })
         go (suc k) e zero h next =
             rw (feeds_last x xs l valid k e, plays_last x xs l valid k e)
-            (record { item = refl; count = refl; cause = here ∙ e ∙ rw (eq-eqb (length l + 0) (length l) (add-zero (length l))); refused = refusal_after l valid x ∙ sym here })
+            (record { item = refl; count = refl; cause = cause_here ∙ e ∙ rw (eq-eqb (length l + 0) (length l) (add-zero (length l))); refused = refusal_unchanged set good l valid x ∙ sym cause_here })
         go (suc k) e (suc i) h next = absurd (omega (arith, rw (feeds_last x xs l valid k e) at h))
 
 -- They are feeds, and no changes of mode.

@@ -10,33 +10,30 @@ use Rattle.reply.specs.declared.Answer.TheVariants.{Taken, NoWindow, Silent, Sen
 unfoldable pub window_bytes : ℕ → ℕ → ℕ → ℕ → ℕ → List ℕ
 window_bytes n kind resource b0 b1 = n ∷ kind ∷ (number_bytes resource ++ (b0 ∷ b1 ∷ 0 ∷ 0 ∷ []))
 
--- What the answer to subframe n gives: a window silent or answered its bytes, a subframe without one nothing.
-abbrev pub answer_bytes : ℕ → Answer → List ℕ
-answer_bytes n Silent = window_bytes n 0 0 0 0
-answer_bytes n (Sent r) = window_bytes n (kind_number r.kind) r.resource.0 r.b0 r.b1
-answer_bytes n Taken = []
-answer_bytes n NoWindow = []
+-- What the answer to subframe n gives: a window silent or answered its bytes; none for "taken" and "no window".
+abbrev pub window_in : ℕ → Answer → Option (List ℕ)
+window_in n Silent = Some (window_bytes n 0 0 0 0)
+window_in n (Sent r) = Some (window_bytes n (kind_number r.kind) r.resource.0 r.b0 r.b1)
+window_in n Taken = None
+window_in n NoWindow = None
 
--- A refused feed gives nothing.
+-- What is written of it; nothing where there is none.
+abbrev pub given : Option (List ℕ) → List ℕ
+given (Some bytes) = bytes
+given None = []
+
+abbrev pub answer_bytes : ℕ → Answer → List ℕ
+answer_bytes n a = given (window_in n a)
+
+-- The same of a feed: a refused one gives nothing.
 abbrev pub bytes_of : ℕ → Result Answer ℕ → List ℕ
 bytes_of n (Ok a) = answer_bytes n a
 bytes_of n (Err k) = []
 
--- The same where "taken" and "no window" are told apart: none.
-abbrev pub window_in : ℕ → Answer → Option (List ℕ)
-window_in n Silent = Some (answer_bytes n Silent)
-window_in n (Sent r) = Some (answer_bytes n (Sent r))
-window_in n Taken = None
-window_in n NoWindow = None
-
+-- Or its refusal is told.
 abbrev pub window_fed : ℕ → Result Answer ℕ → Result (Option (List ℕ)) ℕ
 window_fed n (Ok a) = Ok (window_in n a)
 window_fed n (Err k) = Err k
-
--- The bytes that the code gives of a window; nothing where there is none.
-abbrev pub given : Option (List ℕ) → List ℕ
-given (Some bytes) = bytes
-given None = []
 
 -- Bytes written at a place of a list, over those that stood there.
 abbrev pub put_at : ℕ → List ℕ → List ℕ → List ℕ

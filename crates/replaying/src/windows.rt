@@ -1,6 +1,6 @@
 // What a replay writes of a window (document 02, U3).
 ghost use Rattle.std.specs.Prelude.{◌+◌, ◌*◌, ◌≤◌, ◌<◌, ◌≡◌, length};
-ghost use Rattle.replaying.specs.Written.{answer_bytes, window_in, given, put_at, FitsBytes};
+ghost use Rattle.replaying.specs.Written.{answer_bytes, window_in, put_at, FitsBytes};
 
 use reply::Answer;
 
@@ -11,8 +11,7 @@ pub const WINDOW: usize = 8;
 #[tactic(auto, unfolding(crate::specs::Written::window_bytes))]
 pub(crate) fn window_bytes(n: u16, answer: Answer) -> Option<[u8; WINDOW]>
     requires { (n ≤ 255) × FitsBytes answer }
-    ensures window { result ≡ window_in n answer }
-    ensures bytes { given result ≡ answer_bytes n answer }
+    ensures { result ≡ window_in n answer }
 {
     match answer {
         Answer::Taken | Answer::NoWindow => None,
