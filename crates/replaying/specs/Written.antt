@@ -17,7 +17,7 @@ window_in n (Sent r) = Some (window_bytes n (kind_number r.kind) r.resource.0 r.
 window_in n Taken = None
 window_in n NoWindow = None
 
--- What is written of it; nothing where there is none.
+-- The bytes that are written of it; where there is none, nothing.
 abbrev pub given : Option (List ℕ) → List ℕ
 given (Some bytes) = bytes
 given None = []
@@ -30,7 +30,7 @@ abbrev pub bytes_of : ℕ → Result Answer ℕ → List ℕ
 bytes_of n (Ok a) = answer_bytes n a
 bytes_of n (Err k) = []
 
--- Or its refusal is told.
+-- What a feed gives where a refusal is told and not written as nothing.
 abbrev pub window_fed : ℕ → Result Answer ℕ → Result (Option (List ℕ)) ℕ
 window_fed n (Ok a) = Ok (window_in n a)
 window_fed n (Err k) = Err k
