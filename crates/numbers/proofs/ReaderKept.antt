@@ -8,7 +8,7 @@ use mathlib.Core.List.{List}
 use mathlib.Core.Path.{◌≡◌, refl, sym, ap}
 use lib.Dec.{eqb, ltb, leb, eqb-suc-zero}
 use Rattle.frame.proofs.Bools.{either}
-use Rattle.reader.specs.Record.{record_slot, read_as, record_of}
+use Rattle.reader.specs.Record.{record_slot, as_record, read_as, record_of}
 use Rattle.trace.specs.Trace.{header_of, settings_of, parts_refusal, trace_refusal}
 use Rattle.frame.specs.Refusals.{refused_or}
 use Rattle.frame.specs.Settings.{or_else}
@@ -36,7 +36,7 @@ unfolding record_of read_as
 reader_kept l i =
     read_kept (parts_refusal l) _
     (either Kept (ltb i (header_of l).records) _ _
-    (either Kept (leb (record_slot l i).kind 3) _ _ (refl, (refl, refl)) (refused_kept 21))
+    (either (λ (x : Result Slot ℕ). Kept (as_record x)) (leb (record_slot l i).kind 3) _ _ (refl, (refl, refl)) (refused_kept 21))
     (refl, (refl, refl)))
 
 -- Done, or stopped at a record, or refused before any.
