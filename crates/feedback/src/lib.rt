@@ -14,13 +14,14 @@ ghost use Rattle.resource.specs.Ports.{ports_of};
 ghost use Rattle.station.specs.Readings.{read_of};
 ghost use Rattle.claims.specs.Bits.{bit_checked_of, bit_scratch_of};
 ghost use Rattle.claims.specs.Claims.{checked_of, scratch_of};
-ghost use Rattle.numbers.specs.Answers.{window_answer, answered_answer, resource_answer, inverse_answer, told_position, reading_answer, confirmed_answer, opened_answer, credit_answer, claims_answer, made_answer, changed_answer, fed_answer, silence_answer, grant_of, block_of, release_of, replay_answer, record_answer, write_answer, game_answer, command_answer};
+ghost use Rattle.numbers.specs.Answers.{window_answer, answered_answer, resource_answer, inverse_answer, told_position, reading_answer, confirmed_answer, opened_answer, credit_answer, claims_answer, made_answer, changed_answer, fed_answer, silence_answer, grant_of, block_of, release_of, replay_answer, replay_size_answer, record_answer, write_answer, game_answer, command_answer};
 ghost use Rattle.handset.specs.Change.{change_of};
 ghost use Rattle.handset.specs.Feed.{feed_of};
 ghost use Rattle.handset.specs.Make.{make_of};
 ghost use Rattle.heard.specs.declared.Heard.TheVariants.{Nothing};
 ghost use Rattle.silence.specs.Cause.{explain_of};
 ghost use Rattle.replaying.specs.Replay.{replay_of, output_of};
+ghost use Rattle.sizing.specs.Size.{size_of};
 ghost use Rattle.reader.specs.Record.{record_of};
 ghost use Rattle.spelling.specs.Writing.{write_of, spelled_into};
 
@@ -32,7 +33,7 @@ use heard::{Grant, Heard, Release, ScheduledBlock};
 use numbers::{
     AnsweredAnswer, ChangedAnswer, ClaimsAnswer, CommandAnswer, ConfirmedAnswer, CreditAnswer,
     FedAnswer, GameAnswer, InverseAnswer, MadeAnswer, OpenedAnswer, ReadingAnswer, RecordAnswer,
-    ReplayAnswer, ResourceAnswer, SilenceAnswer, WindowAnswer, WriteAnswer,
+    ReplayAnswer, ReplaySizeAnswer, ResourceAnswer, SilenceAnswer, WindowAnswer, WriteAnswer,
 };
 use resource::{Cce, Resource};
 
@@ -246,6 +247,13 @@ pub extern "C" fn feedback_feed_release(handset: Handset, cce: u16, dai: u16) ->
         dai,
     };
     fed(handset, Heard::Released(release))
+}
+
+#[unsafe(no_mangle)]
+pub extern "C" fn feedback_replay_size(trace: &[u8]) -> ReplaySizeAnswer
+    ensures { result ≡ replay_size_answer (size_of trace.now) }
+{
+    sizing::replay_size(trace).into()
 }
 
 #[unsafe(no_mangle)]

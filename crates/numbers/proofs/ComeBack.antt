@@ -2,8 +2,8 @@
 -- Assumes nothing.
 use mathlib.Core.Path.{◌≡◌, refl, sym, ap, ◌∙◌}
 use Rattle.registers.specs.Call.{command_of}
-use Rattle.numbers.specs.Answers.{answered_answer, made_answer, changed_answer, resource_answer, inverse_answer, reading_answer, claims_answer, fed_answer, silence_answer, record_answer, confirmed_answer, opened_answer, credit_answer, replay_answer, write_answer, game_answer, command_answer}
-use Rattle.numbers.specs.Back.{window_in, answered_in, made_in, changed_in, mapped_in, inverted_in, reading_in, checked_in, fed_in, explained_in, record_in, AnswersComeBack, Apart, SameNumbers, KindsOfAnswers, confirmed_in, opened_in, credited_in, replayed_in, written_in, game_in, told_in}
+use Rattle.numbers.specs.Answers.{answered_answer, made_answer, changed_answer, resource_answer, inverse_answer, reading_answer, claims_answer, fed_answer, silence_answer, record_answer, confirmed_answer, opened_answer, credit_answer, replay_answer, replay_size_answer, write_answer, game_answer, command_answer}
+use Rattle.numbers.specs.Back.{window_in, answered_in, made_in, changed_in, mapped_in, inverted_in, reading_in, checked_in, fed_in, explained_in, record_in, AnswersComeBack, Apart, SameNumbers, KindsOfAnswers, confirmed_in, opened_in, credited_in, replayed_in, size_in, written_in, game_in, told_in}
 use Rattle.numbers.proofs.WindowKept.{window_back, answered_back}
 use Rattle.numbers.proofs.ResourceKept.{resource_back}
 use Rattle.numbers.proofs.InverseKept.{inverse_back}
@@ -13,7 +13,7 @@ use Rattle.numbers.proofs.FeedKept.{feed_kept}
 use Rattle.numbers.proofs.SilenceKept.{silence_back, silence_told}
 use Rattle.numbers.proofs.CommandKept.{told_back}
 use Rattle.numbers.proofs.GameKept.{game_back}
-use Rattle.numbers.proofs.ReaderKept.{reader_kept, replay_told, writing_told}
+use Rattle.numbers.proofs.ReaderKept.{reader_kept, size_back, replay_told, writing_told}
 
 pub answers_come_back : AnswersComeBack
 answers_come_back =
@@ -33,6 +33,7 @@ answers_come_back =
       silence = silence_back;
       reader = λ l i. (reader_kept l i).0;
       replay = λ l room. refl;
+      size = size_back;
       writing = λ l room. refl;
       game = game_back;
       command = λ b h. told_back (command_of b h).told;
@@ -60,6 +61,7 @@ same_numbers =
       silence = λ h i x y. alike silence_answer explained_in (l.silence h x) (l.silence i y);
       reader = λ a b i j. alike record_answer record_in (l.reader a i) (l.reader b j);
       replay = λ a b room room'. alike replay_answer replayed_in (l.replay a room) (l.replay b room');
+      size = λ a b. alike replay_size_answer size_in (l.size a) (l.size b);
       writing = λ a b room room'. alike write_answer written_in (l.writing a room) (l.writing b room');
       game = λ s g m s' g' m'. alike game_answer game_in (l.game s g m) (l.game s' g' m');
       command = λ b c h i. alike command_answer told_in (l.command b h) (l.command c i);

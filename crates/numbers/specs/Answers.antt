@@ -31,11 +31,13 @@ use Rattle.silence.specs.declared.Cause.{Cause}
 use Rattle.silence.specs.declared.Cause.TheVariants as cause
 use Rattle.silence.specs.Cause.{Explained}
 use Rattle.replaying.specs.Replay.{Replayed}
+use Rattle.sizing.specs.declared.ReplaySize.{ReplaySize}
 use Rattle.spelling.specs.Writing.{Written}
 use Rattle.numbers.specs.declared.accounts.ConfirmedAnswer.{ConfirmedAnswer}
 use Rattle.numbers.specs.declared.accounts.CreditAnswer.{CreditAnswer}
 use Rattle.numbers.specs.declared.accounts.OpenedAnswer.{OpenedAnswer}
 use Rattle.numbers.specs.declared.drives.ReplayAnswer.{ReplayAnswer}
+use Rattle.numbers.specs.declared.drives.ReplaySizeAnswer.{ReplaySizeAnswer}
 use Rattle.numbers.specs.declared.drives.WriteAnswer.{WriteAnswer}
 use Rattle.numbers.specs.declared.claimed.ClaimsAnswer.{ClaimsAnswer}
 use Rattle.numbers.specs.declared.feeds.FedAnswer.{FedAnswer}
@@ -185,6 +187,10 @@ record_answer (Ok None) = no_record 0 record_end
 
 abbrev pub replay_answer : Replayed → ReplayAnswer
 replay_answer r = record { refusal = r.refusal; kind = r.kind; number = r.number; windows = r.windows }
+
+abbrev pub replay_size_answer : Result ReplaySize ℕ → ReplaySizeAnswer
+replay_size_answer (Ok z) = record { refusal = 0; windows = z.windows; bytes = z.bytes }
+replay_size_answer (Err k) = record { refusal = k; windows = 0; bytes = 0 }
 
 abbrev pub write_answer : Written → WriteAnswer
 write_answer w = record { refusal = w.refusal; kind = w.kind; number = w.number; size = w.size }

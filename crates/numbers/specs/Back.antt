@@ -39,12 +39,15 @@ use Rattle.silence.specs.declared.Cause.{Cause}
 use Rattle.silence.specs.declared.Cause.TheVariants as cause
 use Rattle.silence.specs.Cause.{Explained, explain_of}
 use Rattle.replaying.specs.Replay.{Replayed, replay_done, replay_stopped, replay_of}
+use Rattle.sizing.specs.declared.ReplaySize.{ReplaySize}
+use Rattle.sizing.specs.Size.{size_of}
 use Rattle.spelling.specs.Writing.{Written, write_of}
 use Rattle.reader.specs.Record.{record_of}
 use Rattle.numbers.specs.declared.accounts.ConfirmedAnswer.{ConfirmedAnswer}
 use Rattle.numbers.specs.declared.accounts.CreditAnswer.{CreditAnswer}
 use Rattle.numbers.specs.declared.accounts.OpenedAnswer.{OpenedAnswer}
 use Rattle.numbers.specs.declared.drives.ReplayAnswer.{ReplayAnswer}
+use Rattle.numbers.specs.declared.drives.ReplaySizeAnswer.{ReplaySizeAnswer}
 use Rattle.numbers.specs.declared.drives.WriteAnswer.{WriteAnswer}
 use Rattle.numbers.specs.declared.claimed.ClaimsAnswer.{ClaimsAnswer}
 use Rattle.numbers.specs.declared.feeds.FedAnswer.{FedAnswer}
@@ -60,7 +63,7 @@ use Rattle.numbers.specs.declared.frames.AnsweredAnswer.{AnsweredAnswer}
 use Rattle.numbers.specs.declared.games.GameAnswer.{GameAnswer}
 use Rattle.numbers.specs.declared.commands.CommandAnswer.{CommandAnswer}
 use Rattle.registers.specs.Call.{Told, command_of}
-use Rattle.numbers.specs.Answers.{window_answer, answered_answer, made_answer, changed_answer, resource_answer, inverse_answer, reading_answer, claims_answer, fed_answer, silence_answer, record_answer, confirmed_answer, opened_answer, credit_answer, replay_answer, write_answer, game_answer, command_answer}
+use Rattle.numbers.specs.Answers.{window_answer, answered_answer, made_answer, changed_answer, resource_answer, inverse_answer, reading_answer, claims_answer, fed_answer, silence_answer, record_answer, confirmed_answer, opened_answer, credit_answer, replay_answer, replay_size_answer, write_answer, game_answer, command_answer}
 use Rattle.reply.specs.Kinds.{kind_bundled, kind_multiplexed, kind_number}
 use Rattle.numbers.specs.Kinds.{kind_silent, kind_taken, kind_no_window, cause_nothing_heard, cause_miss_shown, claims_clash, record_end}
 
@@ -146,6 +149,9 @@ record_in a = refused_or a.refusal (cond (eqb a.kind record_end) (Ok None) (Ok (
 abbrev pub replayed_in : ReplayAnswer → Replayed
 replayed_in a = record { refusal = a.refusal; kind = a.kind; number = a.number; windows = a.windows }
 
+abbrev pub size_in : ReplaySizeAnswer → Result ReplaySize ℕ
+size_in a = unless_refused a.refusal (record { windows = a.windows; bytes = a.bytes })
+
 abbrev pub written_in : WriteAnswer → Written
 written_in a = record { refusal = a.refusal; kind = a.kind; number = a.number; size = a.size }
 
@@ -176,6 +182,7 @@ pub record AnswersComeBack : Type 0 where
   pub silence : (h : Handset) (x : Heard) → explained_in (silence_answer (explain_of h x)) ≡ explain_of h x
   pub reader : (l : List ℕ) (i : ℕ) → record_in (record_answer (record_of l i)) ≡ record_of l i
   pub replay : (l : List ℕ) (room : ℕ) → replayed_in (replay_answer (replay_of l room)) ≡ replay_of l room
+  pub size : (l : List ℕ) → size_in (replay_size_answer (size_of l)) ≡ size_of l
   pub writing : (l : List ℕ) (room : ℕ) → written_in (write_answer (write_of l room)) ≡ write_of l room
   pub game : (size grants losses : ℕ) → game_in (game_answer (game_of size grants losses)) ≡ game_of size grants losses
   pub command : (b : List ℕ) (h : Handset) → told_in (command_answer (command_of b h).told) ≡ (command_of b h).told
@@ -203,6 +210,7 @@ pub record SameNumbers : Type 0 where
   pub silence : (h i : Handset) (x y : Heard) → Apart silence_answer (explain_of h x) (explain_of i y)
   pub reader : (l m : List ℕ) (i j : ℕ) → Apart record_answer (record_of l i) (record_of m j)
   pub replay : (l m : List ℕ) (room room' : ℕ) → Apart replay_answer (replay_of l room) (replay_of m room')
+  pub size : (l m : List ℕ) → Apart replay_size_answer (size_of l) (size_of m)
   pub writing : (l m : List ℕ) (room room' : ℕ) → Apart write_answer (write_of l room) (write_of m room')
   pub game : (size grants losses size' grants' losses' : ℕ) → Apart game_answer (game_of size grants losses) (game_of size' grants' losses')
   pub command : (b c : List ℕ) (h i : Handset) → Apart command_answer (command_of b h).told (command_of c i).told

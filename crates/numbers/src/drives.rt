@@ -1,14 +1,15 @@
-// What is told of a recorded drive: a record, a replay, and a trace that was written.
+// What is told of a recorded drive: a record, a replay and what it will write, and a trace that was written.
 ghost use Rattle.std.specs.Prelude.{◌≡◌};
 ghost use Rattle.frame.specs.Refusals.{numbered};
 ghost use Rattle.replaying.specs.Ended.{end_refusal, end_kind, end_record, replayed_by};
 ghost use Rattle.spelling.specs.Writing.{written_by};
-ghost use Rattle.numbers.specs.Answers.{record_answer, replay_answer, write_answer};
+ghost use Rattle.numbers.specs.Answers.{record_answer, replay_answer, replay_size_answer, write_answer};
 
 use crate::kinds::{EndKind, RecordKind};
 use frame::Refusal;
 use heard::Slot;
 use replaying::{Outcome, Stop};
+use sizing::ReplaySize;
 
 // Kind 1 is a record, with what its kind uses of it, 2 the end of the trace; 0 where refused.
 #[repr(C)]
@@ -68,6 +69,33 @@ impl From<Outcome> for ReplayAnswer {
             kind,
             number,
             windows: x.windows,
+        }
+    }
+}
+
+// The windows and the bytes that a replay will write; both 0 where refused.
+#[repr(C)]
+#[derive(Clone, Copy, Default)]
+pub struct ReplaySizeAnswer {
+    pub refusal: u16,
+    pub windows: u16,
+    pub bytes: u32,
+}
+
+impl From<Result<ReplaySize, Refusal>> for ReplaySizeAnswer {
+    ghost from_gives = { λ x a. a ≡ replay_size_answer (numbered x) };
+
+    fn from(x: Result<ReplaySize, Refusal>) -> ReplaySizeAnswer {
+        match x {
+            Ok(size) => ReplaySizeAnswer {
+                refusal: 0,
+                windows: size.windows,
+                bytes: size.bytes,
+            },
+            Err(refusal) => ReplaySizeAnswer {
+                refusal: refusal.into(),
+                ..ReplaySizeAnswer::default()
+            },
         }
     }
 }

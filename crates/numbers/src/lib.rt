@@ -17,7 +17,7 @@ mod resources;
 pub use accounts::{ConfirmedAnswer, CreditAnswer, OpenedAnswer};
 pub use claimed::ClaimsAnswer;
 pub use commands::CommandAnswer;
-pub use drives::{RecordAnswer, ReplayAnswer, WriteAnswer};
+pub use drives::{RecordAnswer, ReplayAnswer, ReplaySizeAnswer, WriteAnswer};
 pub use feeds::{ChangedAnswer, FedAnswer, MadeAnswer, SilenceAnswer};
 pub use frames::{AnsweredAnswer, WindowAnswer};
 pub use games::GameAnswer;
