@@ -1,6 +1,7 @@
--- Two traces with their replays, so that the statement of specs/Run.antt is about something: one that is replayed to its end, whose
+-- Traces with their replays and with the sizes that are worked out beforehand, so that the statement of specs/Run.antt is about something: one that is replayed to its end, whose
 -- feeds are a worked run of engines/proofs/Worked.antt and bring what its station sends, and one that stops.
 -- Assumes nothing.
+use Rattle.std.proofs.Common.{Ok, Err}
 use Prim.Native.Nat.{ℕ}
 use mathlib.Core.List.{List, [], ◌∷◌, ◌++◌}
 use mathlib.Core.Path.{◌≡◌, refl}
@@ -10,6 +11,8 @@ use Rattle.trace.specs.Trace.{number_at, header_of, settings_at, settings_of, se
 use Rattle.reader.specs.Record.{slot_at, used_results, used_in, brought_by, record_slot, brought_at}
 use Rattle.replaying.specs.Replay.{brought_in, played, played_in, output_needed, start_refusal, replay_of, output_of}
 use Rattle.replaying.specs.Written.{window_bytes}
+use Rattle.sizing.specs.Size.{size_refusal, figures_in, size_of}
+use Rattle.sizing.specs.Sizing.{answered, written_by}
 use Rattle.agreement.specs.Demand3.{feedback_engine, HoldsAfter}
 use Rattle.engines.proofs.Computing.{handsets}
 use Rattle.engines.proofs.Finite.{sending}
@@ -19,7 +22,7 @@ use Rattle.recorded.proofs.Run.{is_run}
 
 -- The definitions that a replay computes with, beside those of the handset.
 unfoldable pub replays : Unit {0}
-unfolding handsets has_window windows_before number_at header_of settings_at settings_of settings_fit records_fit length_refusal parts_refusal kinds_known trace_refusal slot_at used_results used_in brought_by record_slot brought_at brought_in played played_in output_needed start_refusal replay_of output_of window_bytes feeds_from run_of
+unfolding handsets has_window windows_before number_at header_of settings_at settings_of settings_fit records_fit length_refusal parts_refusal kinds_known trace_refusal slot_at used_results used_in brought_by record_slot brought_at brought_in played played_in output_needed start_refusal replay_of output_of window_bytes feeds_from run_of size_refusal figures_in size_of answered written_by
 replays = tt
 
 -- Configuration 1, N_RB 50, mode 0, one block, special configuration 7, normal prefix, N1 10, no scheduled resource.
@@ -66,3 +69,31 @@ stopped_written = refl
 pub stopped_short : replay_of stopped 23 ≡ record { refusal = 23; kind = 0; number = 0; windows = 0 }
 unfolding replays
 stopped_short = refl
+
+-- What is worked out of the first trace is what its replay writes; of the second, which stops, the same, and its replay writes a window.
+pub drive_sized : (size_of drive ≡ Ok (record { windows = 3; bytes = 24 })) × (written_by drive ≡ record { windows = 3; bytes = 24 })
+unfolding replays
+drive_sized = (refl, refl)
+
+pub stopped_sized : (size_of stopped ≡ Ok (record { windows = 3; bytes = 24 })) × (written_by stopped ≡ record { windows = 1; bytes = 8 })
+unfolding replays
+stopped_sized = (refl, refl)
+
+-- With a kind of 4 in record 1 it is refused 22 by the replay, and sized like the others.
+abbrev pub unknown : List ℕ
+unknown = (8 ∷ 0 ∷ 18 ∷ 0 ∷ 8 ∷ 0 ∷ 50 ∷ 0 ∷ []) ++ settings ++ (1 ∷ 3 ∷ 1 ∷ 3 ∷ 4 ∷ 10 ∷ 2 ∷ 251 ∷ []) ++ replicate 24 0
+
+pub unknown_sized : (size_of unknown ≡ Ok (record { windows = 3; bytes = 24 })) × (replay_of unknown 24 ≡ record { refusal = 22; kind = 0; number = 0; windows = 0 })
+unfolding replays
+unknown_sized = (refl, refl)
+
+-- Refused: an offset of the settings that leads into the header, 22; N_RB 5, 2, though a record has an unknown kind too.
+abbrev pub overlapping : List ℕ
+overlapping = (8 ∷ 0 ∷ 18 ∷ 0 ∷ 7 ∷ 0 ∷ 50 ∷ 0 ∷ []) ++ settings ++ replicate 32 0
+
+abbrev pub narrow : List ℕ
+narrow = (8 ∷ 0 ∷ 18 ∷ 0 ∷ 8 ∷ 0 ∷ 50 ∷ 0 ∷ []) ++ (1 ∷ 5 ∷ 0 ∷ 1 ∷ 7 ∷ 0 ∷ 10 ∷ 0 ∷ 255 ∷ 255 ∷ []) ++ (9 ∷ []) ++ replicate 31 0
+
+pub refused_sized : (size_of [] ≡ Err 21) × (size_of overlapping ≡ Err 22) × (size_of narrow ≡ Err 2) × ((replay_of narrow 24).refusal ≡ 22)
+unfolding replays
+refused_sized = (refl, refl, refl, refl)
