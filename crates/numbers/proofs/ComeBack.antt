@@ -13,7 +13,8 @@ use Rattle.numbers.proofs.FeedKept.{feed_kept}
 use Rattle.numbers.proofs.SilenceKept.{silence_back, silence_told}
 use Rattle.numbers.proofs.CommandKept.{told_back}
 use Rattle.numbers.proofs.GameKept.{game_back}
-use Rattle.numbers.proofs.ReaderKept.{reader_kept, size_back, replay_told, writing_told}
+use Rattle.numbers.proofs.SizeKept.{size_back}
+use Rattle.numbers.proofs.ReaderKept.{reader_kept, replay_told, writing_told}
 
 pub answers_come_back : AnswersComeBack
 answers_come_back =

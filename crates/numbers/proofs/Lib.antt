@@ -8,5 +8,6 @@ pub mod ReaderKept
 pub mod ReadingKept
 pub mod ResourceKept
 pub mod SilenceKept
+pub mod SizeKept
 pub mod WindowKept
 pub mod Windows

@@ -1,4 +1,4 @@
--- The numbers of feedback_record and of feedback_replay_size lose nothing, and those of feedback_replay and feedback_trace_write tell a refusal by the kind.
+-- The numbers of feedback_record lose nothing, and those of feedback_replay and feedback_trace_write tell a refusal by the kind.
 -- Assumes nothing.
 use Rattle.heard.specs.declared.Slot.{Slot}
 use Rattle.std.proofs.Common.{Option, Result, Err}
@@ -10,16 +10,14 @@ use lib.Dec.{eqb, ltb, leb, eqb-suc-zero}
 use Rattle.frame.proofs.Bools.{either}
 use Rattle.reader.specs.Record.{record_slot, as_record, read_as, record_of}
 use Rattle.trace.specs.Trace.{header_of, settings_of, parts_refusal, trace_refusal}
-use Rattle.frame.specs.Refusals.{refused_or, unless_refused}
+use Rattle.frame.specs.Refusals.{refused_or}
 use Rattle.frame.specs.Settings.{or_else}
 use Rattle.handset.specs.Make.{make_of}
 use Rattle.replaying.specs.Replay.{Played, played_in, start_refusal, replay_done, replay_stopped, replayed_as, replay_of}
-use Rattle.sizing.specs.declared.ReplaySize.{ReplaySize}
-use Rattle.sizing.specs.Size.{size_refusal, figures_in, size_of}
 use Rattle.spelling.specs.Spelling.{spelled_size}
 use Rattle.spelling.specs.Writing.{Stop, Written, stop_of, room_refusal, written_as, stopped_or, write_of}
-use Rattle.numbers.specs.Answers.{record_answer, replay_size_answer}
-use Rattle.numbers.specs.Back.{record_in, size_in, KindFor, DoneFor}
+use Rattle.numbers.specs.Answers.{record_answer}
+use Rattle.numbers.specs.Back.{record_in, KindFor, DoneFor}
 use Rattle.numbers.specs.Kinds.{record_end}
 
 -- A reader's answer comes back from its numbers, and its kind is one that there is, 0 where it is refused.
@@ -40,15 +38,6 @@ reader_kept l i =
     (either Kept (ltb i (header_of l).records) _ _
     (either (λ (x : Result Slot ℕ). Kept (as_record x)) (leb (record_slot l i).kind 3) _ _ (refl, (refl, refl)) (refused_kept 21))
     (refl, (refl, refl)))
-
--- So does a size.
-sized_back : (k : ℕ) (z : ReplaySize) → size_in (replay_size_answer (unless_refused k z)) ≡ unless_refused k z
-sized_back zero z = refl
-sized_back (suc k) z = refl
-
-pub size_back : (l : List ℕ) → size_in (replay_size_answer (size_of l)) ≡ size_of l
-unfolding size_of
-size_back l = sized_back (size_refusal l) (figures_in l)
 
 -- Done, or stopped at a record, or refused before any.
 ended_told : (b : Bool) → (eqb (cond b replay_done replay_stopped) replay_done ≡ b) × (leb (cond b replay_done replay_stopped) replay_stopped ≡ true)
