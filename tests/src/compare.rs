@@ -8,15 +8,15 @@ use crate::plain::{
     plain_answered, plain_change_mode, plain_command, plain_confirmed, plain_credit,
     plain_feed_grant, plain_feed_nothing, plain_feed_release, plain_feed_scheduled, plain_game,
     plain_inverse, plain_make, plain_open_account, plain_reading, plain_record, plain_replay,
-    plain_resource, plain_silence, plain_trace_write, plain_window,
+    plain_replay_size, plain_resource, plain_silence, plain_trace_write, plain_window,
 };
 use crate::random::Random;
 use crate::{
     answered, change_mode, command, confirmed, credit, feed, feed_nothing, game, inverse, make,
-    open_account, reading, record, replay, resource, silence, trace_write, window, Account, Block,
-    Changed, ClaimsAnswer, CommandAnswer, ConfirmedAnswer, CreditAnswer, Exchange, Fed, GameAnswer,
-    Grant, Handset, Heard, Opened, ReadingAnswer, RecordAnswer, Release, ReplayAnswer, Settings,
-    SilenceAnswer, WriteAnswer,
+    open_account, reading, record, replay, replay_size, resource, silence, trace_write, window,
+    Account, Block, Changed, ClaimsAnswer, CommandAnswer, ConfirmedAnswer, CreditAnswer, Exchange,
+    Fed, GameAnswer, Grant, Handset, Heard, Opened, ReadingAnswer, RecordAnswer, Release,
+    ReplayAnswer, ReplaySizeAnswer, Settings, SilenceAnswer, WriteAnswer,
 };
 use std::fmt;
 use std::hint::black_box;
@@ -285,6 +285,23 @@ impl<'a> Comparison<'a> {
         due
     }
 
+    /// The same for the sizing of a replay.
+    pub fn replay_size(&mut self, lent: &mut LentTrace, trace: &[u8]) -> ReplaySizeAnswer {
+        let due = self.model.replay_size(trace);
+        let plain = plain_replay_size_of(trace);
+        for flush in BOTH {
+            let given = lent.replay_size(trace, flush);
+            assert!(
+                given == due && plain == due,
+                "feedback_replay_size({}), flush at the {flush:?}: the engine gives {given:?}, \
+                 the model {due:?}, the plain implementation {plain:?}",
+                Shown(trace)
+            );
+            self.counts[usize::from(due.refusal)] += 1;
+        }
+        due
+    }
+
     pub fn confirmed(&mut self, exchange: Exchange) -> ConfirmedAnswer {
         let due = self.model.confirmed(&exchange);
         let given = confirmed(exchange);
@@ -508,6 +525,11 @@ impl LentTrace {
         self.call(trace, &[], flush, |read, _| record(read, next)).0
     }
 
+    /// The same for the sizing of a replay.
+    pub fn replay_size(&mut self, trace: &[u8], flush: Flush) -> ReplaySizeAnswer {
+        self.call(trace, &[], flush, |read, _| replay_size(read)).0
+    }
+
     fn call<A>(
         &mut self,
         trace: &[u8],
@@ -618,6 +640,12 @@ pub fn plain_trace_write_on(trace: &[u8], output: &mut [u8]) -> WriteAnswer {
 pub fn plain_record_of(trace: &[u8], next: usize) -> RecordAnswer {
     // SAFETY: the trace is lent with its length.
     unsafe { plain_record(trace.as_ptr(), trace.len(), next) }
+}
+
+/// The plain implementation's sizing of a replay.
+pub fn plain_replay_size_of(trace: &[u8]) -> ReplaySizeAnswer {
+    // SAFETY: the trace is lent with its length.
+    unsafe { plain_replay_size(trace.as_ptr(), trace.len()) }
 }
 
 /// The plain implementation's answer to a command, with what it leaves in the block.

@@ -9,8 +9,8 @@
 //! from [`guarded`]. [`form`] has the two forms in which claims are checked. [`trace`]
 //! builds recorded drives as bytes. [`fates`] sends, loses and decodes what a window brings,
 //! [`silences`] tells why a window is silent, in wrong ways too, [`charging`] builds what a
-//! credit is given, and [`registers`] has the places and flags of a register block, and wrong ways
-//! to carry out its commands. [`vectors`] reads the cases that come with the requests.
+//! credit is given, [`registers`] has the places and flags of a register block, and wrong ways
+//! to carry out its commands, and [`sizings`] wrong ways to size a replay. [`vectors`] reads the cases that come with the requests.
 
 pub mod charging;
 pub mod compare;
@@ -23,6 +23,7 @@ pub mod plain;
 pub mod random;
 pub mod registers;
 pub mod silences;
+pub mod sizings;
 pub mod trace;
 pub mod types;
 pub mod vectors;
@@ -30,8 +31,9 @@ pub mod vectors;
 pub use types::{
     Account, AnsweredAnswer, Block, Changed, ClaimsAnswer, CommandAnswer, ConfirmedAnswer,
     CreditAnswer, Exchange, Fed, GameAnswer, Grant, Handset, Heard, InverseAnswer, Made, Opened,
-    ReadingAnswer, RecordAnswer, Release, ReplayAnswer, ResourceAnswer, Sent, SentWindow, Settings,
-    SilenceAnswer, Sizes, Slot, Step, WindowAnswer, WriteAnswer, NONE, NOT_TOLD,
+    ReadingAnswer, RecordAnswer, Release, ReplayAnswer, ReplaySizeAnswer, ResourceAnswer, Sent,
+    SentWindow, Settings, SilenceAnswer, Sizes, Slot, Step, WindowAnswer, WriteAnswer, NONE,
+    NOT_TOLD,
 };
 
 /// The engine's calls under their C names.
@@ -39,8 +41,8 @@ pub mod c {
     use super::{
         Account, AnsweredAnswer, Changed, ClaimsAnswer, CommandAnswer, ConfirmedAnswer,
         CreditAnswer, Fed, GameAnswer, Handset, InverseAnswer, Made, Opened, ReadingAnswer,
-        RecordAnswer, ReplayAnswer, ResourceAnswer, SentWindow, Settings, SilenceAnswer,
-        WindowAnswer, WriteAnswer,
+        RecordAnswer, ReplayAnswer, ReplaySizeAnswer, ResourceAnswer, SentWindow, Settings,
+        SilenceAnswer, WindowAnswer, WriteAnswer,
     };
 
     extern "C" {
@@ -118,6 +120,8 @@ pub mod c {
             out: *mut u8,
             room: usize,
         ) -> ReplayAnswer;
+
+        pub fn feedback_replay_size(trace: *const u8, length: usize) -> ReplaySizeAnswer;
 
         pub fn feedback_record(trace: *const u8, length: usize, next: usize) -> RecordAnswer;
 
@@ -282,6 +286,12 @@ pub fn replay(trace: &[u8], output: &mut [u8]) -> ReplayAnswer {
     // SAFETY: each slice is lent with its own length, the trace to be read and the
     // output to be written, and by their types the two do not overlap.
     unsafe { c::feedback_replay(file, length, out, room) }
+}
+
+/// The engine's windows and bytes that a replay of a trace will write.
+pub fn replay_size(trace: &[u8]) -> ReplaySizeAnswer {
+    // SAFETY: the trace is lent with its length, to be read.
+    unsafe { c::feedback_replay_size(trace.as_ptr(), trace.len()) }
 }
 
 /// The engine's answer about the record of a number, from 0, of a trace.

@@ -17,6 +17,7 @@ mod registers;
 mod replay;
 mod replies;
 mod silence;
+mod sizing;
 mod spelling;
 mod station;
 

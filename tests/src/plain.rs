@@ -21,7 +21,7 @@ pub use handset::{
     plain_feed_scheduled, plain_make, plain_silence,
 };
 pub use registers::plain_command;
-pub use replay::{plain_record, plain_replay};
+pub use replay::{plain_record, plain_replay, plain_replay_size};
 pub use spelling::plain_trace_write;
 pub use station::{plain_claims, plain_claims_bits, plain_reading};
 pub use window::{plain_answered, plain_window};

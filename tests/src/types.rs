@@ -256,6 +256,16 @@ pub struct ReplayAnswer {
     pub windows: u16,
 }
 
+/// The answer of sizing a replay: a refusal, or 0 and how many windows the records of the header
+/// complete, and how many bytes of output they take. Beside a refusal both are 0.
+#[repr(C)]
+#[derive(Clone, Copy, Debug, PartialEq, Eq)]
+pub struct ReplaySizeAnswer {
+    pub refusal: u16,
+    pub windows: u16,
+    pub bytes: u32,
+}
+
 /// The answer of writing a trace: refused, and by no record (kind 0), done (1), or
 /// stopped by the record at which a replay would stop (2), with that record's number; and
 /// how many bytes were written.
@@ -504,6 +514,16 @@ impl ReplayAnswer {
 
     pub fn stopped(refusal: u16, record: usize, windows: usize) -> Self {
         Self { refusal, kind: Self::STOPPED, record: record as u16, windows: windows as u16 }
+    }
+}
+
+impl ReplaySizeAnswer {
+    pub const fn refused(refusal: u16) -> Self {
+        Self { refusal, windows: 0, bytes: 0 }
+    }
+
+    pub const fn of(windows: usize, bytes: usize) -> Self {
+        Self { refusal: 0, windows: windows as u16, bytes: bytes as u32 }
     }
 }
 

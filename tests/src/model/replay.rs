@@ -111,7 +111,7 @@ fn number(bytes: &[u8]) -> usize {
 
 /// Configuration, N_RB, mode, blocks, special, prefix, N1, scheduled resource. There is
 /// always one port.
-fn settings_in(bytes: &[u8]) -> Settings {
+pub(super) fn settings_in(bytes: &[u8]) -> Settings {
     let byte = |at: usize| u16::from(bytes[at]);
     let wide = |at: usize| byte(at) + 256 * byte(at + 1);
     Settings {

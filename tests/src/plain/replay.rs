@@ -1,11 +1,11 @@
-//! Recorded drives: the record at a number, and the replay.
+//! Recorded drives: the record at a number, the replay, and how much it writes.
 //!
 //! The replay checks the settings once and keeps no memory of its own: what was heard
 //! some subframes ago stands in the trace, as many records before.
 
 use super::handset::{reply, Limits, Reply};
 use super::{check, K, SIZES};
-use crate::{RecordAnswer, ReplayAnswer, Settings, Slot};
+use crate::{RecordAnswer, ReplayAnswer, ReplaySizeAnswer, Settings, Slot};
 use std::slice;
 
 pub(super) const HEADER: usize = 8;
@@ -59,6 +59,20 @@ pub unsafe extern "C" fn plain_replay(
     }
 }
 
+/// How much a replay writes, under the signature of the C call.
+///
+/// # Safety
+///
+/// The trace has `length` bytes to be read.
+#[inline(never)]
+pub unsafe extern "C" fn plain_replay_size(trace: *const u8, length: usize) -> ReplaySizeAnswer {
+    // SAFETY: the caller lends the trace for as long as the call lasts.
+    match windows_of(unsafe { slice::from_raw_parts(trace, length) }) {
+        Ok(windows) => ReplaySizeAnswer::of(windows, WINDOW * windows),
+        Err(refusal) => ReplaySizeAnswer::refused(refusal),
+    }
+}
+
 /// The record of a number, under the signature of the C call.
 ///
 /// # Safety
@@ -84,13 +98,24 @@ pub unsafe extern "C" fn plain_record(
 /// The settings and the records of a trace that can be replayed into so many bytes.
 fn open_into(file: &[u8], room: usize) -> Result<(Settings, &[[u8; RECORD]]), u16> {
     let (settings, Parts { records, .. }) = open(file)?;
-    let of_config = &WINDOWS[usize::from(settings.config)];
-    let windows = records.len() / 10 * usize::from(of_config[10])
-        + usize::from(of_config[records.len() % 10]);
-    if room < WINDOW * windows {
+    if room < WINDOW * windows_among(&settings, records.len()) {
         return Err(23);
     }
     Ok((settings, records))
+}
+
+/// How many windows the records of a trace complete, of whatever kinds they are.
+fn windows_of(file: &[u8]) -> Result<usize, u16> {
+    let Parts { settings, records } = parts(file)?;
+    let settings = settings_in(settings);
+    check(&settings)?;
+    Ok(windows_among(&settings, records.len()))
+}
+
+/// How many windows so many records complete, by settings that have been checked.
+fn windows_among(settings: &Settings, records: usize) -> usize {
+    let of_config = &WINDOWS[usize::from(settings.config)];
+    records / 10 * usize::from(of_config[10]) + usize::from(of_config[records % 10])
 }
 
 /// The settings of a trace, which have been checked, and its parts, with records of
