@@ -5,7 +5,7 @@
 use feedback_tests::charging::Windows;
 use feedback_tests::compare::{
     plain_command_on, plain_confirmed_of, plain_credit_of, plain_feed, plain_record_of,
-    plain_replay_on, plain_trace_write_on,
+    plain_replay_on, plain_replay_size_of, plain_trace_write_on,
 };
 use feedback_tests::form::Form;
 use feedback_tests::model::{Game, Model};
@@ -14,13 +14,17 @@ use feedback_tests::plain::{
     plain_reading, plain_resource, plain_silence,
 };
 use feedback_tests::registers::{is_high, Written, FEED, WRONG, ZEROS};
+use feedback_tests::sizings::{self, has_kind_over_3};
+use feedback_tests::trace::{
+    put_number, FIRST_AT, HEADER, LENGTH_AT, RECORD, RECORDS_AT, SETTINGS_AT, SPELLED_FIRST,
+};
 use feedback_tests::vectors::{cases, heard, step, Case};
 use feedback_tests::{
     change_mode, command, confirmed, credit, feed, game, inverse, make, open_account, reading,
-    record, replay, resource, silence, trace_write, window, Account, Changed, ClaimsAnswer,
-    CommandAnswer, ConfirmedAnswer, CreditAnswer, Exchange, Fed, GameAnswer, Handset, Heard,
-    InverseAnswer, Opened, ReadingAnswer, RecordAnswer, ReplayAnswer, ResourceAnswer, Sent,
-    SentWindow, Settings, SilenceAnswer, Slot, Step, WriteAnswer, NOT_TOLD,
+    record, replay, replay_size, resource, silence, trace_write, window, Account, Changed,
+    ClaimsAnswer, CommandAnswer, ConfirmedAnswer, CreditAnswer, Exchange, Fed, GameAnswer, Handset,
+    Heard, InverseAnswer, Opened, ReadingAnswer, RecordAnswer, ReplayAnswer, ReplaySizeAnswer,
+    ResourceAnswer, Sent, SentWindow, Settings, SilenceAnswer, Slot, Step, WriteAnswer, NOT_TOLD,
 };
 use std::fmt::Debug;
 
@@ -149,6 +153,14 @@ impl Who<'_> {
             Self::Engine => (replay(trace, &mut output), output),
             Self::Model(model) => model.replay(trace, lent),
             Self::Plain => (plain_replay_on(trace, &mut output), output),
+        }
+    }
+
+    fn replay_size(&self, trace: &[u8]) -> ReplaySizeAnswer {
+        match self {
+            Self::Engine => replay_size(trace),
+            Self::Model(model) => model.replay_size(trace),
+            Self::Plain => plain_replay_size_of(trace),
         }
     }
 
@@ -837,6 +849,64 @@ fn command_line(
     Some((given, (case.bytes("block"), line, refusal, case.number("expects_after"), is_left)))
 }
 
+/// The sizing that a line has.
+fn size_due(case: &Case) -> ReplaySizeAnswer {
+    let [refusal, windows] = ["refusal", "windows"].map(|name| case.number(name));
+    ReplaySizeAnswer { refusal, windows, bytes: case.wide("bytes") }
+}
+
+/// A replay sized. The room that it is given is enough where nothing is refused, and a replay that
+/// is refused before its records is refused alike, but for kinds over 3.
+fn sizing_line(case: &Case, who: &Who) -> (ReplaySizeAnswer, ReplaySizeAnswer) {
+    let (trace, due) = (case.bytes("trace"), size_due(case));
+    let (replayed, _) = who.replay(&trace, &vec![7; due.bytes as usize]);
+    let is_alike = match (due.refusal, replayed.kind) {
+        (0, ReplayAnswer::DONE) => replayed.windows == due.windows,
+        (0, ReplayAnswer::STOPPED) => replayed.windows <= due.windows,
+        (refusal, ReplayAnswer::REFUSED) => {
+            replayed.refusal == refusal || replayed.refusal == 22 && has_kind_over_3(&trace)
+        }
+        _ => false,
+    };
+    assert!(is_alike, "{case}: {} replays {replayed:?}", who.name());
+    (who.replay_size(&trace), due)
+}
+
+/// The file that a line of long traces tells shortly: settings at 8, then the record so many
+/// times. The header has the length of the file modulo 65,536.
+fn long_trace(case: &Case) -> Vec<u8> {
+    let count = usize::from(case.number("count"));
+    let mut file = vec![0; HEADER];
+    file.extend(case.bytes("settings"));
+    assert_eq!(file.len(), SPELLED_FIRST, "{case}: ten bytes of settings");
+    file.extend(case.bytes("record").repeat(count));
+    assert_eq!(file.len(), SPELLED_FIRST + RECORD * count, "{case}: records of four bytes");
+    assert_eq!(file.len(), case.wide::<usize>("length"), "{case}");
+    put_number(&mut file, RECORDS_AT, count);
+    put_number(&mut file, FIRST_AT, SPELLED_FIRST);
+    put_number(&mut file, SETTINGS_AT, HEADER);
+    let length = file.len() % 65_536;
+    put_number(&mut file, LENGTH_AT, length);
+    file
+}
+
+/// A size, and beside it the answer of a replay into as much room and the output afterwards.
+type SizedReplay = (ReplaySizeAnswer, ReplayAnswer, Vec<u8>);
+
+/// A long trace sized and replayed: accepted, with every window silent, or refused alike.
+fn long_line(case: &Case, who: &Who) -> (SizedReplay, SizedReplay) {
+    let (trace, due) = (long_trace(case), size_due(case));
+    let (replayed, output) = who.replay(&trace, &vec![7; due.bytes as usize]);
+    let config = case.bytes("settings")[0].into();
+    let replay_due = match due.refusal {
+        0 => ReplayAnswer::done(due.windows.into()),
+        refusal => ReplayAnswer::refused(refusal),
+    };
+    let n = (0..10).filter(|n| window(Settings::plain(config, 50, 10, 0, 1), *n).refusal == 0);
+    let silent = n.cycle().take(due.windows.into()).flat_map(|n| [n as u8, 0, 0, 0, 0, 0, 0, 0]);
+    ((who.replay_size(&trace), replayed, output), (due, replay_due, silent.collect()))
+}
+
 #[test]
 fn u01_settings() {
     let text = include_str!("../data/u01-settings.csv");
@@ -1184,4 +1254,45 @@ fn u13_gives_wrong_rules_away() {
         assert_eq!(in_lists == 0, RIGHT_IN_LISTS.contains(&name), "{name}");
         assert_eq!(in_steps == 0, RIGHT_IN_STEPS.contains(&name), "{name}");
     }
+}
+
+/// How many lines are refused for each of these numbers.
+fn refused_by(cases: &[Case], numbers: &[u16]) -> Vec<usize> {
+    let of = |number: &u16| cases.iter().filter(|case| case.number("refusal") == *number).count();
+    numbers.iter().map(of).collect()
+}
+
+#[test]
+fn u14_sizing() {
+    let text = include_str!("../data/u14-sizing.csv");
+    let tally = Tally::of("u14-sizing.csv", text, |case, who| Some(sizing_line(case, who)));
+    tally.finish(915, 0);
+    let cases = cases("u14-sizing.csv", text);
+    let by_number = refused_by(&cases, &[0, 1, 2, 3, 4, 5, 6, 17, 19, 21, 22]);
+    assert_eq!(by_number, [272, 90, 55, 52, 46, 36, 39, 37, 33, 87, 168]);
+    assert_eq!(by_number.iter().sum::<usize>(), cases.len());
+}
+
+#[test]
+fn u14_long() {
+    let text = include_str!("../data/u14-long.csv");
+    let tally = Tally::of("u14-long.csv", text, |case, who| Some(long_line(case, who)));
+    tally.finish(63, 0);
+    assert_eq!(refused_by(&cases("u14-long.csv", text), &[0, 21]), [42, 21]);
+}
+
+/// Each rule that differs from the papers' in one point is given away by lines of the files. Of the
+/// long traces those are tried that are refused, since some rules replay the others.
+#[test]
+fn u14_gives_wrong_rules_away() {
+    let model = Model::new();
+    let mut found = sizings::Found::default();
+    for case in cases("u14-sizing.csv", include_str!("../data/u14-sizing.csv")) {
+        found.hold(&model, &case.bytes("trace"), size_due(&case));
+    }
+    let long = cases("u14-long.csv", include_str!("../data/u14-long.csv"));
+    for case in long.iter().filter(|case| case.number("refusal") != 0) {
+        found.hold(&model, &long_trace(case), size_due(case));
+    }
+    found.assert_caught_all_but(&[]);
 }
