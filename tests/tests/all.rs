@@ -41,6 +41,8 @@ mod scheduled_reading;
 mod silence;
 mod silence_cases;
 mod silence_modes;
+mod sizing;
+mod sizing_cases;
 mod special;
 mod spelling;
 mod spelling_cases;
