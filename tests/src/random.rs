@@ -297,6 +297,18 @@ impl Random {
         records
     }
 
+    /// A good record with a byte changed, which a replay may refuse.
+    pub fn spoilt(&mut self, record: Slot, settings: Settings) -> Slot {
+        match self.below(6) {
+            0 => Slot { kind: self.below(4) as u8, ..record },
+            1 => Slot { kind: Slot::BLOCK, ..record },
+            2 => Slot { results: self.any_byte(), ..record },
+            3 => Slot { cce: (edge(settings.nrb, 4) + self.below16(2)) as u8, ..record },
+            4 => Slot { dai: self.below(6) as u8, ..record },
+            _ => Slot { kind: Slot::RELEASE, cce: 0, dai: 1, ..record },
+        }
+    }
+
     /// The same record; what its kind does not use has any value.
     pub fn with_unused(&mut self, record: Slot) -> Slot {
         let [cce, dai, results] = [0; 3].map(|_: u8| self.any_byte());

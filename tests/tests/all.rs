@@ -43,6 +43,7 @@ mod silence_cases;
 mod silence_modes;
 mod sizing;
 mod sizing_cases;
+mod sizing_replays;
 mod special;
 mod spelling;
 mod spelling_cases;

@@ -5,7 +5,7 @@
 
 use feedback_tests::c::feedback_record;
 use feedback_tests::compare::{Comparison, LentTrace};
-use feedback_tests::model::{edge, Model};
+use feedback_tests::model::Model;
 use feedback_tests::random::Random;
 use feedback_tests::trace::{
     number_at, put_number, record_bytes, Trace, FIRST_AT, HEADER, MOST_RECORDS, RECORD, SETTINGS,
@@ -67,18 +67,6 @@ fn one_by_one(settings: Settings, trace: &[u8]) -> (ReplayAnswer, Vec<u8>) {
     panic!("the records have no end")
 }
 
-/// A record that is once in a while refused: a good one with a byte changed.
-fn spoilt(record: Slot, settings: Settings, random: &mut Random) -> Slot {
-    match random.below(6) {
-        0 => Slot { kind: random.below(4) as u8, ..record },
-        1 => Slot { kind: Slot::BLOCK, ..record },
-        2 => Slot { results: random.any_byte(), ..record },
-        3 => Slot { cce: (edge(settings.nrb, 4) + random.below16(2)) as u8, ..record },
-        4 => Slot { dai: random.below(6) as u8, ..record },
-        _ => Slot { kind: Slot::RELEASE, cce: 0, dai: 1, ..record },
-    }
-}
-
 /// Random traces, most of them refused midway: the replay is the feeds one by one, and
 /// bytes of the output past the windows written keep their values.
 #[test]
@@ -93,7 +81,7 @@ fn equals_the_feeds_one_by_one() {
         let times = random.one_of(&[5, 20, 100_000]);
         for each in &mut records {
             if random.once_in(times) {
-                *each = spoilt(*each, settings, &mut random);
+                *each = random.spoilt(*each, settings);
             }
         }
         let trace = random.arranged(Trace::new(settings, &records)).bytes();
