@@ -8,7 +8,8 @@
 
 use feedback_tests::compare::{
     hold_beside_the_feed, plain_command_on, plain_confirmed_of, plain_credit_of, plain_feed,
-    plain_record_of, plain_replay_on, plain_trace_write_on, Comparison, Lent, LentTrace, Shown,
+    plain_record_of, plain_replay_on, plain_replay_size_of, plain_trace_write_on, Comparison, Lent,
+    LentTrace, Shown,
 };
 use feedback_tests::form::Form;
 use feedback_tests::guarded::{Guarded, BOTH};
@@ -44,6 +45,7 @@ const CHANGE_CALLS: u64 = 1_024_000;
 const CLAIMS_CALLS: u64 = 2_000_000;
 const BIT_CLAIMS_CALLS: u64 = 1_024_000;
 const REPLAY_CALLS: u64 = 1_024_000;
+const SIZE_CALLS: u64 = 256_000;
 const RECORD_CALLS: u64 = 1_024_000;
 const WRITE_CALLS: u64 = 512_000;
 const CONFIRMED_CALLS: u64 = 1_024_000;
@@ -66,6 +68,7 @@ const _: () = assert!(
         + CLAIMS_CALLS
         + BIT_CLAIMS_CALLS
         + REPLAY_CALLS
+        + SIZE_CALLS
         + RECORD_CALLS
         + WRITE_CALLS
         + CONFIRMED_CALLS
@@ -703,6 +706,38 @@ fn replays() {
     let refusals = [0, 1, 2, 3, 4, 5, 6, 9, 10, 11, 12, 17, 18, 19, 20, 21, 22, 23];
     comparison.finish_with(calls / 2 / SAMPLE * 2, &refusals, &[0, 1, 2]);
     assert!(windows.iter().all(|number| *number > 100_000));
+}
+
+#[test]
+fn sizes_of_replays() {
+    let model = Model::new();
+    let mut comparison = Comparison::with(&model);
+    let mut lent = LentTrace::new();
+    let (mut sized, mut windows) = (0, 0);
+    let calls = fuzz(21, SIZE_CALLS, |random, ask_model| {
+        let trace = trace(random);
+        let plain = plain_replay_size_of(&trace);
+        for flush in BOTH {
+            let given = lent.replay_size(&trace, flush);
+            assert!(
+                given == plain,
+                "feedback_replay_size({}), flush at the {flush:?}: the engine gives {given:?}, the \
+                 plain implementation {plain:?}",
+                Shown(&trace)
+            );
+        }
+        sized += u64::from(plain.refusal == 0);
+        windows += u64::from(plain.windows);
+        if ask_model {
+            comparison.replay_size(&mut lent, &trace);
+        }
+        2
+    });
+    assert_eq!(calls, SIZE_CALLS * times());
+    println!("{sized} traces sized, {windows} windows");
+    let refusals = [0, 1, 2, 3, 4, 5, 6, 17, 19, 21, 22];
+    comparison.finish_with(calls / 2 / SAMPLE * 2, &refusals, &[]);
+    assert!(sized > 50_000 && windows > 250_000);
 }
 
 #[test]

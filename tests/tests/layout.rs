@@ -4,11 +4,12 @@ use feedback_tests::form::Form;
 use feedback_tests::trace::Trace;
 use feedback_tests::{
     answered, change_mode, claims, claims_bits, command, confirmed, credit, feed, game, inverse,
-    layout_5, make, open_account, reading, record, replay, resource, silence, trace_write, window,
-    Account, AnsweredAnswer, Block, Changed, ClaimsAnswer, CommandAnswer, ConfirmedAnswer,
-    CreditAnswer, Exchange, Fed, GameAnswer, Grant, Handset, Heard, InverseAnswer, Made, Opened,
-    ReadingAnswer, RecordAnswer, Release, ReplayAnswer, ResourceAnswer, Sent, SentWindow, Settings,
-    SilenceAnswer, Slot, WindowAnswer, WriteAnswer, NOT_TOLD,
+    layout_5, make, open_account, reading, record, replay, replay_size, resource, silence,
+    trace_write, window, Account, AnsweredAnswer, Block, Changed, ClaimsAnswer, CommandAnswer,
+    ConfirmedAnswer, CreditAnswer, Exchange, Fed, GameAnswer, Grant, Handset, Heard, InverseAnswer,
+    Made, Opened, ReadingAnswer, RecordAnswer, Release, ReplayAnswer, ReplaySizeAnswer,
+    ResourceAnswer, Sent, SentWindow, Settings, SilenceAnswer, Slot, WindowAnswer, WriteAnswer,
+    NOT_TOLD,
 };
 use std::mem::{align_of, offset_of, size_of};
 
@@ -155,6 +156,14 @@ fn a_replay_answer_is_four_16_bit_numbers() {
 }
 
 #[test]
+fn a_replay_size_answer_is_two_16_bit_numbers_and_one_of_32() {
+    assert_eq!((size_of::<ReplaySizeAnswer>(), align_of::<ReplaySizeAnswer>()), (8, 4));
+    assert_eq!(offset_of!(ReplaySizeAnswer, refusal), 0);
+    assert_eq!(offset_of!(ReplaySizeAnswer, windows), 2);
+    assert_eq!(offset_of!(ReplaySizeAnswer, bytes), 4);
+}
+
+#[test]
 fn a_record_answer_is_two_16_bit_numbers_and_a_slot() {
     assert_eq!((size_of::<RecordAnswer>(), align_of::<RecordAnswer>()), (8, 2));
     assert_eq!(offset_of!(RecordAnswer, refusal), 0);
@@ -298,7 +307,7 @@ fn every_field_of_a_credit_comes_back() {
     assert_eq!(open_account(0xf4f3_f2f1), Opened { refusal: 25, account: too_dear });
 }
 
-/// Every field of these three answers, each with a value of its own. In configuration 1
+/// Every field of these four answers, each with a value of its own. In configuration 1
 /// the windows of 2, 3, 7 and 8 are complete before the bad CCE of record 1015; numbers
 /// above 255 come back whole. Without it the trace is written: 18 + 4 * 1015 bytes.
 #[test]
@@ -309,6 +318,9 @@ fn every_field_of_a_replay_comes_back() {
     let trace = Trace::new(Settings::plain(1, 50, 10, 0, 2), &records).bytes();
     let answer = replay(&trace, &mut [9; 8 * 406]);
     assert_eq!(answer, ReplayAnswer { refusal: 11, kind: 2, record: 1015, windows: 406 });
+    let size = ReplaySizeAnswer { refusal: 0, windows: 406, bytes: 3248 };
+    assert_eq!(replay_size(&trace), size);
+    assert_eq!(replay_size(&trace[1..]), ReplaySizeAnswer { refusal: 21, windows: 0, bytes: 0 });
     let slot = Slot { kind: 1, cce: 60, dai: 3, results: 5 };
     assert_eq!(record(&trace, 1014), RecordAnswer { refusal: 0, kind: 1, slot });
     assert_eq!(record(&trace[1..], 1014).refusal, 21);

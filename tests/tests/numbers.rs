@@ -5,11 +5,12 @@ use feedback_tests::form::FORMS;
 use feedback_tests::trace::{put_number, Trace, LENGTH_AT, SETTINGS_AT};
 use feedback_tests::{
     answered, change_mode, command, confirmed, credit, feed_grant, feed_nothing, feed_release,
-    feed_scheduled, game, inverse, make, open_account, reading, record, replay, resource, silence,
-    trace_write, window, Account, AnsweredAnswer, Block, Changed, ClaimsAnswer, CommandAnswer,
-    ConfirmedAnswer, CreditAnswer, Exchange, Fed, GameAnswer, Grant, Handset, InverseAnswer, Made,
-    Opened, ReadingAnswer, RecordAnswer, Release, ReplayAnswer, ResourceAnswer, Sent, SentWindow,
-    Settings, SilenceAnswer, Slot, WindowAnswer, WriteAnswer, NONE, NOT_TOLD,
+    feed_scheduled, game, inverse, make, open_account, reading, record, replay, replay_size,
+    resource, silence, trace_write, window, Account, AnsweredAnswer, Block, Changed, ClaimsAnswer,
+    CommandAnswer, ConfirmedAnswer, CreditAnswer, Exchange, Fed, GameAnswer, Grant, Handset,
+    InverseAnswer, Made, Opened, ReadingAnswer, RecordAnswer, Release, ReplayAnswer,
+    ReplaySizeAnswer, ResourceAnswer, Sent, SentWindow, Settings, SilenceAnswer, Slot,
+    WindowAnswer, WriteAnswer, NONE, NOT_TOLD,
 };
 use std::fmt::Debug;
 
@@ -158,6 +159,15 @@ impl Count {
         let given = replay(trace, &mut output);
         let due = (ReplayAnswer::refused(number), vec![5; room]);
         self.due(number, (given, output), due);
+    }
+
+    /// Neither windows nor bytes are told.
+    fn replay_size(&mut self, number: u16, trace: &[u8]) {
+        self.due(
+            number,
+            replay_size(trace),
+            ReplaySizeAnswer { refusal: number, windows: 0, bytes: 0 },
+        );
     }
 
     /// The output is left as it was.
@@ -378,8 +388,9 @@ fn every_number_occurs() {
 
     println!("refusals by number: {:?}", count.0);
     let of_settings = |causes: u64| 10 * causes;
-    // A replay and a writing, and where a record is refused a writing with room too.
-    let on_traces = |causes: u64| 2 * causes;
+    // A replay, its size and a writing; and where a record is refused a replay, and a writing with
+    // room or without.
+    let on_traces = |causes: u64| 3 * causes;
     let at_records = |causes: u64| 3 * causes;
     // The confirmed blocks, and a credit.
     let both = |causes: u64| 2 * causes;
@@ -411,9 +422,9 @@ fn every_number_occurs() {
         3 + 4 + shorts * 2 + at_records(2) + 1 + both(3) + 2,
         of_settings(8) + on_traces(4),
         shorts * (2 * 6 + 2 * 4) + at_records(shorts * 2) + both(shorts * 2) + shorts * 2 * 4,
-        3 * 4,
-        3 * 2 + 2 + 5 * 2,
-        on_traces(2),
+        4 * 4,
+        4 * 2 + 2 + 5 * 2,
+        2 * 2,
         of_settings(7) + 4 + 13,
         7 * (4 + 1) + 3 * 2 + 7 * 2,
         3 * 4,
@@ -636,16 +647,20 @@ fn sent_and_credited(count: &mut Count) {
     }
 }
 
-/// What a replay refuses before any record, and the writing of a trace too. Of the
-/// settings above those count whose numbers fit in the bytes of a trace, which has no ports.
+/// What a replay refuses before any record; its size and the writing of a trace refuse it too, but
+/// a size minds no kind. Of the settings above those count whose numbers fit in the bytes of a
+/// trace, which has no ports.
 fn replays(count: &mut Count) {
     let good = Trace::new(CELL, &[Slot::NOTHING; 4]).bytes();
+    let size = ReplaySizeAnswer { refusal: 0, windows: 2, bytes: 16 };
     assert_eq!(replay(&good, &mut [5; 16]), ReplayAnswer::done(2));
+    assert_eq!(replay_size(&good), size);
     assert_eq!(record(&good, 3), RecordAnswer::read(Slot::NOTHING));
     let mut told_longer = good.clone();
     put_number(&mut told_longer, LENGTH_AT, good.len() + 1);
     for trace in [&[][..], &good[..7], &good[..good.len() - 1], &told_longer] {
         count.replay(21, trace, 16);
+        count.replay_size(21, trace);
         count.record(21, trace, 0);
         count.trace_write(WriteAnswer::refused(21), trace, 34);
     }
@@ -653,6 +668,7 @@ fn replays(count: &mut Count) {
         let mut bad = good.clone();
         put_number(&mut bad, SETTINGS_AT, settings_at);
         count.replay(22, &bad, 16);
+        count.replay_size(22, &bad);
         count.record(22, &bad, 0);
         count.trace_write(WriteAnswer::refused(22), &bad, 34);
     }
@@ -660,12 +676,14 @@ fn replays(count: &mut Count) {
     kind[good.len() - 4] = 4;
     count.replay(22, &kind, 0);
     count.trace_write(WriteAnswer::refused(22), &kind, 0);
+    assert_eq!(replay_size(&kind), size);
     for (number, settings) in REFUSED {
         let Settings { mode, blocks, prefix, special, .. } = settings;
         let fits = [mode, blocks, prefix, special].into_iter().all(|number| number < 256);
         if fits && number != 24 {
             let trace = Trace::new(settings, &[Slot::NOTHING; 4]).bytes();
             count.replay(number, &trace, 0);
+            count.replay_size(number, &trace);
             count.trace_write(WriteAnswer::refused(number), &trace, 0);
         }
     }

@@ -2,7 +2,7 @@
 //! every byte replaced, cut, lengthened, their parts moved about; every room of the
 //! output; the largest traces. Trace and output lie flush with pages that are not
 //! mapped. The order of the refusals is written out by hand. Where the header is at
-//! stake feedback_record and feedback_trace_write are asked too.
+//! stake feedback_replay_size, feedback_record and feedback_trace_write are asked too.
 
 use feedback_tests::c::feedback_replay;
 use feedback_tests::compare::{Comparison, LentTrace, Overlapping};
@@ -14,7 +14,7 @@ use feedback_tests::trace::{
     number_at, one_cause_less, put_length, put_number, Due, Trace, FIRST_AT, HEADER, LENGTH_AT,
     LONGEST, MOST_RECORDS, MOST_WINDOWS, RECORD, RECORDS_AT, SETTINGS, SETTINGS_AT, WINDOW,
 };
-use feedback_tests::{record, replay, ReplayAnswer, Settings, Slot, WriteAnswer};
+use feedback_tests::{record, replay, ReplayAnswer, ReplaySizeAnswer, Settings, Slot, WriteAnswer};
 use std::ptr::{null, null_mut};
 
 /// How many windows a frame has, by configuration.
@@ -28,11 +28,12 @@ fn output_for(model: &Model, trace: &[u8]) -> Vec<u8> {
 }
 
 /// How many calls `ask_others` makes.
-const ASKED: u64 = 4;
+const ASKED: u64 = 5;
 
-/// The first record, one in the middle and the end of a trace that had so many, and its
-/// writing, for which there is room if they are few.
+/// The size of the replay; the first record, one in the middle and the end of a trace that had so
+/// many; and its writing, for which there is room if they are few.
 fn ask_others(comparison: &mut Comparison, lent: &mut LentTrace, trace: &[u8], count: usize) {
+    comparison.replay_size(lent, trace);
     for next in [0, count / 2, count] {
         comparison.record(lent, trace, next);
     }
@@ -206,10 +207,10 @@ fn sums_past_sixteen_bits() {
             }
         }
     }
-    // Where the parts fit, the settings are of zeros: N_RB 0 is refused by the replay and
-    // the writing, and the three records are to be had.
+    // Where the parts fit, the settings are of zeros: N_RB 0 is refused by the replay, its size
+    // and the writing, and the three records are to be had.
     comparison.finish_with(compared, &[0, 2, 22], &[0, 1, 2]);
-    assert_eq!(comparison.refused(2) * 3, comparison.refused(0) * 2);
+    assert_eq!(comparison.refused(2), comparison.refused(0));
 }
 
 /// Where there are no records, their offset may be any number.
@@ -224,8 +225,10 @@ fn no_records_at_any_offset() {
         put_number(&mut trace, FIRST_AT, first);
         let answer = comparison.replay(&mut lent, &trace, &[5; 3]);
         assert_eq!(answer, ReplayAnswer::done(0), "first record at {first}");
+        let size = comparison.replay_size(&mut lent, &trace);
+        assert_eq!(size, ReplaySizeAnswer::of(0, 0), "first record at {first}");
     }
-    comparison.finish(65_536 * 2, 65_536 * 2);
+    comparison.finish(65_536 * 2 * 2, 65_536 * 2 * 2);
 }
 
 /// The records complete as many windows as there are uplink subframes with one among
@@ -353,7 +356,7 @@ fn one_cause_after_another() {
 
 /// The numbers of the settings in a trace, each at its limits, one past them and as far
 /// as its bytes reach, in pairs; with a kind over 3 in the last record 22 comes first,
-/// with no room 23 after them all.
+/// with no room 23 after them all. The size minds neither.
 #[test]
 fn settings_at_their_limits() {
     let model = Model::new();
@@ -392,19 +395,21 @@ fn settings_at_their_limits() {
                         comparison.replay(&mut lent, &trace, &[9; 7]);
                         comparison.trace_write(&mut lent, &trace, &[9; 34]);
                         comparison.trace_write(&mut lent, &trace, &[9; 33]);
+                        let size = comparison.replay_size(&mut lent, &trace);
                         let last = trace.len() - RECORD;
                         trace[last] = 4;
                         let answer = comparison.replay(&mut lent, &trace, &[9; 20]);
                         assert_eq!(answer, ReplayAnswer::refused(22));
                         let answer = comparison.trace_write(&mut lent, &trace, &[9; 34]);
                         assert_eq!(answer, WriteAnswer::refused(22));
+                        assert_eq!(comparison.replay_size(&mut lent, &trace), size);
                         pairs += 1;
                     }
                 }
             }
         }
     }
-    comparison.finish_with(pairs * 6 * 2, &[0, 1, 2, 3, 4, 5, 6, 17, 19, 22, 23], &[0, 1]);
+    comparison.finish_with(pairs * 8 * 2, &[0, 1, 2, 3, 4, 5, 6, 17, 19, 22, 23], &[0, 1]);
     assert_eq!(comparison.refused(22), pairs * 2 * 2);
 }
 
