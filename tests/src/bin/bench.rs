@@ -10,7 +10,8 @@ use feedback_tests::c::{
     feedback_answered, feedback_change_mode, feedback_command, feedback_confirmed, feedback_credit,
     feedback_feed_grant, feedback_feed_nothing, feedback_feed_release, feedback_feed_scheduled,
     feedback_game, feedback_inverse, feedback_make, feedback_open_account, feedback_reading,
-    feedback_replay, feedback_resource, feedback_silence, feedback_trace_write, feedback_window,
+    feedback_replay, feedback_replay_size, feedback_resource, feedback_silence,
+    feedback_trace_write, feedback_window,
 };
 use feedback_tests::compare::plain_feed;
 use feedback_tests::every;
@@ -18,8 +19,8 @@ use feedback_tests::form::{Form, OnClaims};
 use feedback_tests::model::{bundles, edge, is_short, is_uplink, Game, Model, Window};
 use feedback_tests::plain::{
     plain_answered, plain_change_mode, plain_command, plain_confirmed, plain_credit, plain_game,
-    plain_inverse, plain_make, plain_open_account, plain_reading, plain_replay, plain_resource,
-    plain_silence, plain_trace_write, plain_window,
+    plain_inverse, plain_make, plain_open_account, plain_reading, plain_replay, plain_replay_size,
+    plain_resource, plain_silence, plain_trace_write, plain_window,
 };
 use feedback_tests::random::Random;
 use feedback_tests::registers::{Written, ALL, FLAGS, REPLY, SIZE};
@@ -27,7 +28,8 @@ use feedback_tests::trace::{record_of, Trace, LONGEST, WINDOW};
 use feedback_tests::{
     Account, AnsweredAnswer, Block, Changed, CommandAnswer, ConfirmedAnswer, CreditAnswer,
     Exchange, Fed, GameAnswer, Grant, Handset, Heard, Opened, ReadingAnswer, Release, ReplayAnswer,
-    ResourceAnswer, Settings, SilenceAnswer, WindowAnswer, WriteAnswer, NOT_TOLD,
+    ReplaySizeAnswer, ResourceAnswer, Settings, SilenceAnswer, Slot, WindowAnswer, WriteAnswer,
+    NOT_TOLD,
 };
 use std::hint::black_box;
 use std::time::Instant;
@@ -83,11 +85,11 @@ fn main() {
         "# Performance
 
 The C calls beside the same calls in plain Rust, in nanoseconds for one call, for
-the claims for one claim, and for calls on a trace for one record. Printed by `cargo run --release --offline --locked
---bin bench` in `tests`. Both sides are `extern \"C\"` functions of one signature
-and are not inlined; they get the same inputs, in batches that alternate, and the
-median of {BATCHES} batches counts. The figures depend on the machine; the ratios
-do so less.
+the claims for one claim, and for a replay and the writing of a trace for one record.
+Printed by `cargo run --release --offline --locked --bin bench` in `tests`. Both sides
+are `extern \"C\"` functions of one signature and are not inlined; they get the same
+inputs, in batches that alternate, and the median of {BATCHES} batches counts. The
+figures depend on the machine; the ratios do so less.
 
 The numbers are allowed ones over all configurations, bandwidths, modes and blocks.
 The feeds are those of {RUNS} runs of 20 frames: a grant in seven of ten downlink
@@ -110,7 +112,9 @@ The traces are of configuration 2 with two blocks and a schedule, with grants, s
 blocks, releases and nothing in the downlink, and good to the end. In plain Rust a
 replay keeps no state: it checks the settings once and looks back into the trace. A
 trace is written when all its records have been checked as in a replay, and in plain
-Rust that check makes no reply.
+Rust that check makes no reply. The size of a replay is worked out from header and settings, and
+takes as long for every number of records: that row has traces of any settings, with up to 100
+records.
 
 A command of a register block is carried out on a copy of the block, with any flags and mask. A
 feed is that of the handsets of runs, with their whole state checked; a clear looks at no handset,
@@ -127,6 +131,7 @@ and what it takes is passing one.
     schedule(&model, &mut Random::new(1));
     short_specials(&model, &mut Random::new(2));
     replays(&model, &mut Random::new(3));
+    sizes(&mut Random::new(11));
     writings(&model, &mut Random::new(4));
     mode_changes(&model, &mut Random::new(5));
     two_ports(&model, &mut Random::new(6));
@@ -620,6 +625,23 @@ fn replays(model: &Model, random: &mut Random) {
     }
 }
 
+/// Traces of records of nothing, of which none is looked at; so few that they stay in the cache.
+fn sizes(random: &mut Random) {
+    let trace = |_| {
+        let records = vec![Slot::NOTHING; random.below(101)];
+        let settings = random.mixed_settings();
+        random.arranged(Trace::new(settings, &records)).bytes()
+    };
+    let inputs: Vec<Vec<u8>> = (0..INPUTS / 8).map(trace).collect();
+    row(
+        "replay size",
+        &inputs,
+        inputs.len(),
+        |trace| engine_replay_size(trace),
+        |trace| plain_rust_replay_size(trace),
+    );
+}
+
 fn writings(model: &Model, random: &mut Random) {
     for (length, records, traces) in TRACES {
         let name = format!("a trace written, {length} records");
@@ -908,6 +930,20 @@ fn last_window(answer: ReplayAnswer, output: &[u8]) -> u64 {
     let last = &black_box(output)[WINDOW * windows.max(1) - WINDOW..][..WINDOW];
     let resource = u64::from(last[3]) << 8 | u64::from(last[2]);
     u64::from(answer.kind) << 48 | (windows as u64) << 16 | resource
+}
+
+fn engine_replay_size(trace: &[u8]) -> u64 {
+    // SAFETY: the trace is lent with its length.
+    told(unsafe { feedback_replay_size(trace.as_ptr(), trace.len()) })
+}
+
+fn plain_rust_replay_size(trace: &[u8]) -> u64 {
+    // SAFETY: the trace is lent with its length.
+    told(unsafe { plain_replay_size(trace.as_ptr(), trace.len()) })
+}
+
+fn told(size: ReplaySizeAnswer) -> u64 {
+    u64::from(size.refusal) << 48 | u64::from(size.windows) << 32 | u64::from(size.bytes)
 }
 
 fn engine_trace_write(trace: &[u8], output: &mut [u8]) -> u64 {
