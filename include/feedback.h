@@ -20,16 +20,16 @@
  *                           feedback_feed_nothing, feedback_silence,
  *                           feedback_feed_grant, feedback_feed_scheduled,
  *                           feedback_feed_release
- *   calls on a recorded     feedback_replay, feedback_record,
- *   drive                   feedback_trace_write
+ *   calls on a recorded     feedback_replay_size, feedback_replay,
+ *   drive                   feedback_record, feedback_trace_write
  *   call of a planner       feedback_game
  *   call on a register      feedback_command
  *   block
  *
  * feedback_text.h has the refusals, the kinds and the cause of a silence as texts for a
  * log. examples/cell.c runs both ends against each other, tells why a handset is silent and
- * bills for what is confirmed, examples/replay.c replays a drive and spells it,
- * examples/registers.c drives a handset behind a register block.
+ * bills for what is confirmed, examples/replay.c asks how much the replay of a drive writes,
+ * replays it and spells it, examples/registers.c drives a handset behind a register block.
  *
  *
  * TERMS
@@ -196,6 +196,8 @@
  *
  * A record completes a window if its subframe is an uplink one that has a window. So a
  * whole frame of configuration 0 to 6 completes 4, 4, 2, 3, 2, 1 and 5 windows.
+ * feedback_replay_size tells how many windows all records of a trace complete, and how many
+ * bytes a replay needs for them.
  *
  * The same drive may be recorded in different bytes: with its parts in another order, with
  * other gaps, with other values in what is ignored. feedback_trace_write writes a trace in
@@ -272,6 +274,7 @@
  *             feedback_feed_grant     1280
  *             feedback_feed_scheduled 1280
  *             feedback_feed_release   1280
+ *             feedback_replay_size    128
  *             feedback_replay         2048
  *             feedback_record         64
  *             feedback_trace_write    2048
@@ -291,8 +294,8 @@
 #include <stdint.h>
 
 /* This header's version: major * 10000 + minor * 100 + patch, and the same as text. */
-#define FEEDBACK_VERSION 50400
-#define FEEDBACK_VERSION_TEXT "5.4.0"
+#define FEEDBACK_VERSION 50500
+#define FEEDBACK_VERSION_TEXT "5.5.0"
 
 #define FEEDBACK_WINDOW_MOST 9     /* the most subframes of a window: M in configuration 5 */
 #define FEEDBACK_LOSSES_MOST 9     /* the most losses that feedback_game is asked about */
@@ -316,7 +319,8 @@
 #define FEEDBACK_RECORDS_MOST 16379 /* the most records of a trace: (65535 - 8 - 10) / 4 */
 #define FEEDBACK_WINDOW_BYTES 8     /* the bytes that feedback_replay writes for a window */
 #define FEEDBACK_WINDOWS_MOST 8190  /* the most windows of a trace, in configuration 6: 65520
-                                       bytes of output */
+                                       bytes of output; feedback_replay_size tells those of
+                                       one trace */
 #define FEEDBACK_SPELLED_FIRST 18   /* the bytes before the records of a written trace: 8 + 10 */
 #define FEEDBACK_SPELLED_MOST 65534 /* the most bytes of a written trace: 18 + 4 * 16379 */
 
@@ -418,11 +422,13 @@ enum feedback_refusal {
     FEEDBACK_REFUSED_TRACE_PARTS = 22,  /* parts of the trace, the header too, that share a byte
                                            or leave the file (where there are no records, their
                                            place is ignored), or a record's kind over 3, in
-                                           feedback_command that of the record to be fed */
+                                           feedback_command that of the record to be fed;
+                                           feedback_replay_size looks at no kind */
     FEEDBACK_REFUSED_OUTPUT = 23,       /* output too short: in feedback_replay under eight bytes
-                                           for each window that the records of the header
-                                           complete, in feedback_trace_write under 18 bytes and
-                                           four for each record */
+                                           for each window that the records of the header complete
+                                           (the bytes of feedback_replay_size), in
+                                           feedback_trace_write under 18 bytes and four for each
+                                           record */
     FEEDBACK_REFUSED_PORTS = 24,        /* ports not 1 or 2, or two ports with mode 1 or with a
                                            scheduled resource set; in feedback_change_mode two
                                            ports and the new mode 1, and nothing else */
@@ -787,6 +793,15 @@ struct feedback_silence_answer {
                           0 */
     uint16_t expected; /* miss shown: ((U - 1) mod 4) + 1, the DAI that it would have if none of its
                           window had been missed before it, 1 to 4 and never v; else 0 */
+};
+
+/* The answer of feedback_replay_size. 8 bytes. */
+struct feedback_replay_size_answer {
+    uint16_t refusal; /* 0, or 1 to 6, 17, 19, 21 or 22 */
+    uint16_t windows; /* the windows that the records complete, silent ones too, 0 to
+                         FEEDBACK_WINDOWS_MOST; 0 if refused */
+    uint32_t bytes;   /* the bytes of output to lend to feedback_replay, FEEDBACK_WINDOW_BYTES for
+                         each of these windows, 0 to 65520; 0 if refused */
 };
 
 /* The answer of feedback_replay. 8 bytes. */
@@ -1345,13 +1360,49 @@ struct feedback_fed feedback_feed_release(struct feedback_handset handset, uint1
                                           uint16_t dai);
 
 /*
+ * How much feedback_replay writes of a trace, told before an output is lent to it: how many
+ * windows, and how many bytes these take.
+ *
+ *   trace      the bytes of the trace, only read; their layout is under TRACES
+ *   length     the number of bytes of the trace
+ *
+ * windows is how many windows the records that the header names complete, those in which
+ * the handset is silent too, and bytes is FEEDBACK_WINDOW_BYTES for each of them. Both are
+ * 0 where no record completes a window: then feedback_replay takes an output of length 0.
+ *
+ * The answer comes from the header and the settings alone. No byte of a record counts, nor
+ * any outside of the three parts: two traces of one length, with the same bytes in their
+ * headers and the same in their settings, get the same answer. The whole trace is lent all
+ * the same: a piece of it has not the header's length, and is refused 21.
+ *
+ * It is proved, for every trace that is not refused here (crates/sizing/specs/Sizing.antt):
+ * where the kind of feedback_replay's answer is FEEDBACK_REPLAY_DONE, it wrote exactly so
+ * many windows and so many bytes; where it is FEEDBACK_REPLAY_STOPPED, it wrote no more. An
+ * output of so many bytes is never refused 23, and any shorter one is, unless 22 for a kind
+ * over 3 comes before it. No smaller figures would do for this header and these settings:
+ * where every record brought nothing, the replay is done and wrote just so much.
+ *
+ * Refuses 21 and 22, then 1 to 6, 17 and 19 for the settings of the trace, in this order
+ * whatever the order of their bytes. 22 is given for the parts of the trace alone: kinds
+ * over 3 are left to feedback_replay, which refuses them 22 before any record. A trace that
+ * is refused here is refused there too, before any record and whatever the output: with
+ * the same refusal, or with 22 for a kind over 3 in place of one that is for the settings.
+ *
+ * A length of 0 is a trace of length 0, and its pointer may then be NULL, as in
+ * feedback_replay. Nothing else may write the trace during the call.
+ */
+FEEDBACK_MUST_USE
+struct feedback_replay_size_answer feedback_replay_size(const uint8_t *trace, size_t length);
+
+/*
  * The replies that a handset should have sent in a recorded drive.
  *
  *   trace      the bytes of the trace, only read; their layout is under TRACES
  *   length     the number of bytes of the trace
- *   out        bytes for the windows, at least FEEDBACK_WINDOW_BYTES for each window
- *              that the records complete (FEEDBACK_WINDOWS_MOST *
- *              FEEDBACK_WINDOW_BYTES are always enough)
+ *   out        bytes for the windows, at least as many as feedback_replay_size answers
+ *              of this trace: FEEDBACK_WINDOW_BYTES for each window that the records
+ *              complete (FEEDBACK_WINDOWS_MOST * FEEDBACK_WINDOW_BYTES are always
+ *              enough)
  *   room       the number of bytes lent in out
  *
  * The same as to make a handset with the settings of the trace and one port, by
@@ -1368,8 +1419,9 @@ struct feedback_fed feedback_feed_release(struct feedback_handset handset, uint1
  * Refuses 21 and 22, then 1 to 6, 17 and 19 for the settings of the trace, in this order
  * whatever the order of their bytes, then 23; all before any record: then the kind is
  * FEEDBACK_REPLAY_REFUSED and all of out is as it was. 22 is given for a kind over 3 in
- * any record, 23 by the windows of all records that the header names, even where an
- * earlier record will be refused. Then it stops at a record for 9, 20, 10, 11, 12 and 18.
+ * any record, 23 by the windows of all records that the header names, as
+ * feedback_replay_size counts them, even where an earlier record will be refused. Then it
+ * stops at a record for 9, 20, 10, 11, 12 and 18.
  *
  * A length or room of 0 is a trace or output of length 0, and its pointer may then be
  * NULL; with any other length NULL is an error that no refusal catches, as is a length
@@ -1681,6 +1733,10 @@ FEEDBACK_PLACE(feedback_silence_answer, fed, 0)
 FEEDBACK_PLACE(feedback_silence_answer, cause, 86)
 FEEDBACK_PLACE(feedback_silence_answer, v, 88)
 FEEDBACK_PLACE(feedback_silence_answer, expected, 90)
+FEEDBACK_SIZE(feedback_replay_size_answer, 8)
+FEEDBACK_PLACE(feedback_replay_size_answer, refusal, 0)
+FEEDBACK_PLACE(feedback_replay_size_answer, windows, 2)
+FEEDBACK_PLACE(feedback_replay_size_answer, bytes, 4)
 FEEDBACK_SIZE(feedback_replay_answer, 8)
 FEEDBACK_PLACE(feedback_replay_answer, refusal, 0)
 FEEDBACK_PLACE(feedback_replay_answer, kind, 2)

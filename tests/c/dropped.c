@@ -23,6 +23,7 @@ void drop(struct feedback_settings settings, struct feedback_handset handset,
     feedback_feed_grant(handset, 2, 1, 0, 5, 3);
     feedback_feed_scheduled(handset, 2, 1, 0);
     feedback_feed_release(handset, 5, 3);
+    feedback_replay_size(NULL, 0);
     feedback_replay(NULL, 0, NULL, 0);
     feedback_record(NULL, 0, 0);
     feedback_trace_write(NULL, 0, NULL, 0);

@@ -12,7 +12,7 @@
 #include <stdlib.h>
 #include <string.h>
 
-#if FEEDBACK_VERSION != 50400
+#if FEEDBACK_VERSION != 50500
 #error "FEEDBACK_VERSION is for the preprocessor too"
 #endif
 
@@ -229,7 +229,7 @@ static void numbers(void)
     EQUAL(FEEDBACK_SPELLED_FIRST, 18);
     EQUAL(FEEDBACK_SPELLED_MOST, 65534); /* 18 + 4 * 16379 */
     EQUAL(FEEDBACK_NONE, 65535);
-    EQUAL(FEEDBACK_VERSION, 50400);
+    EQUAL(FEEDBACK_VERSION, 50500);
     sprintf(version, "%d.%d.%d", FEEDBACK_VERSION / 10000, FEEDBACK_VERSION / 100 % 100,
             FEEDBACK_VERSION % 100);
     SAME(FEEDBACK_VERSION_TEXT, version);
@@ -339,6 +339,10 @@ static void layout(void)
     PLACE(feedback_silence_answer, cause, 86);
     PLACE(feedback_silence_answer, v, 88);
     PLACE(feedback_silence_answer, expected, 90);
+    SIZE(feedback_replay_size_answer, 8);
+    PLACE(feedback_replay_size_answer, refusal, 0);
+    PLACE(feedback_replay_size_answer, windows, 2);
+    PLACE(feedback_replay_size_answer, bytes, 4);
     SIZE(feedback_replay_answer, 8);
     PLACE(feedback_replay_answer, refusal, 0);
     PLACE(feedback_replay_answer, kind, 2);
@@ -2638,6 +2642,233 @@ static void replay_refused(void)
     REPLAYED(drive, 16, FEEDBACK_REFUSED_CARRIED, FEEDBACK_REPLAY_STOPPED, 0, 0);
 }
 
+static void sized(int line, const struct drive *drive, unsigned refusal, unsigned windows)
+{
+    struct feedback_replay_size_answer answer = feedback_replay_size(drive->bytes, drive->length);
+    equal(line, "refusal", answer.refusal, refusal);
+    equal(line, "windows", answer.windows, windows);
+    equal(line, "bytes", answer.bytes, windows * FEEDBACK_WINDOW_BYTES);
+}
+
+#define SIZED(drive, windows) sized(__LINE__, &(drive), 0, windows)
+
+/* The windows of drive_of_2 are those of 2 and 7, whatever is in its records and gaps. */
+static void replay_size(void)
+{
+    struct drive drive = drive_of_2();
+    const uint8_t *trace = drive.bytes;
+    uint8_t out[40];
+    size_t length = drive.length;
+    struct feedback_replay_size_answer answer = CALL(feedback_replay_size, (trace, length));
+    unsigned filled;
+    EQUAL(answer.refusal, 0);
+    EQUAL(answer.windows, 2);
+    EQUAL(answer.bytes, 16);
+    REPLAYED(drive, 16, 0, FEEDBACK_REPLAY_DONE, 0, 2);
+    put_record(&drive, 7, FEEDBACK_SLOT_RELEASE, 0, 1, 0); /* the second window is not written */
+    SIZED(drive, 2);
+    REPLAYED(drive, 16, FEEDBACK_REFUSED_UPLINK, FEEDBACK_REPLAY_STOPPED, 7, 1);
+    put_record(&drive, 7, FEEDBACK_SLOT_NOTHING, 0, 1, 0);
+    put_record(&drive, 8, FEEDBACK_SLOT_GRANT, 5, 5, 1); /* it is, and no third one */
+    SIZED(drive, 2);
+    REPLAYED(drive, 16, FEEDBACK_REFUSED_DAI, FEEDBACK_REPLAY_STOPPED, 8, 2);
+    for (filled = 0; filled < 256; filled += 51) {
+        drive.bytes[FEEDBACK_TRACE_HEADER] = filled & 255u; /* the byte before the settings */
+        memset(drive.bytes + drive.first, drive.bytes[FEEDBACK_TRACE_HEADER],
+               drive.length - drive.first);
+        SIZED(drive, 2);
+    }
+    REPLAYED(drive, 16, FEEDBACK_REFUSED_TRACE_PARTS, FEEDBACK_REPLAY_REFUSED, 0, 0);
+}
+
+/* A trace of nothing with its parts the other way round: the settings are at the end. */
+static struct drive records_first(struct feedback_settings settings, unsigned count)
+{
+    struct drive drive;
+    memset(&drive, 0, sizeof drive);
+    drive.count = count;
+    drive.first = FEEDBACK_TRACE_HEADER;
+    drive.settings = drive.first + count * FEEDBACK_TRACE_RECORD;
+    drive.length = drive.settings + FEEDBACK_TRACE_SETTINGS;
+    put_header(&drive);
+    put_settings(&drive, settings);
+    return drive;
+}
+
+/* The replay of a trace of nothing fills the output of these bytes; a byte less is refused. */
+static void size_replayed(const struct drive *drive, unsigned windows)
+{
+    uint8_t out[FEEDBACK_WINDOW_BYTES * 16];
+    size_t room = feedback_replay_size(drive->bytes, drive->length).bytes;
+    SIZED(*drive, windows);
+    if (room > sizeof out)
+        return;
+    REPLAYED(*drive, room, 0, FEEDBACK_REPLAY_DONE, 0, windows);
+    if (room == 0)
+        EQUAL(feedback_replay(drive->bytes, drive->length, NULL, 0).kind, FEEDBACK_REPLAY_DONE);
+    else {
+        HOLDS(out[room - 1] != 99);
+        REPLAYED(*drive, room - 1, FEEDBACK_REFUSED_OUTPUT, FEEDBACK_REPLAY_REFUSED, 0, 0);
+    }
+}
+
+/* Up to 16 records, with the parts both ways round; then with each of the records refused. */
+static void sizes(void)
+{
+    uint16_t config;
+    unsigned count, i;
+    for (config = 0; config < 7; config++) {
+        uint16_t mode = config == 5 ? 0 : 1;
+        struct feedback_settings one = FEEDBACK_SETTINGS(config, 6, 0, 0, 1);
+        struct feedback_settings other = FEEDBACK_SETTINGS(config, 110, 2047, mode, 2);
+        unsigned windows = 0;
+        other = with_special(with_scheduled(other, 2046), FEEDBACK_PREFIX_EXTENDED, 4);
+        for (count = 0; count <= 16; count++) {
+            struct drive drive = drive_of(one, count), turned = records_first(other, count);
+            unsigned before = 0;
+            size_replayed(&drive, windows);
+            size_replayed(&turned, windows);
+            for (i = 0; i < count; i++) {
+                uint8_t out[FEEDBACK_WINDOW_BYTES * 16];
+                unsigned n = i % 10;
+                int uplink = feedback_answered(one, n & 15u).refusal != 0;
+                put_record(&drive, i, FEEDBACK_SLOT_RELEASE, 0, 5, 0);
+                SIZED(drive, windows);
+                REPLAYED(drive, windows * FEEDBACK_WINDOW_BYTES,
+                         uplink ? FEEDBACK_REFUSED_UPLINK : FEEDBACK_REFUSED_DAI,
+                         FEEDBACK_REPLAY_STOPPED, i, before);
+                put_record(&drive, i, FEEDBACK_SLOT_NOTHING, 0, 0, 0);
+                before += feedback_window(one, n & 15u).refusal == 0;
+            }
+            windows += feedback_window(one, count % 10 & 15u).refusal == 0;
+        }
+    }
+}
+
+/* Refused, and the replay in the same way before any record, whatever is lent to it. */
+static void size_refused(int line, const struct drive *drive, unsigned refusal)
+{
+    uint8_t out[40];
+    sized(line, drive, refusal, 0);
+    replayed(line, drive, out, 0, refusal, FEEDBACK_REPLAY_REFUSED, 0, 0);
+    replayed(line, drive, out, 40, refusal, FEEDBACK_REPLAY_REFUSED, 0, 0);
+}
+
+#define SIZE_REFUSED(drive, refusal) size_refused(__LINE__, &(drive), refusal)
+
+/* The same for settings; with a kind over 3 the replay is refused 22, and the size as before. */
+static void settings_of_size_refused(int line, struct feedback_settings settings, unsigned refusal)
+{
+    struct drive drive = drive_of_2();
+    uint8_t out[40];
+    put_settings(&drive, settings);
+    size_refused(line, &drive, refusal);
+    put_record(&drive, 9, FEEDBACK_SLOT_RELEASE + 1, 0, 0, 0);
+    sized(line, &drive, refusal, 0);
+    replayed(line, &drive, out, 40, FEEDBACK_REFUSED_TRACE_PARTS, FEEDBACK_REPLAY_REFUSED, 0, 0);
+}
+
+#define SETTINGS_REFUSED(settings, refusal) settings_of_size_refused(__LINE__, settings, refusal)
+
+static void size_settings_refused(void)
+{
+    struct feedback_settings cell = settings_of(2, 1, 2);
+    SETTINGS_REFUSED(FEEDBACK_SETTINGS(7, 5, 2048, 2, 3), FEEDBACK_REFUSED_CONFIGURATION);
+    SETTINGS_REFUSED(FEEDBACK_SETTINGS(5, 5, 2048, 2, 3), FEEDBACK_REFUSED_BANDWIDTH);
+    SETTINGS_REFUSED(FEEDBACK_SETTINGS(5, 111, 2048, 2, 3), FEEDBACK_REFUSED_BANDWIDTH);
+    SETTINGS_REFUSED(FEEDBACK_SETTINGS(5, 50, 2048, 2, 3), FEEDBACK_REFUSED_N1);
+    SETTINGS_REFUSED(FEEDBACK_SETTINGS(5, 50, 300, 2, 3), FEEDBACK_REFUSED_MODE);
+    SETTINGS_REFUSED(FEEDBACK_SETTINGS(5, 50, 300, 1, 3), FEEDBACK_REFUSED_MULTIPLEXING);
+    SETTINGS_REFUSED(with_special(with_scheduled(settings_of(2, 1, 3), 10), 2, 9),
+                     FEEDBACK_REFUSED_BLOCKS);
+    SETTINGS_REFUSED(with_special(with_scheduled(settings_of(2, 1, 0), 10), 2, 9),
+                     FEEDBACK_REFUSED_BLOCKS);
+    SETTINGS_REFUSED(with_special(with_scheduled(cell, 10), 2, 9),
+                     FEEDBACK_REFUSED_SCHEDULED_RESOURCE);
+    SETTINGS_REFUSED(with_special(with_scheduled(cell, 9), 2, 0), FEEDBACK_REFUSED_SPECIAL);
+    SETTINGS_REFUSED(with_special(with_scheduled(cell, 9), 0, 9), FEEDBACK_REFUSED_SPECIAL);
+    SETTINGS_REFUSED(with_special(with_scheduled(cell, 9), 1, 7), FEEDBACK_REFUSED_SPECIAL);
+}
+
+/* With this number of records, and the records and the settings in these places. */
+static void place_refused(int line, struct drive drive, unsigned count, unsigned first,
+                          unsigned settings)
+{
+    drive.count = count;
+    drive.first = first;
+    drive.settings = settings;
+    put_header(&drive);
+    size_refused(line, &drive, FEEDBACK_REFUSED_TRACE_PARTS);
+}
+
+#define PLACE_REFUSED(drive, count, first, settings) \
+    place_refused(__LINE__, drive, count, first, settings)
+
+static void size_parts_refused(void)
+{
+    struct feedback_settings bad = FEEDBACK_SETTINGS(7, 5, 2048, 2, 3);
+    struct drive drive = drive_of(bad, 10), turned = records_first(bad, 10), none;
+    SIZE_REFUSED(drive, FEEDBACK_REFUSED_CONFIGURATION);  /* 19 and 9, in 60 bytes */
+    SIZE_REFUSED(turned, FEEDBACK_REFUSED_CONFIGURATION); /* 8 and 48, in 58 bytes */
+    PLACE_REFUSED(drive, 10, 19, 0);
+    PLACE_REFUSED(drive, 10, 19, 7);     /* a byte of the header */
+    PLACE_REFUSED(drive, 10, 19, 10);    /* a byte of record 0 */
+    PLACE_REFUSED(drive, 10, 19, 51);    /* past the end by a byte */
+    PLACE_REFUSED(drive, 10, 19, 65530); /* past 16 bits */
+    PLACE_REFUSED(drive, 10, 18, 9);     /* a byte of the settings */
+    PLACE_REFUSED(drive, 10, 21, 9);     /* past the end by a byte */
+    PLACE_REFUSED(drive, 11, 19, 9);
+    PLACE_REFUSED(drive, 1, 65532, 9);   /* to 65536 */
+    PLACE_REFUSED(drive, 16384, 19, 9);  /* 4 * 16384 is 65536 */
+    PLACE_REFUSED(drive, 65535, 65535, 9);
+    PLACE_REFUSED(turned, 10, 7, 48); /* a byte of the header */
+    PLACE_REFUSED(turned, 10, 8, 47); /* a byte of record 9 */
+    PLACE_REFUSED(turned, 10, 8, 49); /* past the end by a byte */
+    PLACE_REFUSED(turned, 10, 9, 48); /* a byte of the settings */
+    PLACE_REFUSED(turned, 11, 8, 48);
+    PLACE_REFUSED(turned, 1, 50, 48); /* inside of them */
+    PLACE_REFUSED(turned, 0, 65535, 49);
+    PLACE_REFUSED(turned, 0, 65535, 7);
+    none = records_first(settings_of(2, 0, 1), 0); /* the place of no records is ignored */
+    for (none.first = 0; none.first < 20; none.first++) {
+        put_header(&none);
+        size_replayed(&none, 0);
+    }
+    none.first = 65535;
+    put_header(&none);
+    size_replayed(&none, 0);
+}
+
+/* A trace below eight bytes, or not of its header's length, with all that comes after it. */
+static void size_length_refused(void)
+{
+    static uint8_t trace[65536 + 60];
+    struct drive good = drive_of_2(), drive = good;
+    memcpy(trace, good.bytes, good.length);
+    EQUAL(feedback_replay_size(trace, sizeof trace).refusal, FEEDBACK_REFUSED_TRACE_LENGTH);
+    EQUAL(feedback_replay_size(trace, 65536).refusal, FEEDBACK_REFUSED_TRACE_LENGTH);
+    EQUAL(feedback_replay_size(NULL, 0).refusal, FEEDBACK_REFUSED_TRACE_LENGTH);
+    EQUAL(feedback_replay_size(trace, good.length).windows, 2);
+    put_settings(&drive, FEEDBACK_SETTINGS(7, 5, 2048, 2, 3));
+    drive.settings = 7;
+    put_header(&drive);
+    drive.length++;
+    SIZE_REFUSED(drive, FEEDBACK_REFUSED_TRACE_LENGTH);
+    drive.length -= 2;
+    SIZE_REFUSED(drive, FEEDBACK_REFUSED_TRACE_LENGTH);
+    for (drive.length = 0; drive.length < FEEDBACK_TRACE_HEADER; drive.length++) {
+        put_header(&drive);
+        SIZE_REFUSED(drive, FEEDBACK_REFUSED_TRACE_LENGTH);
+    }
+    put_header(&drive); /* the header alone: the settings leave the file */
+    SIZE_REFUSED(drive, FEEDBACK_REFUSED_TRACE_PARTS);
+    drive = good;
+    drive.length += 256;
+    put_header(&drive);
+    drive.length -= 256;
+    SIZE_REFUSED(drive, FEEDBACK_REFUSED_TRACE_LENGTH);
+}
+
 static void slot_is(struct feedback_slot slot, unsigned kind, unsigned cce, unsigned dai,
                     unsigned results)
 {
@@ -2809,7 +3040,9 @@ static void largest(void)
 {
     static uint8_t trace[65535], out[FEEDBACK_SPELLED_MOST];
     static const unsigned in_a_frame[7] = {4, 4, 2, 3, 2, 1, 5};
+    static const unsigned in_all[7] = {6551, 6552, 3276, 4914, 3276, 1638, FEEDBACK_WINDOWS_MOST};
     struct drive drive = drive_of(settings_of(6, 0, 1), 0);
+    struct feedback_replay_size_answer size;
     struct feedback_replay_answer answer;
     struct feedback_record_answer read;
     struct feedback_write_answer spelled;
@@ -2843,6 +3076,16 @@ static void largest(void)
         EQUAL(windows, in_a_frame[config]);
         drive = drive_of(settings_of(config, 0, 1), 10);
         EQUAL(feedback_replay(drive.bytes, drive.length, out, 8 * windows).windows, windows);
+        put_byte(trace + drive.settings, "settings", "config", config);
+        size = feedback_replay_size(trace, sizeof trace); /* of 1637 frames and 9 subframes */
+        EQUAL(size.refusal, 0);
+        EQUAL(size.windows, in_all[config]);
+        EQUAL(size.bytes, 8 * in_all[config]);
+        answer = feedback_replay(trace, sizeof trace, out, size.bytes - 1);
+        EQUAL(answer.refusal, FEEDBACK_REFUSED_OUTPUT);
+        answer = feedback_replay(trace, sizeof trace, out, size.bytes);
+        EQUAL(answer.kind, FEEDBACK_REPLAY_DONE);
+        EQUAL(answer.windows, size.windows);
     }
 }
 
@@ -3370,6 +3613,11 @@ int main(int argc, char **argv)
     replay();
     replay_multiplexed();
     replay_refused();
+    replay_size();
+    sizes();
+    size_settings_refused();
+    size_parts_refused();
+    size_length_refused();
     records();
     writing();
     writing_refused();
