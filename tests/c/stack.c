@@ -121,6 +121,10 @@ LOOP(feed_release, feedback_fed, (struct feedback_handset handset, uint16_t cce,
 
 static uint8_t output[FEEDBACK_SPELLED_MOST]; /* the windows of a replay take less */
 static uint8_t longest[FIRST + FEEDBACK_RECORDS_MOST * FEEDBACK_TRACE_RECORD];
+LOOP(replay_size, feedback_replay_size_answer, (const uint8_t *trace, size_t length),
+     EACH(i, RUNS) EACH(j, 2) sink += call(traces[i], sizeof traces[i] - j).windows;
+     sink += call(longest, sizeof longest).windows;)
+
 LOOP(replay, feedback_replay_answer,
      (const uint8_t *trace, size_t length, uint8_t *out, size_t room),
      EACH(i, RUNS) EACH(j, 3)
@@ -370,6 +374,7 @@ int main(int argc, char **argv)
     all &= HELD(feed_grant, 80);
     all &= HELD(feed_scheduled, 80);
     all &= HELD(feed_release, 80);
+    all &= HELD(replay_size, 0);
     all &= HELD(replay, 0);
     all &= HELD(record, 0);
     all &= HELD(trace_write, 0);
