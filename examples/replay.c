@@ -1,6 +1,6 @@
 /*
- * A recorded drive, replayed: the replies that the handset should have sent. And its one spelling,
- * in which two recordings of a drive can be compared byte by byte.
+ * A recorded drive, replayed: how much output that takes, and the replies that the handset should
+ * have sent. And its one spelling, in which two recordings of a drive can be compared byte by byte.
  *
  *   replay        a small trace, which is made here, and what becomes of it when a record is bad
  *   replay FILE   the trace in a file, such as examples/drive.trace
@@ -10,10 +10,10 @@
 #include "feedback.h"
 #include "feedback_text.h"
 #include <stdio.h>
+#include <stdlib.h>
 
 /* One byte more than a trace may have: a file that fills it is too long, and refused 21. */
 static uint8_t trace[65536];
-static uint8_t windows[FEEDBACK_WINDOWS_MOST * FEEDBACK_WINDOW_BYTES];
 
 /* What the records say that the subframes brought. */
 static void show_records(size_t length)
@@ -38,10 +38,20 @@ static void show_window(const uint8_t *window, unsigned frame)
     puts("");
 }
 
-/* Replays the trace, and shows what was written and the answer. */
+/*
+ * Asks how much the replay of the trace writes, lends so much, replays it, and shows what was
+ * written and the answer. A trace that is refused has the size 0: its replay is refused as well.
+ */
 static void replay(size_t length)
 {
-    struct feedback_replay_answer answer = feedback_replay(trace, length, windows, sizeof windows);
+    struct feedback_replay_size_answer size = feedback_replay_size(trace, length);
+    uint8_t *windows = malloc(size.bytes); /* may be NULL for 0 bytes, and may then be lent */
+    if (windows == NULL && size.bytes > 0) {
+        perror("malloc");
+        exit(1);
+    }
+    printf("Output to lend: %u bytes, %u windows.\n", size.bytes, size.windows);
+    struct feedback_replay_answer answer = feedback_replay(trace, length, windows, size.bytes);
     for (unsigned i = 0, frame = 0; i < answer.windows; i++) {
         const uint8_t *window = windows + i * FEEDBACK_WINDOW_BYTES;
         if (i > 0 && window[0] <= window[-FEEDBACK_WINDOW_BYTES])
@@ -53,6 +63,7 @@ static void replay(size_t length)
         printf("Record %u. ", answer.record);
     if (answer.refusal != 0)
         puts(feedback_refusal_text(answer.refusal));
+    free(windows);
 }
 
 /* Writes the trace in its one spelling, for which as many bytes as it has are always enough. */
