@@ -2722,7 +2722,8 @@ static void sizes(void)
         struct feedback_settings one = FEEDBACK_SETTINGS(config, 6, 0, 0, 1);
         struct feedback_settings other = FEEDBACK_SETTINGS(config, 110, 2047, mode, 2);
         unsigned windows = 0;
-        other = with_special(with_scheduled(other, 2046), FEEDBACK_PREFIX_EXTENDED, 4);
+        one = with_special(one, FEEDBACK_PREFIX_NORMAL, 8);
+        other = with_special(with_scheduled(other, 2046), FEEDBACK_PREFIX_EXTENDED, 6);
         for (count = 0; count <= 16; count++) {
             struct drive drive = drive_of(one, count), turned = records_first(other, count);
             unsigned before = 0;
