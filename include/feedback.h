@@ -274,7 +274,7 @@
  *             feedback_feed_grant     1280
  *             feedback_feed_scheduled 1280
  *             feedback_feed_release   1280
- *             feedback_replay_size    128
+ *             feedback_replay_size    64
  *             feedback_replay         2048
  *             feedback_record         64
  *             feedback_trace_write    2048
