@@ -40,7 +40,7 @@ static void show_window(const uint8_t *window, unsigned frame)
 
 /*
  * Asks how much the replay of the trace writes, lends so much, replays it, and shows what was
- * written and the answer. A trace that is refused has the size 0: its replay is refused as well.
+ * written and the answer. A trace that has no size has none to lend, and its replay says why.
  */
 static void replay(size_t length)
 {
@@ -50,7 +50,8 @@ static void replay(size_t length)
         perror("malloc");
         exit(1);
     }
-    printf("Output to lend: %u bytes, %u windows.\n", size.bytes, size.windows);
+    if (size.refusal == 0)
+        printf("Output to lend: %u bytes, %u windows.\n", size.bytes, size.windows);
     struct feedback_replay_answer answer = feedback_replay(trace, length, windows, size.bytes);
     for (unsigned i = 0, frame = 0; i < answer.windows; i++) {
         const uint8_t *window = windows + i * FEEDBACK_WINDOW_BYTES;

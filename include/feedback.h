@@ -1360,8 +1360,8 @@ struct feedback_fed feedback_feed_release(struct feedback_handset handset, uint1
                                           uint16_t dai);
 
 /*
- * How much feedback_replay writes of a trace, told before an output is lent to it: how many
- * windows, and how many bytes these take.
+ * How much feedback_replay writes of a trace that it replays to the end, and at most of any
+ * other, told before an output is lent to it: how many windows, and how many bytes.
  *
  *   trace      the bytes of the trace, only read; their layout is under TRACES
  *   length     the number of bytes of the trace
@@ -1380,7 +1380,8 @@ struct feedback_fed feedback_feed_release(struct feedback_handset handset, uint1
  * many windows and so many bytes; where it is FEEDBACK_REPLAY_STOPPED, it wrote no more. An
  * output of so many bytes is never refused 23, and any shorter one is, unless 22 for a kind
  * over 3 comes before it. No smaller figures would do for this header and these settings:
- * where every record brought nothing, the replay is done and wrote just so much.
+ * of some trace with the same, in which every record brings nothing, the replay is done,
+ * and writes just so much.
  *
  * Refuses 21 and 22, then 1 to 6, 17 and 19 for the settings of the trace, in this order
  * whatever the order of their bytes. 22 is given for the parts of the trace alone: kinds

@@ -10,7 +10,8 @@
 //! builds recorded drives as bytes. [`fates`] sends, loses and decodes what a window brings,
 //! [`silences`] tells why a window is silent, in wrong ways too, [`charging`] builds what a
 //! credit is given, [`registers`] has the places and flags of a register block, and wrong ways
-//! to carry out its commands, and [`sizings`] wrong ways to size a replay. [`vectors`] reads the cases that come with the requests.
+//! to carry out its commands, and [`sizings`] wrong ways to size a replay. [`vectors`] reads
+//! the cases that come with the requests.
 
 pub mod charging;
 pub mod compare;

@@ -648,7 +648,7 @@ fn sent_and_credited(count: &mut Count) {
 }
 
 /// What a replay refuses before any record; its size and the writing of a trace refuse it too, but
-/// a size minds no kind. Of the settings above those count whose numbers fit in the bytes of a
+/// a size looks at no kind. Of the settings above those count whose numbers fit in the bytes of a
 /// trace, which has no ports.
 fn replays(count: &mut Count) {
     let good = Trace::new(CELL, &[Slot::NOTHING; 4]).bytes();

@@ -356,7 +356,7 @@ fn one_cause_after_another() {
 
 /// The numbers of the settings in a trace, each at its limits, one past them and as far
 /// as its bytes reach, in pairs; with a kind over 3 in the last record 22 comes first,
-/// with no room 23 after them all. The size minds neither.
+/// with no room 23 after them all. The size looks at neither.
 #[test]
 fn settings_at_their_limits() {
     let model = Model::new();

@@ -1,4 +1,4 @@
-// What is told of a recorded drive: a record, a replay and what it will write, and a trace that was written.
+// What is told of a recorded drive: a record, a replay and its size, and a trace that was written.
 ghost use Rattle.std.specs.Prelude.{◌≡◌};
 ghost use Rattle.frame.specs.Refusals.{numbered};
 ghost use Rattle.replaying.specs.Ended.{end_refusal, end_kind, end_record, replayed_by};
@@ -73,7 +73,7 @@ impl From<Outcome> for ReplayAnswer {
     }
 }
 
-// The windows and the bytes that a replay will write; both 0 where refused.
+// The windows and the bytes that a replay writes which comes to the trace's end; both 0 where refused.
 #[repr(C)]
 #[derive(Clone, Copy, Default)]
 pub struct ReplaySizeAnswer {

@@ -1,5 +1,6 @@
--- Traces with their replays and with the sizes that are worked out beforehand, so that the statement of specs/Run.antt is about something: one that is replayed to its end, whose
--- feeds are a worked run of engines/proofs/Worked.antt and bring what its station sends, and one that stops.
+-- Traces with their replays, so that the statement of specs/Run.antt is about something: one that is replayed to its end, whose feeds
+-- are a worked run of engines/proofs/Worked.antt and bring what its station sends, and one that stops; and the sizes of these and of
+-- traces that are refused, so that the statement of sizing/specs/Sizing.antt is about something.
 -- Assumes nothing.
 use Rattle.std.proofs.Common.{Ok, Err}
 use Prim.Native.Nat.{ℕ}
@@ -12,7 +13,7 @@ use Rattle.reader.specs.Record.{slot_at, used_results, used_in, brought_by, reco
 use Rattle.replaying.specs.Replay.{brought_in, played, played_in, output_needed, start_refusal, replay_of, output_of}
 use Rattle.replaying.specs.Written.{window_bytes}
 use Rattle.sizing.specs.Size.{size_refusal, figures_in, size_of}
-use Rattle.sizing.specs.Sizing.{answered, written_by}
+use Rattle.sizing.specs.Sizing.{windows_answered, size_written, refused_by}
 use Rattle.agreement.specs.Demand3.{feedback_engine, HoldsAfter}
 use Rattle.engines.proofs.Computing.{handsets}
 use Rattle.engines.proofs.Finite.{sending}
@@ -22,7 +23,7 @@ use Rattle.recorded.proofs.Run.{is_run}
 
 -- The definitions that a replay computes with, beside those of the handset.
 unfoldable pub replays : Unit {0}
-unfolding handsets has_window windows_before number_at header_of settings_at settings_of settings_fit records_fit length_refusal parts_refusal kinds_known trace_refusal slot_at used_results used_in brought_by record_slot brought_at brought_in played played_in output_needed start_refusal replay_of output_of window_bytes feeds_from run_of size_refusal figures_in size_of answered written_by
+unfolding handsets has_window windows_before number_at header_of settings_at settings_of settings_fit records_fit length_refusal parts_refusal kinds_known trace_refusal slot_at used_results used_in brought_by record_slot brought_at brought_in played played_in output_needed start_refusal replay_of output_of window_bytes feeds_from run_of size_refusal figures_in size_of windows_answered size_written
 replays = tt
 
 -- Configuration 1, N_RB 50, mode 0, one block, special configuration 7, normal prefix, N1 10, no scheduled resource.
@@ -71,11 +72,11 @@ unfolding replays
 stopped_short = refl
 
 -- What is worked out of the first trace is what its replay writes; of the second, which stops, the same, and its replay writes a window.
-pub drive_sized : (size_of drive ≡ Ok (record { windows = 3; bytes = 24 })) × (written_by drive ≡ record { windows = 3; bytes = 24 })
+pub drive_sized : (size_of drive ≡ Ok (record { windows = 3; bytes = 24 })) × (size_written drive ≡ record { windows = 3; bytes = 24 })
 unfolding replays
 drive_sized = (refl, refl)
 
-pub stopped_sized : (size_of stopped ≡ Ok (record { windows = 3; bytes = 24 })) × (written_by stopped ≡ record { windows = 1; bytes = 8 })
+pub stopped_sized : (size_of stopped ≡ Ok (record { windows = 3; bytes = 24 })) × (size_written stopped ≡ record { windows = 1; bytes = 8 })
 unfolding replays
 stopped_sized = (refl, refl)
 
@@ -83,17 +84,32 @@ stopped_sized = (refl, refl)
 abbrev pub unknown : List ℕ
 unknown = (8 ∷ 0 ∷ 18 ∷ 0 ∷ 8 ∷ 0 ∷ 50 ∷ 0 ∷ []) ++ settings ++ (1 ∷ 3 ∷ 1 ∷ 3 ∷ 4 ∷ 10 ∷ 2 ∷ 251 ∷ []) ++ replicate 24 0
 
-pub unknown_sized : (size_of unknown ≡ Ok (record { windows = 3; bytes = 24 })) × (replay_of unknown 24 ≡ record { refusal = 22; kind = 0; number = 0; windows = 0 })
+pub unknown_sized : (size_of unknown ≡ Ok (record { windows = 3; bytes = 24 })) × (replay_of unknown 24 ≡ refused_by 22)
 unfolding replays
 unknown_sized = (refl, refl)
 
--- Refused: an offset of the settings that leads into the header, 22; N_RB 5, 2, though a record has an unknown kind too.
+-- Refused, and by the replay too: no bytes, 21; settings that begin in the header's last byte, 22; N_RB 5, 2.
 abbrev pub overlapping : List ℕ
 overlapping = (8 ∷ 0 ∷ 18 ∷ 0 ∷ 7 ∷ 0 ∷ 50 ∷ 0 ∷ []) ++ settings ++ replicate 32 0
 
-abbrev pub narrow : List ℕ
-narrow = (8 ∷ 0 ∷ 18 ∷ 0 ∷ 8 ∷ 0 ∷ 50 ∷ 0 ∷ []) ++ (1 ∷ 5 ∷ 0 ∷ 1 ∷ 7 ∷ 0 ∷ 10 ∷ 0 ∷ 255 ∷ 255 ∷ []) ++ (9 ∷ []) ++ replicate 31 0
+abbrev pub narrow_cell : List ℕ
+narrow_cell = 1 ∷ 5 ∷ 0 ∷ 1 ∷ 7 ∷ 0 ∷ 10 ∷ 0 ∷ 255 ∷ 255 ∷ []
 
-pub refused_sized : (size_of [] ≡ Err 21) × (size_of overlapping ≡ Err 22) × (size_of narrow ≡ Err 2) × ((replay_of narrow 24).refusal ≡ 22)
+abbrev pub narrow : List ℕ
+narrow = (8 ∷ 0 ∷ 18 ∷ 0 ∷ 8 ∷ 0 ∷ 50 ∷ 0 ∷ []) ++ narrow_cell ++ replicate 32 0
+
+pub refused_sized : (size_of [] ≡ Err 21) × (size_of overlapping ≡ Err 22) × (size_of narrow ≡ Err 2)
 unfolding replays
-refused_sized = (refl, refl, refl, refl)
+refused_sized = (refl, refl, refl)
+
+pub refused_replayed : (replay_of [] 0 ≡ refused_by 21) × (replay_of overlapping 24 ≡ refused_by 22) × (replay_of narrow 24 ≡ refused_by 2)
+unfolding replays
+refused_replayed = (refl, refl, refl)
+
+-- With N_RB 5 and a kind of 9, 2, where the replay is refused 22.
+abbrev pub narrow_unknown : List ℕ
+narrow_unknown = (8 ∷ 0 ∷ 18 ∷ 0 ∷ 8 ∷ 0 ∷ 50 ∷ 0 ∷ []) ++ narrow_cell ++ (9 ∷ []) ++ replicate 31 0
+
+pub narrow_unknown_sized : (size_of narrow_unknown ≡ Err 2) × (replay_of narrow_unknown 24 ≡ refused_by 22)
+unfolding replays
+narrow_unknown_sized = (refl, refl)

@@ -1,6 +1,7 @@
 -- What the statement of sizing/specs/Sizing.antt shuts out, field by field. For each field there is the sizing of this repository with
 -- a fault, and a proof that the statement does not hold of it. The proof asks the statement for this field; without the field it no
--- longer checks. That no other sizing meets the statement is proved too, in sizing/proofs/Only.antt.
+-- longer checks. Since no other sizing meets `refusals`, `done` and `alone` together (sizing/proofs/Only.antt), those for the other
+-- fields break one of these three too.
 --
 -- SizesReplays
 --   refusals   a kind over 3 is refused 22                                      not_looks_at_kinds
@@ -8,12 +9,14 @@
 --              no settings are refused                                          not_settings_free
 --   done       a window for each record                                         not_each_record
 --              the windows of whole frames alone                                not_whole_frames
---              no windows that are silent                                       not_heard_alone
 --              four bytes for a window                                          not_half_bytes
---   stopped    the windows before the refused record, but for the last          not_one_fewer
---   alone      the windows that the replay writes                               not_by_replay
---   lent       a window more                                                    not_one_more
+--   stopped    what the replay writes, with a window fewer where it is not all  not_window_fewer
+--              the same with its bytes alone fewer                              not_bytes_fewer
+--   alone      what the replay writes                                           not_by_replay
+--   enough     a window fewer                                                   not_one_fewer
+--   short      a window more                                                    not_one_more
 --   early      a trace with no records is refused 22                            not_refuses_empty
+--              settings are refused 1 whatever is wrong with them               not_one_number
 -- Assumes nothing.
 use Rattle.std.proofs.Common.{Result, Ok, Err}
 use Prim.Native.Nat.{ℕ, zero, suc, ◌<◌, ◌+◌, ◌-◌, ◌*◌, ◌/◌}
@@ -22,7 +25,7 @@ use mathlib.Core.List.{List, [], ◌∷◌, ◌++◌}
 use mathlib.Core.Path.{◌≡◌, refl, ap}
 use native.Mathlib.Nat.{not-suc-le-zero, le_of_suc-le-suc}
 use native.Mathlib.Omega.{arith}
-use lib.Dec.{eqb, lit<}
+use lib.Dec.{eqb, lit<, lit≤}
 use lib.ListN.{length, take, drop}
 use Rattle.frame.specs.Refusals.{unless_refused}
 use Rattle.frame.specs.Settings.{or_else, settings_refusal}
@@ -30,8 +33,8 @@ use Rattle.counting.specs.Windows.{windows_before}
 use Rattle.trace.specs.Trace.{byte_at, header_of, settings_of, parts_refusal, trace_refusal}
 use Rattle.sizing.specs.declared.ReplaySize.{ReplaySize}
 use Rattle.sizing.specs.Size.{size_refusal, windows_completed}
-use Rattle.sizing.specs.Sizing.{Sizing, written_by, SameHead, SizesReplays}
-use Rattle.recorded.proofs.Worked.{replays, settings, drive, stopped, unknown}
+use Rattle.sizing.specs.Sizing.{Sizing, size_written, SameHead, SizesReplays}
+use Rattle.recorded.proofs.Worked.{replays, settings, drive, stopped, unknown, narrow}
 
 -- Sizings with other refusals, and with other figures.
 abbrev refusing : (List ℕ → ℕ) → Sizing
@@ -62,10 +65,7 @@ pub not_settings_first : SizesReplays (refusing (λ l. or_else (settings_refusal
 unfolding replays
 not_settings_first s = omega (arith, s.refusals both)
 
--- No settings are refused: N_RB 5.
-abbrev narrow : List ℕ
-narrow = (0 ∷ 0 ∷ 18 ∷ 0 ∷ 8 ∷ 0 ∷ 18 ∷ 0 ∷ []) ++ (1 ∷ 5 ∷ 0 ∷ 1 ∷ 7 ∷ 0 ∷ 10 ∷ 0 ∷ 255 ∷ 255 ∷ [])
-
+-- No settings are refused.
 pub not_settings_free : SizesReplays (refusing parts_refusal) → ⊥
 unfolding replays
 not_settings_free s = omega (arith, s.refusals narrow)
@@ -75,15 +75,10 @@ pub not_each_record : SizesReplays (counting (λ l. (header_of l).records)) → 
 unfolding replays
 not_each_record s = omega (arith, ap windows_in (s.done drive 26 refl))
 
--- The windows of whole frames alone: eight records are none.
+-- The windows of whole frames alone: eight records make no frame.
 pub not_whole_frames : SizesReplays (counting (λ l. (header_of l).records / 10 * windows_before (settings_of l).config 10)) → ⊥
 unfolding replays
 not_whole_frames s = omega (arith, ap windows_in (s.done drive 26 refl))
-
--- No windows that are silent, as those of subframes 2 and 3 in the first frame.
-pub not_heard_alone : SizesReplays (counting (λ l. windows_completed l - 2)) → ⊥
-unfolding replays
-not_heard_alone s = omega (arith, ap windows_in (s.done drive 26 refl))
 
 -- Four bytes for a window.
 abbrev half_bytes : Sizing
@@ -93,18 +88,22 @@ pub not_half_bytes : SizesReplays half_bytes → ⊥
 unfolding replays
 not_half_bytes s = omega (arith, ap bytes_in (s.done drive 26 refl))
 
--- What the replay writes, and one window fewer where it stops at a record.
-abbrev one_fewer : Sizing
-one_fewer l =
-    unless_refused (size_refusal l)
-    (cond (eqb (written_by l).windows (windows_completed l)) (written_by l)
-    (record { windows = (written_by l).windows - 1; bytes = (written_by l).bytes - 8 }))
+-- What the replay writes, with a window fewer where it is not all.
+abbrev fewer : (ReplaySize → ReplaySize) → Sizing
+fewer less l = unless_refused (size_refusal l) (cond (eqb (size_written l).windows (windows_completed l)) (size_written l) (less (size_written l)))
 
-pub not_one_fewer : SizesReplays one_fewer → ⊥
+pub not_window_fewer : SizesReplays (fewer (λ z. record { windows = z.windows - 1; bytes = z.bytes })) → ⊥
 unfolding replays
-not_one_fewer s =
+not_window_fewer s =
     let p = s.stopped stopped 24 refl in
     omega (arith, ap windows_in p.1, p.2.windows)
+
+-- The same with its bytes alone fewer.
+pub not_bytes_fewer : SizesReplays (fewer (λ z. record { windows = z.windows; bytes = z.bytes - 8 })) → ⊥
+unfolding replays
+not_bytes_fewer s =
+    let p = s.stopped stopped 24 refl in
+    omega (arith, ap bytes_in p.1, p.2.bytes)
 
 -- What the replay writes, whether it stops or not: it depends on the records, which begin behind the first 18 bytes.
 front_same : (front l m : List ℕ) (i : ℕ) → i < length front → byte_at (front ++ l) i ≡ byte_at (front ++ m) i
@@ -119,16 +118,21 @@ same_head =
     record { size = refl; header = λ i h. front i (omega (arith, h.1)); settings = λ i h. front i h.1 }
 
 abbrev by_replay : Sizing
-by_replay l = unless_refused (size_refusal l) (written_by l)
+by_replay l = unless_refused (size_refusal l) (size_written l)
 
 pub not_by_replay : SizesReplays by_replay → ⊥
 unfolding replays
 not_by_replay s = omega (arith, ap windows_in (s.alone drive stopped same_head))
 
+-- A window fewer.
+pub not_one_fewer : SizesReplays (counting (λ l. windows_completed l - 1)) → ⊥
+unfolding replays
+not_one_fewer s = s.enough drive (record { windows = 2; bytes = 16 }) refl refl 16 (lit≤ tt) refl
+
 -- A window more.
 pub not_one_more : SizesReplays (counting (λ l. windows_completed l + 1)) → ⊥
 unfolding replays
-not_one_more s = omega (arith, ap (λ r. r.refusal) ((s.lent drive (record { windows = 4; bytes = 32 }) refl refl 24).1 (lit< tt)))
+not_one_more s = omega (arith, ap (λ r. r.refusal) (s.short drive (record { windows = 4; bytes = 32 }) refl refl 24 (lit< tt)))
 
 -- A trace with no records is refused 22.
 abbrev empty : List ℕ
@@ -136,4 +140,9 @@ empty = (0 ∷ 0 ∷ 18 ∷ 0 ∷ 8 ∷ 0 ∷ 18 ∷ 0 ∷ []) ++ settings
 
 pub not_refuses_empty : SizesReplays (refusing (λ l. or_else (size_refusal l) (cond (eqb (header_of l).records 0) 22 0))) → ⊥
 unfolding replays
-not_refuses_empty s = omega (arith, (s.early empty (λ e. omega (arith, e)) 0).0)
+not_refuses_empty s = omega (arith, ap (λ r. r.kind) (s.early empty (λ e. omega (arith, e)) 0))
+
+-- Settings are refused 1 whatever is wrong with them.
+pub not_one_number : SizesReplays (refusing (λ l. or_else (parts_refusal l) (cond (eqb (settings_refusal (settings_of l)) 0) 0 1))) → ⊥
+unfolding replays
+not_one_number s = omega (arith, ap (λ r. r.refusal) (s.early narrow (λ e. omega (arith, e)) 24))

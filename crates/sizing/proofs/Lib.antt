@@ -1,5 +1,6 @@
 pub mod Answered
 pub mod Head
 pub mod Only
-pub mod Quiet
+pub mod Parts
+pub mod Reached
 pub mod Sizing

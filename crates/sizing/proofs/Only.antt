@@ -9,8 +9,8 @@ use Rattle.frame.specs.Settings.{or_else, settings_refusal}
 use Rattle.trace.specs.Trace.{settings_of, parts_refusal}
 use Rattle.sizing.specs.declared.ReplaySize.{ReplaySize}
 use Rattle.sizing.specs.Size.{size_of}
-use Rattle.sizing.specs.Sizing.{Sizing, written_by, SizesReplays, Reached, Only}
-use Rattle.sizing.proofs.Quiet.{each_reached}
+use Rattle.sizing.specs.Sizing.{Sizing, size_written, SizesReplays, Reached, Only}
+use Rattle.sizing.proofs.Reached.{each_reached}
 use Rattle.sizing.proofs.Sizing.{sizes_replays}
 
 -- What is refused is refused by its number.
@@ -25,7 +25,7 @@ module _ (size : Sizing) (right : SizesReplays size) (other : Sizing) (too : Siz
       let m = q.0 in
       other_as other too m q.1 ∙ sym (other_as size right m q.1)
     where
-      other_as : (s : Sizing) → SizesReplays s → (m : List ℕ) → Reached l m → s l ≡ Ok (written_by m)
+      other_as : (s : Sizing) → SizesReplays s → (m : List ℕ) → Reached l m → s l ≡ Ok (size_written m)
       other_as s meets m r = meets.alone l m r.head ∙ meets.done m r.done.0 r.done.1
   same (suc k) some = refused_as (other l) k (too.refusals l ∙ some) ∙ sym (refused_as (size l) k (right.refusals l ∙ some))
 

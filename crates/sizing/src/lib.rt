@@ -16,7 +16,7 @@ pub struct ReplaySize {
     pub bytes: u32,
 }
 
-// 21, 22 for the parts of the trace, then the refusals of its settings. No record is looked at, its kind neither.
+// 21, 22 for the parts of the trace, then the refusals of its settings. No record is looked at, not even its kind.
 #[tactic(auto, using(frame::proofs::Refused::chain_refused, frame::proofs::Refused::first_accepted, frame::proofs::Refused::value_refused, frame::proofs::Refused::value_accepted), unfolding(crate::specs::Size::size_refusal, crate::specs::Size::figures_in, crate::specs::Size::size_of))]
 pub fn replay_size(trace: &[u8]) -> Result<ReplaySize, Refusal>
     ensures { numbered result ≡ size_of trace.now }

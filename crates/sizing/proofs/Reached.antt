@@ -32,35 +32,42 @@ use Rattle.replaying.proofs.Accepting.{accepted_exactly}
 use Rattle.sizing.specs.Sizing.{SameHead, Reached, EachReached}
 use Rattle.sizing.proofs.Head.{header_same, settings_same, parts_same}
 
--- The bytes of a list from byte i on, with 0 for those of a part.
-quieted : Part → ℕ → List ℕ → List ℕ
-quieted p i [] = []
-quieted p i (x ∷ xs) = cond (leb p.start i && ltb i p.end) 0 x ∷ quieted p (suc i) xs
+-- The bytes of a list from byte i on, with 0 for those in a part.
+cleared : Part → ℕ → List ℕ → List ℕ
+cleared p i [] = []
+cleared p i (x ∷ xs) = cond (leb p.start i && ltb i p.end) 0 x ∷ cleared p (suc i) xs
 
-quieted_length : (p : Part) (i : ℕ) (l : List ℕ) → length (quieted p i l) ≡ length l
-unfolding quieted
-quieted_length p i [] = refl
-quieted_length p i (x ∷ xs) = ap suc (quieted_length p (suc i) xs)
+cleared_length : (p : Part) (i : ℕ) (l : List ℕ) → length (cleared p i l) ≡ length l
+unfolding cleared
+cleared_length p i [] = refl
+cleared_length p i (x ∷ xs) = ap suc (cleared_length p (suc i) xs)
 
 either_zero : (b : Bool) → ◌≡◌ {A = ℕ} 0 (cond b 0 0)
 either_zero true = refl
 either_zero false = refl
 
-quieted_at : (p : Part) (i : ℕ) (l : List ℕ) (j : ℕ) → byte_at (quieted p i l) j ≡ cond (leb p.start (i + j) && ltb (i + j) p.end) 0 (byte_at l j)
-unfolding quieted
-quieted_at p i [] j = either_zero (leb p.start (i + j) && ltb (i + j) p.end)
-quieted_at p i (x ∷ xs) zero = rw (add-zero i)
-quieted_at p i (x ∷ xs) (suc j) =
+cleared_at : (p : Part) (i : ℕ) (l : List ℕ) (j : ℕ) → byte_at (cleared p i l) j ≡ cond (leb p.start (i + j) && ltb (i + j) p.end) 0 (byte_at l j)
+unfolding cleared
+cleared_at p i [] j = either_zero (leb p.start (i + j) && ltb (i + j) p.end)
+cleared_at p i (x ∷ xs) zero = rw (add-zero i)
+cleared_at p i (x ∷ xs) (suc j) =
     let on : i + suc j ≡ suc i + j = omega arith in
-    rw on (quieted_at p (suc i) xs j)
+    rw on (cleared_at p (suc i) xs j)
+
+either_least : (b : Bool) (x : ℕ) → cond b 0 x ≤ x
+either_least true x = omega arith
+either_least false x = le_refl x
 
 module _ (p : Part) (l : List ℕ) (j : ℕ) where
-  -- In the part each byte is 0; others stay.
-  zero_inside : Holds p j → byte_at (quieted p 0 l) j ≡ 0
-  zero_inside h = quieted_at p 0 l j ∙ rw (le-leb p.start (0 + j) (omega (arith, h.0)), lt-ltb (0 + j) p.end (omega (arith, h.1)))
+  no_more : byte_at (cleared p 0 l) j ≤ byte_at l j
+  no_more = rw (cleared_at p 0 l j) (either_least (leb p.start (0 + j) && ltb (0 + j) p.end) (byte_at l j))
 
-  same_outside : (Holds p j → ⊥) → byte_at l j ≡ byte_at (quieted p 0 l) j
-  same_outside h = sym (quieted_at p 0 l j ∙ go (leb p.start (0 + j) && ltb (0 + j) p.end) refl)
+  -- In the part each byte is 0; others stay.
+  zero_inside : Holds p j → byte_at (cleared p 0 l) j ≡ 0
+  zero_inside h = cleared_at p 0 l j ∙ rw (le-leb p.start (0 + j) (omega (arith, h.0)), lt-ltb (0 + j) p.end (omega (arith, h.1)))
+
+  same_outside : (Holds p j → ⊥) → byte_at l j ≡ byte_at (cleared p 0 l) j
+  same_outside h = sym (cleared_at p 0 l j ∙ go (leb p.start (0 + j) && ltb (0 + j) p.end) refl)
     where
       go : (b : Bool) → (leb p.start (0 + j) && ltb (0 + j) p.end) ≡ b → cond b 0 (byte_at l j) ≡ byte_at l j
       go false e = refl
@@ -69,12 +76,12 @@ module _ (p : Part) (l : List ℕ) (j : ℕ) where
           absurd (h (omega (arith, leb-true p.start (0 + j) q.0), omega (arith, ltb-true (0 + j) p.end q.1)))
 
 -- A handset that has heard nothing, at subframe n.
-abbrev waiting : Settings → ℕ → Handset
-waiting s n = record { settings = s; next = n; modes = modes_before s.mode; past = memory [] }
+abbrev nothing_heard : Settings → ℕ → Handset
+nothing_heard s n = record { settings = s; next = n; modes = modes_before s.mode; past = memory [] }
 
-nothing_sound : (s : Settings) (n : ℕ) → all_sound s n (memory []) ≡ true
+none_sound : (s : Settings) (n : ℕ) → all_sound s n (memory []) ≡ true
 unfolding all_sound slot_sound cause_of heard_refusal second_refusal heard_in
-nothing_sound s n = refl
+none_sound s n = refl
 
 -- Nothing more leaves it so, in the next subframe.
 modes_stay : (m : ℕ) → m ≤ 1 → modes_pushed (modes_before m) m ≡ modes_before m
@@ -92,12 +99,12 @@ module _ (s : Settings) (good : settings_refusal s ≡ 0) where
   modes_good (suc zero) e = rw (e, mode_allowed s good)
   modes_good (suc (suc m)) e = absurd (omega (arith, low, e))
 
-  nothing_fed : (n : ℕ) → n ≤ 9 → feed_of (waiting s n) Nothing ≡ record { answer = Ok (next_answer (waiting s n)); handset = waiting s ((n + 1) % 10) }
+  nothing_fed : (n : ℕ) → n ≤ 9 → feed_of (nothing_heard s n) Nothing ≡ record { answer = Ok (next_answer (nothing_heard s n)); handset = nothing_heard s ((n + 1) % 10) }
   unfolding feed_of feed_refusal state_refusal state_sound cause_of heard_refusal second_refusal pushed slot_of
-  nothing_fed n h = rw (good, le-leb n 9 h, modes_good s.mode refl, nothing_sound s n, modes_stay s.mode low)
+  nothing_fed n h = rw (good, le-leb n 9 h, modes_good s.mode refl, none_sound s n, modes_stay s.mode low)
 
   nothing_played : (l : List ℕ) (i count : ℕ) → ((j : ℕ) → i ≤ j → j < i + count → brought_at l j ≡ Nothing)
-      → (played (waiting s (i % 10)) i (brought_from l i count)).refusal ≡ 0
+      → (played (nothing_heard s (i % 10)) i (brought_from l i count)).refusal ≡ 0
   unfolding played
   nothing_played l i zero h = refl
   nothing_played l i (suc count) h =
@@ -105,47 +112,54 @@ module _ (s : Settings) (good : settings_refusal s ≡ 0) where
       rw (h i (le_refl i) (omega arith), nothing_fed (i % 10) (omega arith), next) (nothing_played l (suc i) count (λ j from to. h j (omega arith) (omega arith)))
 
 module _ (l : List ℕ) (parts : parts_refusal l ≡ 0) (good : settings_refusal (settings_of l) ≡ 0) where
-  abbrev quiet : List ℕ
-  quiet = quieted (records_part (header_of l)) 0 l
+  -- The trace with 0 for all bytes of its records.
+  abbrev emptied : List ℕ
+  emptied = cleared (records_part (header_of l)) 0 l
 
-  head : SameHead l quiet
+  head : SameHead l emptied
   head =
       let fit = ((exactly l).parts.0 parts).1 in
       record {
-        size = sym (quieted_length (records_part (header_of l)) 0 l);
+        size = sym (cleared_length (records_part (header_of l)) 0 l);
         header = λ i h. same_outside (records_part (header_of l)) l i (λ r. fit.header_records i h r);
         settings = λ i h. same_outside (records_part (header_of l)) l i (λ r. fit.settings_records i h r);
       }
 
   -- The kind of each record is 0.
-  kind : (i : ℕ) → i < (header_of l).records → byte_at quiet (place_of (header_of quiet).first i) ≡ 0
-  kind i h = rw (← header_same l quiet head) (zero_inside (records_part (header_of l)) l (place_of (header_of l).first i) (omega arith, omega arith))
+  kind : (i : ℕ) → i < (header_of l).records → byte_at emptied (place_of (header_of emptied).first i) ≡ 0
+  kind i h = rw (← header_same l emptied head) (zero_inside (records_part (header_of l)) l (place_of (header_of l).first i) (omega arith, omega arith))
 
-  known : trace_refusal quiet ≡ 0
+  known : trace_refusal emptied ≡ 0
   known =
-      let e = exactly quiet in
-      let p = e.parts.0 (sym (parts_same l quiet head) ∙ parts) in
-      e.none.1 (p.0, p.1, λ i h. rw (kind i (rw (← header_same l quiet head) at h)) (omega arith))
+      let e = exactly emptied in
+      let p = e.parts.0 (sym (parts_same l emptied head) ∙ parts) in
+      e.none.1 (p.0, p.1, λ i h. rw (kind i (rw (← header_same l emptied head) at h)) (omega arith))
 
-  brought : (i : ℕ) → i < (header_of l).records → brought_at quiet i ≡ Nothing
+  brought : (i : ℕ) → i < (header_of l).records → brought_at emptied i ≡ Nothing
   unfolding brought_at brought_by record_slot slot_at used_in heard_in
   brought i h = rw (kind i h)
 
-  accepted : AcceptedTrace quiet
+  accepted : AcceptedTrace emptied
   unfolding played_in brought_in make_of fresh
   accepted =
-      let same = settings_same l quiet head in
-      let size : (header_of quiet).records ≡ (header_of l).records = ap (λ h. h.records) (sym (header_same l quiet head)) in
+      let same = settings_same l emptied head in
+      let size : (header_of emptied).records ≡ (header_of l).records = ap (λ h. h.records) (sym (header_same l emptied head)) in
       record {
         trace = known;
         settings = rw (← same) good;
-        records = rw (← same, good) (nothing_played (settings_of l) good quiet 0 (header_of quiet).records (λ j from to. brought j (omega (arith, to, size))));
+        records = rw (← same, good) (nothing_played (settings_of l) good emptied 0 (header_of emptied).records (λ j from to. brought j (omega (arith, to, size))));
       }
 
-  reached : Reached l quiet
-  reached = record { head = head; done = (output_needed quiet, (accepted_exactly quiet).0 accepted (output_needed quiet) (le_refl (output_needed quiet))) }
+  reached : Reached l emptied
+  reached =
+      record {
+        head = head;
+        bytes = no_more (records_part (header_of l)) l;
+        nothing = λ i h. brought i (rw (← header_same l emptied head) at h);
+        done = (output_needed emptied, (accepted_exactly emptied).0 accepted (output_needed emptied) (le_refl (output_needed emptied)));
+      }
 
 pub each_reached : EachReached
 each_reached l none =
     let p = neither (parts_refusal l) (settings_refusal (settings_of l)) none in
-    (quieted (records_part (header_of l)) 0 l, reached l p.0 p.1)
+    (cleared (records_part (header_of l)) 0 l, reached l p.0 p.1)
