@@ -40,8 +40,8 @@ use Rattle.recorded.proofs.Worked.{replays, settings, drive, stopped, unknown, n
 abbrev refusing : (List ℕ → ℕ) → Sizing
 refusing refusal l = unless_refused (refusal l) (record { windows = windows_completed l; bytes = 8 * windows_completed l })
 
-abbrev counting : (List ℕ → ℕ) → Sizing
-counting windows l = unless_refused (size_refusal l) (record { windows = windows l; bytes = 8 * windows l })
+abbrev with_windows : (List ℕ → ℕ) → Sizing
+with_windows windows l = unless_refused (size_refusal l) (record { windows = windows l; bytes = 8 * windows l })
 
 -- The two figures, 0 where there are none.
 abbrev windows_in : Result ReplaySize ℕ → ℕ
@@ -71,12 +71,12 @@ unfolding replays
 not_settings_free s = omega (arith, s.refusals narrow)
 
 -- A window for each record.
-pub not_each_record : SizesReplays (counting (λ l. (header_of l).records)) → ⊥
+pub not_each_record : SizesReplays (with_windows (λ l. (header_of l).records)) → ⊥
 unfolding replays
 not_each_record s = omega (arith, ap windows_in (s.done drive 26 refl))
 
 -- The windows of whole frames alone: eight records make no frame.
-pub not_whole_frames : SizesReplays (counting (λ l. (header_of l).records / 10 * windows_before (settings_of l).config 10)) → ⊥
+pub not_whole_frames : SizesReplays (with_windows (λ l. (header_of l).records / 10 * windows_before (settings_of l).config 10)) → ⊥
 unfolding replays
 not_whole_frames s = omega (arith, ap windows_in (s.done drive 26 refl))
 
@@ -125,12 +125,12 @@ unfolding replays
 not_by_replay s = omega (arith, ap windows_in (s.alone drive stopped same_head))
 
 -- A window fewer.
-pub not_one_fewer : SizesReplays (counting (λ l. windows_completed l - 1)) → ⊥
+pub not_one_fewer : SizesReplays (with_windows (λ l. windows_completed l - 1)) → ⊥
 unfolding replays
 not_one_fewer s = s.enough drive (record { windows = 2; bytes = 16 }) refl refl 16 (lit≤ tt) refl
 
 -- A window more.
-pub not_one_more : SizesReplays (counting (λ l. windows_completed l + 1)) → ⊥
+pub not_one_more : SizesReplays (with_windows (λ l. windows_completed l + 1)) → ⊥
 unfolding replays
 not_one_more s = omega (arith, ap (λ r. r.refusal) (s.short drive (record { windows = 4; bytes = 32 }) refl refl 24 (lit< tt)))
 

@@ -83,7 +83,7 @@ none_sound : (s : Settings) (n : ℕ) → all_sound s n (memory []) ≡ true
 unfolding all_sound slot_sound cause_of heard_refusal second_refusal heard_in
 none_sound s n = refl
 
--- Nothing more leaves it so, in the next subframe.
+-- The mode that stands, pushed on modes that are all the same, leaves them so.
 modes_stay : (m : ℕ) → m ≤ 1 → modes_pushed (modes_before m) m ≡ modes_before m
 modes_stay zero h = refl
 modes_stay (suc zero) h = refl
@@ -99,6 +99,7 @@ module _ (s : Settings) (good : settings_refusal s ≡ 0) where
   modes_good (suc zero) e = rw (e, mode_allowed s good)
   modes_good (suc (suc m)) e = absurd (omega (arith, low, e))
 
+  -- Nothing more leaves it so, in the next subframe.
   nothing_fed : (n : ℕ) → n ≤ 9 → feed_of (nothing_heard s n) Nothing ≡ record { answer = Ok (next_answer (nothing_heard s n)); handset = nothing_heard s ((n + 1) % 10) }
   unfolding feed_of feed_refusal state_refusal state_sound cause_of heard_refusal second_refusal pushed slot_of
   nothing_fed n h = rw (good, le-leb n 9 h, modes_good s.mode refl, none_sound s n, modes_stay s.mode low)

@@ -53,7 +53,7 @@ refused_early zero true (suc k) t x some = refl
 refused_early zero false k t x some = refl
 refused_early (suc p) b k t x some = refl
 
--- With room for it a replay of an accepted trace comes to its records.
+-- A replay that came to its records is done or stopped.
 goes_on : (b : Bool) → ◌≡◌ {A = ℕ} (cond b 1 2) 0 → ⊥
 goes_on true e = omega arith
 goes_on false e = omega arith

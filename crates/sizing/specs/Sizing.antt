@@ -21,7 +21,8 @@ use Rattle.sizing.specs.declared.ReplaySize.{ReplaySize}
 abbrev pub Sizing : Type 0
 Sizing = List ℕ → Result ReplaySize ℕ
 
--- The windows that feeds answer, with silence or a reply, where `more` come after the first feed: none from one on that is refused.
+-- The windows that feeds answer, with silence or a reply, where `more` come after the first feed; a refused feed and all after it
+-- answer none.
 abbrev pub with_answer : Result Answer ℕ → ℕ → ℕ
 with_answer (Ok Silent) more = suc more
 with_answer (Ok (Sent r)) more = suc more
@@ -71,7 +72,8 @@ pub record SizesReplays (size : Sizing) : Type 0 where
   -- refused 23
   pub enough : (l : List ℕ) (z : ReplaySize) → size l ≡ Ok z → trace_refusal l ≡ 0 → (room : ℕ) → z.bytes ≤ room → (replay_of l room).kind ≡ replay_refused → ⊥
   pub short : (l : List ℕ) (z : ReplaySize) → size l ≡ Ok z → trace_refusal l ≡ 0 → (room : ℕ) → room < z.bytes → replay_of l room ≡ refused_by 23
-  -- what is refused here is refused by the replay before any record, by 22 if it is for a kind over 3, else by the same number
+  -- what is refused here is refused by the replay before any record, by 22 if the replay refuses it for a kind over 3, else by the same
+  -- number
   pub early : (l : List ℕ) → (number_in (size l) ≡ 0 → ⊥) → (room : ℕ) → replay_of l room ≡ refused_by (or_else (trace_refusal l) (number_in (size l)))
 
 -- 21 and 22 of the parts are given for their causes, whatever the kinds.
@@ -90,8 +92,8 @@ pub record ShowsSize (l old : List ℕ) : Type 0 where
 abbrev pub EachShown : Type 0
 EachShown = (l old : List ℕ) → ((replay_of l (length old)).kind ≡ replay_refused → ⊥) → ShowsSize l old
 
--- No smaller figures would do, whatever the header and the settings: a trace with the same, whose records bring nothing and whose bytes
--- are those of the first or 0, is replayed to its end, so that it writes as much.
+-- No smaller figures would do, whatever header and settings that are not refused: a trace with the same, whose records bring nothing, is
+-- replayed to its end, so that it writes as much. None of its bytes is greater than the first's, so it is bytes where that is.
 pub record Reached (l m : List ℕ) : Type 0 where
   pub head : SameHead l m
   pub bytes : (i : ℕ) → byte_at m i ≤ byte_at l i
