@@ -34,7 +34,6 @@ parts_refused l =
         λ e. (right e, λ fit. absurd (omega (arith, e, whole.parts.1 (right e, fit)))),
         λ r. one_of (parts_refusal l) kinds whole.no_other (λ e. r.1 (whole.parts.0 e).1) (λ e. whole.twenty_one.0 (first.1 e) r.0),
       );
-      none = whole.parts;
     }
   where
     kinds : Bool

@@ -29,8 +29,10 @@ use Rattle.reader.specs.Record.{slot_at, used_in, brought_by, record_slot, broug
 use Rattle.replaying.specs.Accepted.{AcceptedTrace}
 use Rattle.replaying.specs.Replay.{brought_from, brought_in, played, played_in, output_needed}
 use Rattle.replaying.proofs.Accepting.{accepted_exactly}
+use Rattle.sizing.specs.Size.{size_of}
 use Rattle.sizing.specs.Sizing.{SameHead, Reached, EachReached}
 use Rattle.sizing.proofs.Head.{header_same, settings_same, parts_same}
+use Rattle.sizing.proofs.Sizing.{sizes_replays}
 
 -- The bytes of a list from byte i on, with 0 for those in a part.
 cleared : Part → ℕ → List ℕ → List ℕ
@@ -160,7 +162,7 @@ module _ (l : List ℕ) (parts : parts_refusal l ≡ 0) (good : settings_refusal
         done = (output_needed emptied, (accepted_exactly emptied).0 accepted (output_needed emptied) (le_refl (output_needed emptied)));
       }
 
-pub each_reached : EachReached
+pub each_reached : EachReached size_of
 each_reached l none =
-    let p = neither (parts_refusal l) (settings_refusal (settings_of l)) none in
+    let p = neither (parts_refusal l) (settings_refusal (settings_of l)) (sym (sizes_replays.refusals l) ∙ none) in
     (cleared (records_part (header_of l)) 0 l, reached l p.0 p.1)

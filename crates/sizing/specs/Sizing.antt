@@ -76,11 +76,11 @@ pub record SizesReplays (size : Sizing) : Type 0 where
   -- number
   pub early : (l : List ℕ) → (number_in (size l) ≡ 0 → ⊥) → (room : ℕ) → replay_of l room ≡ refused_by (or_else (trace_refusal l) (number_in (size l)))
 
--- 21 and 22 of the parts are given for their causes, whatever the kinds.
+-- 21 and 22 of the parts are given for their causes, whatever the kinds; that neither is, `RefusedExactly.parts` says
+-- (trace/specs/Exactly.antt).
 pub record PartsRefused (l : List ℕ) : Type 0 where
   pub twenty_one : (parts_refusal l ≡ 21) ↔ (RightLength l → ⊥)
   pub twenty_two : (parts_refusal l ≡ 22) ↔ (RightLength l × (PartsFit (header_of l) → ⊥))
-  pub none : (parts_refusal l ≡ 0) ↔ (RightLength l × PartsFit (header_of l))
 
 -- `size_written` is what a replay tells that is not refused before its records, and what its output shows: so many windows, eight bytes
 -- for each of them, and those bytes over the first of the output.
@@ -100,8 +100,8 @@ pub record Reached (l m : List ℕ) : Type 0 where
   pub nothing : (i : ℕ) → i < (header_of m).records → brought_at m i ≡ Nothing
   pub done : (room : ℕ) × ((replay_of m room).kind ≡ replay_done)
 
-abbrev pub EachReached : Type 0
-EachReached = (l : List ℕ) → or_else (parts_refusal l) (settings_refusal (settings_of l)) ≡ 0 → (m : List ℕ) × Reached l m
+abbrev pub EachReached : Sizing → Type 0
+EachReached size = (l : List ℕ) → number_in (size l) ≡ 0 → (m : List ℕ) × Reached l m
 
 -- So a sizing that meets the statement is this one, on every list.
 abbrev pub Only : Sizing → Type 0
