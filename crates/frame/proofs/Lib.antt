@@ -9,8 +9,9 @@ pub mod Distances
 pub mod Earliest
 pub mod Hex
 pub mod Layouts
-pub mod Lookups
+pub mod Letters
 pub mod Lists
+pub mod Lookups
 pub mod OnePort
 pub mod Orders
 pub mod Ports

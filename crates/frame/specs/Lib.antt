@@ -2,6 +2,7 @@ pub mod Coded
 pub mod Distance
 pub mod Earliest
 pub mod Layout
+pub mod Letters
 pub mod Once
 pub mod Order
 pub mod Refusals

@@ -2,6 +2,7 @@
 #![tactic(auto)]
 
 mod answering;
+mod backward;
 mod digits;
 mod refusal;
 mod refusals;
@@ -10,7 +11,9 @@ mod table;
 mod window;
 
 pub use answering::{before, shares_window};
+pub use backward::letters_before;
 pub use refusal::Refusal;
+pub use special::no_pdsch;
 pub use table::{earliest_k_of, is_downlink, is_special, order_of, size_of, window_of};
 pub use window::Window;
 

@@ -10,7 +10,7 @@ use crate::{Refusal, Settings};
 
 // The special configuration allows no PDSCH: 0 and 5 with the normal prefix, 0 and 4 with the extended one.
 #[tactic(auto, unfolding(crate::specs::Special::no_pdsch))]
-fn no_pdsch(prefix: u16, special: u16) -> bool
+pub fn no_pdsch(prefix: u16, special: u16) -> bool
     ensures { result ≡ no_pdsch prefix special }
 {
     let normal = (special == 0) | (special == 5);

@@ -1,21 +1,23 @@
--- The check of what is remembered, slot by slot: each is valid by itself, and a scheduled block is no second one.
+-- The check of what is remembered: every slot is valid by itself, and no scheduled block is a second one.
 -- Assumes nothing.
 use Prim.Native.Nat.{ℕ, zero, suc, ◌+◌, ◌<◌, ◌≤◌}
-use mathlib.Core.Bool.{Bool, true, false, cond, not, ◌&&◌, and-true, and-false, and_assoc}
-use mathlib.Core.List.{List}
-use mathlib.Core.Path.{◌≡◌, refl, sym, ◌∙◌}
+use mathlib.Core.Bool.{Bool, true, false, cond, not, ◌&&◌, ◌||◌, and-true, or-false, and_assoc}
+use mathlib.Core.List.{List, [], ◌∷◌, ◌++◌}
+use mathlib.Core.Path.{◌≡◌, refl, sym, ap, ◌∙◌}
 use native.Mathlib.Numerals.{add-one}
+use native.Mathlib.Omega.{arith}
 use lib.Dec.{eqb, leb, eqb-suc-zero}
-use lib.ListN.{length, get_or, drop, drop_of_length-le}
+use lib.ListN.{length, get_or, drop, drop_of_length-le, length-append}
 use lib.Seq.{drop-cons}
 use borrow.Author.Tests.{eq-eqb, ne_eqb}
 use Rattle.frame.specs.declared.Settings.{Settings}
+use Rattle.frame.specs.Distance.{before}
 use Rattle.frame.specs.Settings.{or_else}
 use Rattle.heard.specs.declared.Slot.{Slot}
 use Rattle.heard.specs.Heard.{heard_refusal, block_before, second_refusal, cause_of}
 use Rattle.heard.specs.Memory.{none, heard_in, block_ago}
 use Rattle.heard.proofs.Remembered.{kind_block}
-use Rattle.handset.specs.Checked.{slot_valid}
+use Rattle.handset.specs.Checked.{slot_valid, all_valid, any_block, blocks_apart}
 use Rattle.handset.specs.Sound.{slot_sound, previous, all_sound}
 
 -- A slot is sound where it is valid by itself, and is no scheduled block or the first one heard in its window.
@@ -31,39 +33,123 @@ sound_parts s n older t =
     go true zero false = refl
     go true (suc r) b = rw (eqb-suc-zero r)
 
--- The slots before i are sound if `valid` says so, and n is the subframe that the slot before i was fed in.
-module _ (s : Settings) (next : ℕ) (past : List Slot) (n i : ℕ) (valid : Bool) (before : all_sound s next past ≡ (valid && all_sound s n (drop i past))) where
-  one_more : i < length past
-      → all_sound s next past ≡ (valid && (slot_sound s (previous n) (drop (i + 1) past) (get_or past i none) && all_sound s (previous n) (drop (i + 1) past)))
-  unfolding all_sound
-  one_more h = before ∙ rw (add-one, drop-cons past i none h)
+two_by_two : (a b c d : Bool) → ((a && b) && (c && d)) ≡ ((a && c) && (b && d))
+two_by_two false b c d = refl
+two_by_two true false false d = refl
+two_by_two true false true d = refl
+two_by_two true true c d = refl
 
-  -- Slot i, fed in subframe p, is valid by itself if `b` says so.
-  module _ (h : i < length past) (p : ℕ) (fed : p ≡ previous n) (b : Bool) (tested : b ≡ slot_valid s p (get_or past i none)) where
-    in_parts : (second : Bool) → (eqb (get_or past i none).kind 2 && block_before 13 s.config p (block_ago (drop (i + 1) past))) ≡ second
-        → all_sound s next past ≡ ((valid && (b && not second)) && all_sound s p (drop (i + 1) past))
-    in_parts second e =
-        one_more h
-        ∙ rw (← fed, sound_parts s p (drop (i + 1) past) (get_or past i none), ← tested, e)
-        (sym (and_assoc valid (b && not second) (all_sound s p (drop (i + 1) past))))
+-- What is remembered is sound where every slot is valid and no block is a second one.
+sound_apart : (s : Settings) (n : ℕ) (past : List Slot) → all_sound s n past ≡ (all_valid s n past && blocks_apart s.config n past)
+unfolding all_sound all_valid blocks_apart
+sound_apart s n [] = refl
+sound_apart s n (t ∷ ts) =
+    rw (sound_parts s (previous n) ts t, sound_apart s (previous n) ts)
+    (two_by_two (slot_valid s (previous n) t) (not (eqb t.kind 2 && block_before 13 s.config (previous n) (block_ago ts))) (all_valid s (previous n) ts) (blocks_apart s.config (previous n) ts))
 
-    -- It is no second block: no block, or the first one of its window.
-    first_block : (eqb (get_or past i none).kind 2 && block_before 13 s.config p (block_ago (drop (i + 1) past))) ≡ false
-        → all_sound s next past ≡ ((valid && b) && all_sound s p (drop (i + 1) past))
-    first_block e = in_parts false e ∙ rw (and-true b)
+-- Without a scheduled block none is a second one.
+none_apart : (c n : ℕ) (past : List Slot) → any_block past ≡ false → blocks_apart c n past ≡ true
+unfolding any_block blocks_apart
+none_apart c n [] e = refl
+none_apart c n (t ∷ ts) e = go (eqb t.kind 2) e (λ h. none_apart c (previous n) ts h)
+  where
+    go : (b : Bool) → (b || any_block ts) ≡ false → (any_block ts ≡ false → blocks_apart c (previous n) ts ≡ true)
+        → (not (b && block_before 13 c (previous n) (block_ago ts)) && blocks_apart c (previous n) ts) ≡ true
+    go true h rest = absurd (cc)
+    go false h rest = rest h
 
-    pub sound_other : ((get_or past i none).kind ≡ 2 → ⊥) → all_sound s next past ≡ ((valid && b) && all_sound s p (drop (i + 1) past))
-    sound_other other = first_block (rw (ne_eqb (get_or past i none).kind 2 other))
+-- Slots of nothing behind them change nothing.
+abbrev pub nothings : List Slot
+nothings = none ∷ none ∷ none ∷ []
 
-    module _ (block : (get_or past i none).kind ≡ 2) (found : Bool) (asked : found ≡ block_before 13 s.config p (block_ago (drop (i + 1) past))) where
-      pub sound_first : found ≡ false → all_sound s next past ≡ ((valid && b) && all_sound s p (drop (i + 1) past))
-      sound_first e = first_block (rw (eq-eqb (get_or past i none).kind 2 block, ← asked, e))
+valid_padded : (s : Settings) (n : ℕ) (past : List Slot) → all_valid s n (past ++ nothings) ≡ all_valid s n past
+unfolding all_valid slot_valid heard_in heard_refusal
+valid_padded s n [] = refl
+valid_padded s n (t ∷ ts) = rw (valid_padded s (previous n) ts)
 
-      pub sound_second : found ≡ true → false ≡ all_sound s next past
-      sound_second e =
-          sym (in_parts true (rw (eq-eqb (get_or past i none).kind 2 block, ← asked, e)) ∙ rw (and-false b, and-false valid))
+block_padded : (past : List Slot) → any_block (past ++ nothings) ≡ any_block past
+unfolding any_block
+block_padded [] = refl
+block_padded (t ∷ ts) = rw (block_padded ts)
 
-  -- No slot is left.
-  pub sound_end : (size : ℕ) → length past ≡ size → size ≤ i → valid ≡ all_sound s next past
-  unfolding all_sound
-  sound_end size e h = sym (before ∙ rw (drop_of_length-le past {i = i} (rw e h)) (and-true valid))
+-- One slot more of a loop over them.
+next_slot : (slots : List Slot) (i : ℕ) → i < length slots → drop i slots ≡ get_or slots i none ∷ drop (i + 1) slots
+next_slot slots i h = rw add-one (drop-cons slots i none h)
+
+module _ (s : Settings) (next : ℕ) (slots : List Slot) (i : ℕ) (h : i < length slots) where
+  pub valid_more : (valid b : Bool) → all_valid s next slots ≡ (valid && all_valid s (before next i) (drop i slots))
+      → (given : Settings) → given ≡ s → b ≡ slot_valid given (before next (i + 1)) (get_or slots i none)
+      → all_valid s next slots ≡ ((valid && b) && all_valid s (before next (i + 1)) (drop (i + 1) slots))
+  unfolding all_valid
+  valid_more valid b e given same told =
+      let back : previous (before next i) ≡ before next (i + 1) = omega arith in
+      let tested : b ≡ slot_valid s (before next (i + 1)) (get_or slots i none) = rw same at told in
+      e ∙ rw (next_slot slots i h, back, ← tested) (sym (and_assoc valid b (all_valid s (before next (i + 1)) (drop (i + 1) slots))))
+
+module _ (slots : List Slot) (i : ℕ) (h : i < length slots) where
+  pub block_more : (block : Bool) → any_block slots ≡ (block || any_block (drop i slots))
+      → any_block slots ≡ ((block || eqb (get_or slots i none).kind 2) || any_block (drop (i + 1) slots))
+  unfolding any_block
+  block_more block e = e ∙ rw (next_slot slots i h) (go block (eqb (get_or slots i none).kind 2) (any_block (drop (i + 1) slots)))
+    where
+      go : (a b c : Bool) → (a || (b || c)) ≡ ((a || b) || c)
+      go true b c = refl
+      go false b c = refl
+
+-- After the loop over the 13 slots and the three of nothing behind them.
+module _ (past : List Slot) (slots : List Slot) (padded : slots ≡ past ++ nothings) (i : ℕ) (done : length slots ≤ i) where
+  pub valid_told : (s : Settings) (next : ℕ) (valid : Bool) → all_valid s next slots ≡ (valid && all_valid s (before next i) (drop i slots))
+      → all_valid s next past ≡ valid
+  unfolding all_valid
+  valid_told s next valid e =
+      sym (valid_padded s next past) ∙ ap (all_valid s next) (sym padded) ∙ e ∙ rw (drop_of_length-le slots {i = i} done) (and-true valid)
+
+  pub block_told : (block : Bool) → any_block slots ≡ (block || any_block (drop i slots)) → any_block past ≡ block
+  unfolding any_block
+  block_told block e = sym (block_padded past) ∙ ap any_block (sym padded) ∙ e ∙ rw (drop_of_length-le slots {i = i} done) (or-false block)
+
+pub sixteen : (past : List Slot) (t : Slot) → length past ≡ 13 → length (past ++ t ∷ t ∷ t ∷ []) ≡ 16
+sixteen past t e = length-append past (t ∷ t ∷ t ∷ []) ∙ rw e refl
+
+none_of : (kind cce dai results : ℕ) → kind ≡ 0 → cce ≡ 0 → dai ≡ 0 → results ≡ 0
+    → ◌≡◌ {A = Slot} (record { kind = kind; cce = cce; dai = dai; results = results }) none
+none_of kind cce dai results a b c d = rw (a, b, c, d) refl
+
+pub behind : (past own : List Slot) (t : Slot) → own ≡ past → (t.kind ≡ 0) × ((t.cce ≡ 0) × ((t.dai ≡ 0) × (t.results ≡ 0)))
+    → own ++ t ∷ t ∷ t ∷ [] ≡ past ++ nothings
+behind past own t e f =
+    let empty : t ≡ none = none_of t.kind t.cce t.dai t.results f.0 f.1.0 f.1.1.0 f.1.1.1 in
+    rw (e, empty) refl
+
+-- What a state that remembers this comes to.
+module _ (s : Settings) (n : ℕ) (past : List Slot) where
+  pub sound_blockless : all_valid s n past ≡ true → any_block past ≡ false → true ≡ all_sound s n past
+  sound_blockless e f = sym (sound_apart s n past ∙ rw (e, none_apart s.config n past f) refl)
+
+  pub sound_searched : all_valid s n past ≡ true → (apart : Bool) → apart ≡ blocks_apart s.config n past → apart ≡ all_sound s n past
+  sound_searched e apart f = f ∙ sym (sound_apart s n past ∙ rw e refl)
+
+  pub sound_invalid : all_valid s n past ≡ false → false ≡ all_sound s n past
+  sound_invalid e = sym (sound_apart s n past ∙ rw e refl)
+
+-- One slot more of the search for a second block.
+module _ (c next n : ℕ) (past : List Slot) (i : ℕ) (start : blocks_apart c next past ≡ blocks_apart c n (drop i past)) where
+  module _ (h : i < length past) (p : ℕ) (fed : p ≡ previous n) where
+    in_parts : (second : Bool) → (eqb (get_or past i none).kind 2 && block_before 13 c p (block_ago (drop (i + 1) past))) ≡ second
+        → blocks_apart c next past ≡ (not second && blocks_apart c p (drop (i + 1) past))
+    unfolding blocks_apart
+    in_parts second e = start ∙ rw (next_slot past i h, ← fed, e)
+
+    pub apart_other : ((get_or past i none).kind ≡ 2 → ⊥) → blocks_apart c next past ≡ blocks_apart c p (drop (i + 1) past)
+    apart_other other = in_parts false (rw (ne_eqb (get_or past i none).kind 2 other))
+
+    module _ (block : (get_or past i none).kind ≡ 2) (found : Bool) (asked : found ≡ block_before 13 c p (block_ago (drop (i + 1) past))) where
+      pub apart_first : found ≡ false → blocks_apart c next past ≡ blocks_apart c p (drop (i + 1) past)
+      apart_first e = in_parts false (rw (eq-eqb (get_or past i none).kind 2 block, ← asked, e))
+
+      pub apart_second : found ≡ true → false ≡ blocks_apart c next past
+      apart_second e = sym (in_parts true (rw (eq-eqb (get_or past i none).kind 2 block, ← asked, e)))
+
+  pub apart_end : length past ≤ i → true ≡ blocks_apart c next past
+  unfolding blocks_apart
+  apart_end h = sym (start ∙ rw (drop_of_length-le past {i = i} h))

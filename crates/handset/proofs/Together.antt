@@ -1,16 +1,19 @@
 -- A remembered slot is valid by itself: the tests of its kind, as the code draws them together.
 -- Assumes nothing.
-use Prim.Native.Nat.{ℕ, suc, ◌<◌, ◌≤◌, ◌/◌, ◌%◌}
+use Prim.Native.Nat.{ℕ, zero, suc, ◌+◌, ◌<◌, ◌≤◌, ◌/◌, ◌%◌}
 use mathlib.Core.Bool.{Bool, true, false, cond, not, ◌&&◌, ◌||◌, and-false}
 use mathlib.Core.Path.{◌≡◌, refl, sym, ◌∙◌}
 use native.Mathlib.Decide.{ℕ_discrete, dec_lt}
 use native.Mathlib.Omega.{arith}
-use lib.Dec.{eqb, ltb}
+use lib.Dec.{eqb, leb, ltb}
 use borrow.Author.Tests.{ne_eqb, lt-ltb, le-ltb, lt-leb}
 use Rattle.frame.specs.declared.Settings.{Settings}
-use Rattle.frame.specs.Layout.{downlink}
-use Rattle.frame.specs.Settings.{or_else, outside, has_scheduled}
-use Rattle.frame.specs.Special.{too_short}
+use Rattle.frame.specs.Layout.{Letter, D, S, U, letter_of, carries, downlink, is_s, is_special}
+use Rattle.frame.specs.Letters.{letter_byte}
+use Rattle.frame.specs.Settings.{or_else, outside, has_scheduled, settings_refusal}
+use Rattle.frame.specs.Special.{no_pdsch, too_short}
+use Rattle.frame.proofs.Accepted.{accepted, not_outside}
+use Rattle.resource.specs.Calls.{cces_of}
 use Rattle.resource.specs.Formula.{edge}
 use Rattle.heard.specs.declared.Slot.{Slot}
 use Rattle.heard.specs.Heard.{uplink_refusal, short_refusal, data_refusal, carried_refusal, pdcch_refusal, unset_refusal, heard_refusal}
@@ -171,3 +174,97 @@ module _ (s : Settings) (n : ℕ) (t : Slot) where
           ]
         ]
       ]
+
+-- The tests as the code has them: the kind and the letter first, then what only a PDCCH, only data, only a block must meet.
+abbrev pub coded : ℕ → Bool → Bool → Bool → Bool → Bool
+coded kind carries pdcch fits set =
+    (((leb kind 3 && (eqb kind 0 || carries)) && (pdcch || not (eqb (kind % 2) 1))) && (fits || not (eqb ((kind + 1) / 2 % 2) 1))) && (set || not (eqb kind 2))
+
+coded_together : (kind : ℕ) (d p c s : Bool) → (eqb kind 0 || (d && heard_together c p s kind)) ≡ coded kind d p c s
+coded_together kind d p c s =
+    elim (ℕ_discrete kind 0) [
+      | yes e ↦ rw e (at_zero d p c s)
+      | no a ↦ elim (ℕ_discrete kind 1) [
+        | yes e ↦ rw e (at_one d p c s)
+        | no b ↦ elim (ℕ_discrete kind 2) [
+          | yes e ↦ rw e (at_two d p c s)
+          | no e ↦ elim (ℕ_discrete kind 3) [
+            | yes f ↦ rw f (at_three d p c s)
+            | no f ↦ rw (ne_eqb kind 0 a, ne_eqb kind 1 b, ne_eqb kind 2 e, ne_eqb kind 3 f, lt-leb kind 3 (omega arith)) (and-false d)
+          ]
+        ]
+      ]
+    ]
+  where
+    at_zero : (d p c s : Bool) → (eqb 0 0 || (d && heard_together c p s 0)) ≡ coded 0 d p c s
+    at_zero d true true true = refl
+    at_zero d true true false = refl
+    at_zero d true false true = refl
+    at_zero d true false false = refl
+    at_zero d false true true = refl
+    at_zero d false true false = refl
+    at_zero d false false true = refl
+    at_zero d false false false = refl
+
+    at_one : (d p c s : Bool) → (eqb 1 0 || (d && heard_together c p s 1)) ≡ coded 1 d p c s
+    at_one false p c s = refl
+    at_one true false true s = refl
+    at_one true false false s = refl
+    at_one true true false s = refl
+    at_one true true true true = refl
+    at_one true true true false = refl
+
+    at_two : (d p c s : Bool) → (eqb 2 0 || (d && heard_together c p s 2)) ≡ coded 2 d p c s
+    at_two false p c s = refl
+    at_two true true true true = refl
+    at_two true true true false = refl
+    at_two true true false s = refl
+    at_two true false true true = refl
+    at_two true false true false = refl
+    at_two true false false s = refl
+
+    at_three : (d p c s : Bool) → (eqb 3 0 || (d && heard_together c p s 3)) ≡ coded 3 d p c s
+    at_three false p c s = refl
+    at_three true false c s = refl
+    at_three true true true true = refl
+    at_three true true true false = refl
+    at_three true true false true = refl
+    at_three true true false false = refl
+
+-- One of two blocks is over a setting of one, and no more is.
+carried_one : (two most : ℕ) → two ≤ 1 → 1 ≤ most → most ≤ 2 → ltb two most ≡ not (eqb two 1 && eqb most 1)
+carried_one zero most a b c = lt-ltb 0 most (omega arith)
+carried_one (suc zero) most a b c = elim (ℕ_discrete most 1) [ yes e ↦ rw e refl | no e ↦ rw (ne_eqb most 1 e, lt-ltb 1 most (omega arith)) refl ]
+carried_one (suc (suc two)) most a b c = absurd (omega arith)
+
+letter_carries : (l : Letter) → carries l ≡ not (eqb (letter_byte l) 85)
+letter_carries D = refl
+letter_carries S = refl
+letter_carries U = refl
+
+letter_special : (l : Letter) (b : Bool) → (b && is_s l) ≡ (eqb (letter_byte l) 83 && b)
+letter_special D true = refl
+letter_special D false = refl
+letter_special S true = refl
+letter_special S false = refl
+letter_special U true = refl
+letter_special U false = refl
+
+-- So the code's tests are those of the slot by itself.
+pub valid_coded : (s : Settings) (n : ℕ) (t : Slot) → settings_refusal s ≡ 0
+    → slot_valid s n t
+    ≡ coded t.kind (not (eqb (letter_byte (letter_of s.config n)) 85)) (pdcch s n t)
+      (not (eqb (t.results / 4 % 2) 1 && eqb s.blocks 1) && not (eqb (letter_byte (letter_of s.config n)) 83 && no_pdsch s.prefix s.special))
+      (has_scheduled s)
+unfolding downlink too_short is_special
+valid_coded s n t e =
+    let a = accepted s e in
+    valid_together s n t
+    ∙ rw
+      (carried_one (t.results / 4 % 2) s.blocks (omega arith) a.blocks_least a.blocks_most, letter_carries (letter_of s.config n), letter_special (letter_of s.config n) (no_pdsch s.prefix s.special))
+      (coded_together t.kind _ _ _ _)
+
+-- N_4, as the call for it gives it to accepted settings.
+pub cces_accepted : (s : Settings) → settings_refusal s ≡ 0 → cces_of s.nrb ≡ edge s.nrb 4
+unfolding cces_of
+cces_accepted s e = let a = accepted s e in rw (not_outside 6 110 s.nrb a.nrb_least a.nrb_most)

@@ -1,33 +1,77 @@
 // Refusal 8: what a lent state must be (document 01, "Causes and their numbers"; document 02, U1, U2, U8 and
 // U9).
-ghost use Rattle.std.specs.Prelude.{◌≡◌, ◌≤◌};
+ghost use Rattle.std.specs.Prelude.{ℕ, ◌≡◌, ◌≤◌, ◌/◌, ◌%◌, eqb};
+ghost use Rattle.frame.specs.Layout.{letter_of};
+ghost use Rattle.frame.specs.Letters.{letter_byte};
 ghost use Rattle.frame.specs.Refusals.{refusal_in};
-ghost use Rattle.handset.specs.Checked.{slot_valid};
+ghost use Rattle.frame.specs.Settings.{has_scheduled, settings_refusal};
+ghost use Rattle.frame.specs.Special.{no_pdsch};
+ghost use Rattle.resource.specs.Formula.{edge};
+ghost use Rattle.handset.specs.Checked.{slot_valid, all_valid, any_block, blocks_apart};
 ghost use Rattle.handset.specs.Sound.{previous, all_sound, state_refusal};
 
 use crate::Handset;
 use frame::{Refusal, Settings};
 use heard::{Memory, Slot, SlotKind};
-use resource::Cce;
 
-// A remembered subframe is of a kind that there is, and what it heard is valid in subframe n by itself. It is `check_heard` of that, with
-// no branch on the kinds that heard something, for speed: `check_heard` was tried, and for thirteen subframes of mixed kinds takes 245 ns
-// where this takes 168.
-fn is_valid(s: Settings, n: u16, t: Slot) -> bool
-    ensures { result ≡ slot_valid s n t }
-{
-    if t.kind == SlotKind::Nothing as u8 {
-        return true;
+// What a cell's settings, which are accepted, allow a remembered subframe, made once for all of them.
+#[derive(Clone, Copy)]
+struct Limits {
+    settings: Settings,
+    cces: u32,
+    one_block: bool,
+    scheduled: bool,
+    short: bool,
+    ghost accepted: { settings_refusal settings ≡ 0 },
+    ghost cces_are: { cces ≡ edge settings.nrb 4 },
+    ghost one_is: { one_block ≡ eqb settings.blocks 1 },
+    ghost scheduled_is: { scheduled ≡ has_scheduled settings },
+    ghost short_is: { short ≡ no_pdsch settings.prefix settings.special },
+}
+
+impl Limits {
+    #[tactic(auto, using(crate::proofs::Together::cces_accepted))]
+    fn of(settings: Settings) -> Limits
+        requires { settings_refusal settings ≡ 0 }
+        ensures { result.settings ≡ settings }
+    {
+        Limits {
+            settings,
+            cces: u32::from(resource::cces_of(settings.nrb)),
+            one_block: settings.blocks == 1,
+            scheduled: settings.has_scheduled(),
+            short: frame::no_pdsch(settings.prefix, settings.special),
+        }
     }
-    let two = (t.results / 4 % 2) as u16;
-    let carried = two < s.blocks;
-    let cce = Cce::new(t.cce as u16);
-    let pdcch = resource::is_cce(s.nrb, cce) & (0 < t.dai) & (t.dai < 5);
-    let data = carried & !s.is_too_short(n);
-    let grant = (t.kind == SlotKind::Grant as u8) & data & pdcch;
-    let block = (t.kind == SlotKind::Block as u8) & data & s.has_scheduled();
-    let release = (t.kind == SlotKind::Release as u8) & pdcch;
-    frame::is_downlink(s.config, n) & (grant | block | release)
+}
+
+// A slot as one number, its first byte lowest: so the compiler tests four slots at a time.
+fn word_of(t: Slot) -> u32
+    ensures kind { result % 256 ≡ t.kind }
+    ensures cce { result / 256 % 256 ≡ t.cce }
+    ensures dai { result / 65536 % 256 ≡ t.dai }
+    ensures two { result / 67108864 % 2 ≡ t.results / 4 % 2 }
+{
+    u32::from_le_bytes([t.kind, t.cce, t.dai, t.results])
+}
+
+// A remembered subframe is of a kind that there is, and what it heard is valid by itself in a subframe of this letter. It is `check_heard` of
+// that, with no branch on what was heard, for speed.
+#[tactic(auto, using(crate::proofs::Together::valid_coded))]
+fn is_valid(limits: Limits, letter: u8, t: Slot) -> bool
+    ensures { (n : ℕ) → letter ≡ letter_byte (letter_of limits.settings.config n) → result ≡ slot_valid limits.settings n t }
+{
+    let word = word_of(t);
+    let kind = word % 0x100;
+    let cce = word / 0x100 % 0x100;
+    let dai = word / 0x10000 % 0x100;
+    let two = word / 0x4000000 % 2 == 1;
+    let place = (kind <= 3) & ((kind == 0) | (letter != b'U'));
+    let pdcch = (cce < limits.cces) & (0 < dai) & (dai < 5);
+    let data = !(two & limits.one_block) & !((letter == b'S') & limits.short);
+    let is_pdcch = kind % 2 == 1;
+    let is_data = (kind + 1) / 2 % 2 == 1;
+    place & (pdcch | !is_pdcch) & (data | !is_data) & (limits.scheduled | (kind != 2))
 }
 
 // The subframe before n; before 0 comes 9. It is `frame::before(n, 1)` with no division, for speed: with that a change of mode takes 113 ns
@@ -43,17 +87,14 @@ fn subframe_before(n: u16) -> u16
 }
 
 impl Handset {
-    // Every remembered subframe is sound in the subframe it was fed in: the newest in the one before that which is expected, and so on
-    // back. Each is valid by itself, and no scheduled block is a second one in its window: only such a block looks at the older ones.
-    fn all_sound(&self) -> bool
+    // No remembered scheduled block is a second one in its window: each looks at the older ones.
+    fn blocks_apart(&self) -> bool
         requires { self.now.next ≤ 9 }
-        ensures { result ≡ all_sound self.now.settings self.now.next self.now.past }
+        ensures { result ≡ blocks_apart self.now.settings.config self.now.next self.now.past }
     {
         let mut n = self.next;
-        let mut valid = true;
         for (i, &t) in self.past.iter().enumerate() {
             n = subframe_before(n);
-            valid = valid & is_valid(self.settings, n, t);
             if t.kind == SlotKind::Block as u8 {
                 let older = Memory {
                     settings: &self.settings,
@@ -65,7 +106,28 @@ impl Handset {
                 }
             }
         }
-        valid
+        true
+    }
+
+    // Every remembered subframe is sound in the subframe it was fed in: the newest in the one before that which is expected, and so on
+    // back. Each is valid by itself, and no scheduled block is a second one in its window: only a state that has one looks for another.
+    // Three slots of nothing stand behind the 13, since the compiler tests sixteen four at a time and 13 one by one.
+    fn all_sound(&self) -> bool
+        requires next { self.now.next ≤ 9 }
+        requires settings { settings_refusal self.now.settings ≡ 0 }
+        ensures { result ≡ all_sound self.now.settings self.now.next self.now.past }
+    {
+        let limits = Limits::of(self.settings);
+        let letters = frame::letters_before(self.settings.config, self.next);
+        let mut slots = [Slot::default(); 16];
+        slots[..13].copy_from_slice(&self.past);
+        let mut valid = true;
+        let mut block = false;
+        for (i, &t) in slots.iter().enumerate() {
+            valid = valid & is_valid(limits, letters[i], t);
+            block = block | (t.kind == SlotKind::Block as u8);
+        }
+        valid && (!block || self.blocks_apart())
     }
 
     // 8 where the state fails 1 to 6, 17, 19 or 24, expects a subframe over 9, or remembers a mode that fails 5 or 24, or what fails

@@ -1,33 +1,40 @@
--- `handset::Handset::all_sound` meets its contract: a slot is a second block, or the tests go on, or none is left. Assumes nothing.
-use Prim.Native.Nat.{◌+◌, ◌-◌}
-use mathlib.Core.List.{List}
-use mathlib.Core.Path.{refl, ap, ◌∙◌}
+-- `handset::Handset::all_sound` meets its contract. Assumes nothing.
+use Prim.Native.Nat.{ℕ, ◌+◌}
+use mathlib.Core.Bool.{not}
+use mathlib.Core.Path.{ap, ◌∙◌}
 use native.Mathlib.Omega.{arith}
-use Rattle.heard.specs.declared.Slot.{Slot}
-use Rattle.heard.specs.Heard.{block_before}
-use Rattle.heard.specs.Memory.{block_ago}
-use Rattle.handset.proofs.Pushed.{part_left}
-use Rattle.handset.proofs.Remembered.{sound_other, sound_first, sound_second, sound_end}
+use Rattle.frame.specs.Distance.{before}
+use Rattle.frame.proofs.Letters.{letter_there}
+use Rattle.handset.proofs.Remembered.{valid_more, block_more, valid_told, block_told, sixteen, behind, sound_blockless, sound_searched, sound_invalid}
 use Rattle.handset.proofs.Handset.all_sound.Goals as goal
-use Rattle.handset.proofs.Handset.all_sound.Goals.{then-t+else-block_before, else-t}
-
-pub returns-then-block_before : goal.returns-then-block_before
-returns-then-block_before c =
-    sound_second _ _ _ _ _ c.loop-i.valid c.loop-i.invariant.1 (omega arith) _ c.subframe_before-n.ensures.0 _ c.is_valid-valid.ensures
-    c.if-t.true _ (c.block_before.ensures ∙ ap (λ (l : List Slot). block_before 13 c.args.self.now.settings.config c.subframe_before-n.result (block_ago l)) (part_left (c.loop-i.i + 1) (13 - (c.loop-i.i + 1)) c.args.self.now.past (omega arith) refl)) c.if-block_before.true
 
 pub loop-i-preserved : goal.loop-i-preserved
-loop-i-preserved c = (
-  c.subframe_before-n.ensures.1,
-  elim c.if-t.branch [
-    | then-t+else-block_before w ↦
-        sound_first _ _ _ _ _ c.loop-i.valid c.loop-i.invariant.1 (omega arith) _ c.subframe_before-n.ensures.0 _ c.is_valid-valid.ensures
-        w.if-t.true _ (w.block_before.ensures ∙ ap (λ (l : List Slot). block_before 13 c.args.self.now.settings.config c.subframe_before-n.result (block_ago l)) (part_left (c.loop-i.i + 1) (13 - (c.loop-i.i + 1)) c.args.self.now.past (omega arith) refl)) w.if-block_before.false
-    | else-t w ↦
-        sound_other _ _ _ _ _ c.loop-i.valid c.loop-i.invariant.1 (omega arith) _ c.subframe_before-n.ensures.0 _ c.is_valid-valid.ensures
-        w.if-t.false
-  ],
-)
+loop-i-preserved c =
+    let p : ℕ = before c.args.self.now.next (c.loop-i.i + 1) in
+    let size = sixteen _ c.default-slots.result c.copy_from_slice.ensures.len in
+    (
+      valid_more _ _ _ _ (omega (arith, size)) c.loop-i.valid c.is_valid-valid.result c.loop-i.invariant.0
+      _ c.of-limits.ensures (c.is_valid-valid.ensures p (rw (c.letters_before-letters.ensures, c.of-limits.ensures) (letter_there _ _ _ (omega arith)))),
+      block_more _ _ (omega (arith, size)) c.loop-i.block c.loop-i.invariant.1,
+    )
 
-pub returns : goal.returns
-returns c = sound_end _ _ _ _ _ c.loop-i.valid c.loop-i.invariant.1 _ refl (omega arith)
+pub returns-then-not-block : goal.returns-then-not-block
+returns-then-not-block c =
+    let size = sixteen _ c.default-slots.result c.copy_from_slice.ensures.len in
+    let padded = behind _ _ _ c.copy_from_slice.ensures.after c.default-slots.ensures in
+    ap not c.if-not-block.true
+    ∙ sound_blockless _ _ _ (valid_told _ _ padded _ (omega (arith, size)) _ _ c.loop-i.valid c.loop-i.invariant.0 ∙ c.if-valid.true)
+      (block_told _ _ padded _ (omega (arith, size)) c.loop-i.block c.loop-i.invariant.1 ∙ c.if-not-block.true)
+
+pub returns-else-not-block : goal.returns-else-not-block
+returns-else-not-block c =
+    let size = sixteen _ c.default-slots.result c.copy_from_slice.ensures.len in
+    let padded = behind _ _ _ c.copy_from_slice.ensures.after c.default-slots.ensures in
+    sound_searched _ _ _ (valid_told _ _ padded _ (omega (arith, size)) _ _ c.loop-i.valid c.loop-i.invariant.0 ∙ c.if-valid.true) _ c.blocks_apart.ensures
+
+pub returns-else-valid : goal.returns-else-valid
+returns-else-valid c =
+    let size = sixteen _ c.default-slots.result c.copy_from_slice.ensures.len in
+    let padded = behind _ _ _ c.copy_from_slice.ensures.after c.default-slots.ensures in
+    ap (λ b. b) c.if-valid.false
+    ∙ sound_invalid _ _ _ (valid_told _ _ padded _ (omega (arith, size)) _ _ c.loop-i.valid c.loop-i.invariant.0 ∙ c.if-valid.false)
