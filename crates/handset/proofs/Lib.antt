@@ -1,3 +1,4 @@
+pub mod Apart
 pub mod ModeBits
 pub mod Passing
 pub mod Pushed

@@ -9,7 +9,6 @@ use native.Mathlib.Omega.{arith}
 use lib.Dec.{eqb, leb, eqb-suc-zero}
 use lib.ListN.{length, get_or, drop, drop_of_length-le, length-append}
 use lib.Seq.{drop-cons}
-use borrow.Author.Tests.{eq-eqb, ne_eqb}
 use Rattle.frame.specs.declared.Settings.{Settings}
 use Rattle.frame.specs.Distance.{before}
 use Rattle.frame.specs.Settings.{or_else}
@@ -131,25 +130,3 @@ module _ (s : Settings) (n : ℕ) (past : List Slot) where
 
   pub sound_invalid : all_valid s n past ≡ false → false ≡ all_sound s n past
   sound_invalid e = sym (sound_apart s n past ∙ rw e refl)
-
--- One slot more of the search for a second block.
-module _ (c next n : ℕ) (past : List Slot) (i : ℕ) (start : blocks_apart c next past ≡ blocks_apart c n (drop i past)) where
-  module _ (h : i < length past) (p : ℕ) (fed : p ≡ previous n) where
-    in_parts : (second : Bool) → (eqb (get_or past i none).kind 2 && block_before 13 c p (block_ago (drop (i + 1) past))) ≡ second
-        → blocks_apart c next past ≡ (not second && blocks_apart c p (drop (i + 1) past))
-    unfolding blocks_apart
-    in_parts second e = start ∙ rw (next_slot past i h, ← fed, e)
-
-    pub apart_other : ((get_or past i none).kind ≡ 2 → ⊥) → blocks_apart c next past ≡ blocks_apart c p (drop (i + 1) past)
-    apart_other other = in_parts false (rw (ne_eqb (get_or past i none).kind 2 other))
-
-    module _ (block : (get_or past i none).kind ≡ 2) (found : Bool) (asked : found ≡ block_before 13 c p (block_ago (drop (i + 1) past))) where
-      pub apart_first : found ≡ false → blocks_apart c next past ≡ blocks_apart c p (drop (i + 1) past)
-      apart_first e = in_parts false (rw (eq-eqb (get_or past i none).kind 2 block, ← asked, e))
-
-      pub apart_second : found ≡ true → false ≡ blocks_apart c next past
-      apart_second e = sym (in_parts true (rw (eq-eqb (get_or past i none).kind 2 block, ← asked, e)))
-
-  pub apart_end : length past ≤ i → true ≡ blocks_apart c next past
-  unfolding blocks_apart
-  apart_end h = sym (start ∙ rw (drop_of_length-le past {i = i} h))

@@ -254,15 +254,15 @@ letter_special U false = refl
 pub valid_coded : (s : Settings) (n : ℕ) (t : Slot) → settings_refusal s ≡ 0
     → slot_valid s n t
     ≡ coded t.kind (not (eqb (letter_byte (letter_of s.config n)) 85)) (pdcch s n t)
-      (not (eqb (t.results / 4 % 2) 1 && eqb s.blocks 1) && not (eqb (letter_byte (letter_of s.config n)) 83 && no_pdsch s.prefix s.special))
-      (has_scheduled s)
+    (not (eqb (t.results / 4 % 2) 1 && eqb s.blocks 1) && not (eqb (letter_byte (letter_of s.config n)) 83 && no_pdsch s.prefix s.special))
+    (has_scheduled s)
 unfolding downlink too_short is_special
 valid_coded s n t e =
     let a = accepted s e in
     valid_together s n t
     ∙ rw
-      (carried_one (t.results / 4 % 2) s.blocks (omega arith) a.blocks_least a.blocks_most, letter_carries (letter_of s.config n), letter_special (letter_of s.config n) (no_pdsch s.prefix s.special))
-      (coded_together t.kind _ _ _ _)
+    (carried_one (t.results / 4 % 2) s.blocks (omega arith) a.blocks_least a.blocks_most, letter_carries (letter_of s.config n), letter_special (letter_of s.config n) (no_pdsch s.prefix s.special))
+    (coded_together t.kind _ _ _ _)
 
 -- N_4, as the call for it gives it to accepted settings.
 pub cces_accepted : (s : Settings) → settings_refusal s ≡ 0 → cces_of s.nrb ≡ edge s.nrb 4

@@ -1,6 +1,6 @@
 // Refusal 8: what a lent state must be (document 01, "Causes and their numbers"; document 02, U1, U2, U8 and
 // U9).
-ghost use Rattle.std.specs.Prelude.{ℕ, ◌≡◌, ◌≤◌, ◌/◌, ◌%◌, eqb};
+ghost use Rattle.std.specs.Prelude.{ℕ, ◌+◌, ◌≡◌, ◌≤◌, ◌/◌, ◌%◌, eqb};
 ghost use Rattle.frame.specs.Layout.{letter_of};
 ghost use Rattle.frame.specs.Letters.{letter_byte};
 ghost use Rattle.frame.specs.Refusals.{refusal_in};
@@ -74,39 +74,37 @@ fn is_valid(limits: Limits, letter: u8, t: Slot) -> bool
     place & (pdcch | !is_pdcch) & (data | !is_data) & (limits.scheduled | (kind != 2))
 }
 
-// The subframe before n; before 0 comes 9. It is `frame::before(n, 1)` with no division, for speed: with that a change of mode takes 113 ns
-// where it takes 105.
-fn subframe_before(n: u16) -> u16
+// The subframe after n; after 9 comes 0.
+fn subframe_after(n: u16) -> u16
     requires { n ≤ 9 }
-    ensures { (result ≡ previous n) × (result ≤ 9) }
+    ensures { result ≡ (n + 1) % 10 }
 {
-    if n == 0 {
-        return 9;
+    if n == 9 {
+        return 0;
     }
-    n - 1
+    n + 1
 }
 
 impl Handset {
-    // No remembered scheduled block is a second one in its window: each looks at the older ones.
+    // No remembered scheduled block is a second one in its window. From the oldest on each block takes its window, by the time when that is
+    // answered: 13 and how far after the slot, less how long ago the slot. No branch on the kinds, for speed.
+    #[tactic(auto, using(frame::proofs::Distances::distance_most))]
     fn blocks_apart(&self) -> bool
         requires { self.now.next ≤ 9 }
         ensures { result ≡ blocks_apart self.now.settings.config self.now.next self.now.past }
     {
-        let mut n = self.next;
-        for (i, &t) in self.past.iter().enumerate() {
-            n = subframe_before(n);
-            if t.kind == SlotKind::Block as u8 {
-                let older = Memory {
-                    settings: &self.settings,
-                    n,
-                    past: &self.past[i + 1..],
-                };
-                if older.block_before() {
-                    return false;
-                }
-            }
+        let mut taken = [false; 32];
+        let mut second = false;
+        let mut n = frame::before(self.next, 13);
+        for k in 0..13 {
+            let i = 12 - k;
+            let block = self.past[i].kind == SlotKind::Block as u8;
+            let window = usize::from(frame::distance_of(self.settings.config, n)) + 13 - i;
+            second = second | (block & taken[window]);
+            taken[window] = taken[window] | block;
+            n = subframe_after(n);
         }
-        true
+        !second
     }
 
     // Every remembered subframe is sound in the subframe it was fed in: the newest in the one before that which is expected, and so on

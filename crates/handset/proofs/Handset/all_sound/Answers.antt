@@ -11,10 +11,9 @@ use Rattle.handset.proofs.Handset.all_sound.Goals as goal
 pub loop-i-preserved : goal.loop-i-preserved
 loop-i-preserved c =
     let p : ℕ = before c.args.self.now.next (c.loop-i.i + 1) in
-    let size = sixteen _ c.default-slots.result c.copy_from_slice.ensures.len in
-    (
+    let size = sixteen _ c.default-slots.result c.copy_from_slice.ensures.len in (
       valid_more _ _ _ _ (omega (arith, size)) c.loop-i.valid c.is_valid-valid.result c.loop-i.invariant.0
-      _ c.of-limits.ensures (c.is_valid-valid.ensures p (rw (c.letters_before-letters.ensures, c.of-limits.ensures) (letter_there _ _ _ (omega arith)))),
+          _ c.of-limits.ensures (c.is_valid-valid.ensures p (rw (c.letters_before-letters.ensures, c.of-limits.ensures) (letter_there _ _ _ (omega arith)))),
       block_more _ _ (omega (arith, size)) c.loop-i.block c.loop-i.invariant.1,
     )
 
@@ -24,7 +23,7 @@ returns-then-not-block c =
     let padded = behind _ _ _ c.copy_from_slice.ensures.after c.default-slots.ensures in
     ap not c.if-not-block.true
     ∙ sound_blockless _ _ _ (valid_told _ _ padded _ (omega (arith, size)) _ _ c.loop-i.valid c.loop-i.invariant.0 ∙ c.if-valid.true)
-      (block_told _ _ padded _ (omega (arith, size)) c.loop-i.block c.loop-i.invariant.1 ∙ c.if-not-block.true)
+    (block_told _ _ padded _ (omega (arith, size)) c.loop-i.block c.loop-i.invariant.1 ∙ c.if-not-block.true)
 
 pub returns-else-not-block : goal.returns-else-not-block
 returns-else-not-block c =
