@@ -1,17 +1,16 @@
 -- Laws of the frame layouts: seven of ten letters, and nothing carries a grant outside them.
 -- Assumes nothing.
-use Prim.Native.Nat.{ℕ, ◌<◌, ◌≤◌}
-use mathlib.Core.Bool.{true, false, false≢true}
-use mathlib.Core.List.{[]}
+use Prim.Native.Nat.{ℕ, zero, suc, ◌<◌, ◌≤◌}
+use mathlib.Core.Bool.{true, false, not, false≢true}
+use mathlib.Core.List.{List, [], ◌∷◌, map}
 use mathlib.Core.Path.{◌≡◌, refl}
 use native.Mathlib.Decide.{dec_lt}
 use native.Mathlib.Omega.{arith}
 use lib.Dec.{T, eqb, eqb→eq}
 use lib.ListN.{get_or, length, get_or-eq_default}
-use Rattle.frame.specs.Coded.{digit_at, letter_digit, layout_digits}
+use Rattle.frame.specs.Coded.{letter_byte, letter_in}
 use Rattle.frame.specs.Layout.{Letter, D, S, U, layouts, letter_of, carries, downlink, is_s, is_special}
 use Rattle.frame.proofs.Below.{below, below_at}
-use Rattle.frame.proofs.Hex.{digit_at_holds}
 
 seven : length layouts ≡ 7
 unfolding layouts
@@ -41,20 +40,39 @@ pub outside_frame : (c n : ℕ) → 9 < n → false ≡ downlink c n
 unfolding downlink
 outside_frame c n h = rw (outside_letters c n h)
 
-pub no_special : (c n : ℕ) → 9 < n → false ≡ is_special c n
+-- The byte that is read is the letter's, where each row has the bytes of the print's: also outside the table, where it is U's.
+byte_in_row : (ls : List Letter) (n : ℕ) → get_or (map letter_byte ls) n 85 ≡ letter_byte (get_or ls n U)
+byte_in_row [] n = refl
+byte_in_row (l ∷ ls) zero = refl
+byte_in_row (l ∷ ls) (suc n) = byte_in_row ls n
+
+byte_in : (ls : List (List Letter)) (c n : ℕ) → get_or (get_or (map (map letter_byte) ls) c []) n 85 ≡ letter_byte (get_or (get_or ls c []) n U)
+byte_in [] c n = refl
+byte_in (l ∷ ls) zero n = byte_in_row l n
+byte_in (l ∷ ls) (suc c) n = byte_in ls c n
+
+pub letter_at : (rows : List (List ℕ)) (c n l : ℕ) → l ≡ letter_in rows c n → rows ≡ map (map letter_byte) layouts → l ≡ letter_byte (letter_of c n)
+unfolding letter_in letter_of
+letter_at rows c n l read e = rw (read, e) (byte_in layouts c n)
+
+-- Only U is not downlink, and only S is special.
+pub downlink_byte : (c n : ℕ) → not (eqb (letter_byte (letter_of c n)) 85) ≡ downlink c n
+unfolding downlink
+downlink_byte c n = told (letter_of c n)
+  where
+    told : (l : Letter) → not (eqb (letter_byte l) 85) ≡ carries l
+    told D = refl
+    told S = refl
+    told U = refl
+
+pub special_byte : (c n : ℕ) → eqb (letter_byte (letter_of c n)) 83 ≡ is_special c n
 unfolding is_special
-no_special c n h = rw (outside_letters c n h)
-
--- A letter is a digit, and the digit that is read is the letter's.
-pub letter_small : (l : Letter) → letter_digit l < 16
-letter_small D = omega arith
-letter_small S = omega arith
-letter_small U = omega arith
-
-pub letter_at : (c n d w : ℕ) → n < 10 → w ≡ layout_digits c → d ≡ digit_at w n → d ≡ letter_digit (letter_of c n)
-unfolding layout_digits
-letter_at c n d w h row read =
-    rw (read, row) (digit_at_holds 10 (λ (n : ℕ). letter_digit (letter_of c n)) (λ n. letter_small (letter_of c n)) n h)
+special_byte c n = told (letter_of c n)
+  where
+    told : (l : Letter) → eqb (letter_byte l) 83 ≡ is_s l
+    told D = refl
+    told S = refl
+    told U = refl
 
 -- A special subframe is downlink: PDCCHs are sent there as in a D.
 pub special_downlink : (c n : ℕ) → is_special c n ≡ true → downlink c n ≡ true

@@ -16,6 +16,7 @@ pub mod OnePort
 pub mod Orders
 pub mod Ports
 pub mod Refused
+pub mod Rows
 pub mod Shares
 pub mod Times
 pub mod Windows

@@ -1,22 +1,18 @@
 -- A digit that is looked up is what the rows say, in a frame and outside it: a number of ten digits has 0 after them.
 -- Assumes nothing.
 use Prim.Native.Nat.{ℕ, ◌%◌, ◌<◌}
-use mathlib.Core.Bool.{not}
-use mathlib.Core.Path.{◌≡◌, refl, ◌∙◌}
+use mathlib.Core.Path.{◌≡◌, ◌∙◌}
 use native.Mathlib.Decide.{dec_lt}
 use native.Mathlib.Omega.{arith}
-use lib.Dec.{eqb}
 use lib.ListN.{length}
-use Rattle.frame.specs.Coded.{digits, digit_at, letter_digit, layout_digits, size_digits, earliest_digits, distance_digits, coded_position, position_digits}
+use Rattle.frame.specs.Coded.{digits, digit_at, size_digits, earliest_digits, distance_digits, coded_position, position_digits}
 use Rattle.frame.specs.Distance.{distance_of}
 use Rattle.frame.specs.Earliest.{earliest_k}
-use Rattle.frame.specs.Layout.{Letter, D, S, U, carries, letter_of, downlink, is_s, is_special}
 use Rattle.frame.specs.Table.{window_of}
 use Rattle.frame.proofs.Arms.{outside_subframes}
 use Rattle.frame.proofs.Distances.{distance_frame, distance_most, position_most, outside_positions}
 use Rattle.frame.proofs.Earliest.{earliest_most, none_outside}
 use Rattle.frame.proofs.Hex.{digit_at_holds, no_digit}
-use Rattle.frame.proofs.Layouts.{letter_at, letter_small, no_special}
 use Rattle.frame.proofs.Windows.{window_size}
 
 looked_up : (f : ℕ → ℕ) → ((n : ℕ) → f n < 16) → ((n : ℕ) → 9 < n → 0 ≡ f n) → (n : ℕ) → digit_at (digits 10 f) n ≡ f n
@@ -41,25 +37,3 @@ pub distance_at : (c d w : ℕ) → w ≡ distance_digits c → digit_at w (d % 
 unfolding distance_digits
 distance_at c d w row =
     rw row (digit_at_holds 10 (distance_of c) (λ d. omega (arith, distance_most c d)) (d % 10) (omega arith)) ∙ distance_frame c d
-
--- Only U is not downlink, and only S is special. A subframe outside the frame has digit 0, which is no letter's.
-pub downlink_at : (c n w : ℕ) → n < 10 → w ≡ layout_digits c → not (eqb (digit_at w n) 5) ≡ downlink c n
-unfolding downlink
-downlink_at c n w h row = rw (letter_at c n _ w h row refl) (told (letter_of c n))
-  where
-    told : (l : Letter) → not (eqb (letter_digit l) 5) ≡ carries l
-    told D = refl
-    told S = refl
-    told U = refl
-
-pub special_at : (c n w : ℕ) → w ≡ layout_digits c → eqb (digit_at w n) 3 ≡ is_special c n
-unfolding is_special layout_digits
-special_at c n w row = elim (dec_lt n 10) [ yes h ↦ rw (letter_at c n _ w h row refl) (told (letter_of c n)) | no h ↦ outside (omega arith) ]
-  where
-    told : (l : Letter) → eqb (letter_digit l) 3 ≡ is_s l
-    told D = refl
-    told S = refl
-    told U = refl
-
-    outside : 9 < n → eqb (digit_at w n) 3 ≡ is_s (letter_of c n)
-    outside h = rw (row, no_digit 10 (λ (n : ℕ). letter_digit (letter_of c n)) (λ n. letter_small (letter_of c n)) n (omega arith)) (no_special c n h)

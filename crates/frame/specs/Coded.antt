@@ -1,9 +1,10 @@
--- The code's form of the tables with ten numbers below 16, one for each subframe: one number, which has them as its hexadecimal digits.
+-- The code's form of the tables: the layouts with a letter as its byte, and of each table with ten numbers below 16, one for each
+-- subframe, one number a configuration, which has them as its hexadecimal digits.
 -- Assumes nothing.
-use Rattle.std.specs.Prelude.{ℕ, zero, suc, ◌+◌, ◌*◌, ◌/◌, ◌%◌, ◌^◌, cond, length}
+use Rattle.std.specs.Prelude.{ℕ, zero, suc, ◌+◌, ◌*◌, ◌/◌, ◌%◌, ◌^◌, cond, List, [], length, get_or}
 use Rattle.frame.specs.Distance.{distance_of, answered_position}
 use Rattle.frame.specs.Earliest.{earliest_k}
-use Rattle.frame.specs.Layout.{Letter, D, S, U, letter_of, downlink}
+use Rattle.frame.specs.Layout.{Letter, D, S, U, downlink}
 use Rattle.frame.specs.Table.{window_of}
 
 -- the number with the n digits f 0, f 1, .., f (n - 1), the first one lowest
@@ -11,23 +12,23 @@ abbrev pub digits : ℕ → (ℕ → ℕ) → ℕ
 digits zero f = 0
 digits (suc n) f = f 0 + 16 * digits n (λ (i : ℕ). f (suc i))
 
--- the number with the digits of a half-frame (TS 36.211), which has five subframes, the first one lowest
-abbrev pub half_frame_digits : ℕ → ℕ → ℕ → ℕ → ℕ → ℕ
-half_frame_digits a b c d e = a + 16 * b + 256 * c + 4096 * d + 65536 * e
-
 -- digit n, counted from the lowest, which is 0
 abbrev pub digit_at : ℕ → ℕ → ℕ
 digit_at x n = x / 2 ^ (4 * n) % 16
 
--- the low four bits of the letters' bytes, 68, 83 and 85
-abbrev pub letter_digit : Letter → ℕ
-letter_digit D = 4
-letter_digit S = 3
-letter_digit U = 5
+-- the letter's byte
+abbrev pub letter_byte : Letter → ℕ
+letter_byte D = 68
+letter_byte S = 83
+letter_byte U = 85
 
--- the letters of a configuration's ten subframes
-unfoldable pub layout_digits : ℕ → ℕ
-layout_digits c = digits 10 (λ (n : ℕ). letter_digit (letter_of c n))
+-- the byte of a subframe; U's where the rows have none
+unfoldable pub letter_in : List (List ℕ) → ℕ → ℕ → ℕ
+letter_in rows c n = get_or (get_or rows c []) n 85
+
+-- the row of a configuration; 0 where the rows have none
+unfoldable pub row_in : List ℕ → ℕ → ℕ
+row_in rows c = get_or rows c 0
 
 -- M of a configuration's ten subframes
 unfoldable pub size_digits : ℕ → ℕ

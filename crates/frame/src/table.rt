@@ -1,33 +1,44 @@
 // The frame layouts and Table 10.1-1 (document 01, "Frame and windows"), one row of source for each row of the print.
 ghost use Rattle.std.specs.Prelude.{◌≡◌, length};
-ghost use Rattle.frame.specs.Coded.{layout_digits, size_digits, earliest_digits, distance_digits, position_digits, coded_position};
+ghost use Rattle.frame.specs.Coded.{letter_byte, letter_in, row_in, size_digits, earliest_digits, distance_digits, position_digits, coded_position};
 ghost use Rattle.frame.specs.Distance.{distance_of};
 ghost use Rattle.frame.specs.Earliest.{earliest_k};
-ghost use Rattle.frame.specs.Layout.{downlink, is_special};
+ghost use Rattle.frame.specs.Layout.{letter_of, downlink, is_special};
 ghost use Rattle.frame.specs.Order.{order_of};
 ghost use Rattle.frame.specs.Table.{window_of};
 
-use crate::digits::{digit_at, packed};
+use crate::digits::digit_at;
 
-// The digits of the letters S and U, as numbers and no enum: a lookup compares the digit that a shift gives it, and has no letter.
-const SPECIAL: u16 = 3;
+// Configurations 0 to 6, subframes 0 to 9: D downlink, S special, U uplink.
+const LAYOUTS: [[u8; 10]; 7] = [
+    *b"DSUUUDSUUU",
+    *b"DSUUDDSUUD",
+    *b"DSUDDDSUDD",
+    *b"DSUUUDDDDD",
+    *b"DSUUDDDDDD",
+    *b"DSUDDDDDDD",
+    *b"DSUUUDSUUD",
+];
 
-const UPLINK: u16 = 5;
-
-// Subframes 0 to 9 of a configuration: D downlink, S special, U uplink.
-fn layout_of(config: u16) -> u64
-    ensures { result ≡ layout_digits config }
+// The letter in a table of layouts, U where there is none.
+#[tactic(auto, unfolding(crate::specs::Coded::letter_in))]
+fn letter_in(rows: &'static [[u8; 10]], config: u16, n: u16) -> u8
+    ensures { result ≡ letter_in rows.now config n }
 {
-    match config {
-        0 => packed(*b"DSUUUDSUUU"),
-        1 => packed(*b"DSUUDDSUUD"),
-        2 => packed(*b"DSUDDDSUDD"),
-        3 => packed(*b"DSUUUDDDDD"),
-        4 => packed(*b"DSUUDDDDDD"),
-        5 => packed(*b"DSUDDDDDDD"),
-        6 => packed(*b"DSUUUDSUUD"),
-        _ => packed(*b"UUUUUUUUUU"),
+    match rows.get(config as usize) {
+        Some(row) => match row.get(n as usize) {
+            Some(&letter) => letter,
+            None => b'U',
+        },
+        None => b'U',
     }
+}
+
+// The letter of subframe n of a configuration.
+fn letter_of(config: u16, n: u16) -> u8
+    ensures { result ≡ letter_byte (letter_of config n) }
+{
+    letter_in(&LAYOUTS, config, n)
 }
 
 // The window of subframe n: K in the print's order, so that M is its length. Empty where there is none, outside the table too.
@@ -81,38 +92,54 @@ pub fn window_of(config: u16, n: u16) -> &'static [u16]
     }
 }
 
+// The row of a configuration, 0 where there is none. A table is lent and looked up, not matched on: it is read in its place, by one load,
+// and several tables that a call reads don't become jumps by configuration.
+#[tactic(auto, unfolding(crate::specs::Coded::row_in))]
+fn digits_in(rows: &'static [u64], config: u16) -> u64
+    ensures { result ≡ row_in rows.now config }
+{
+    match rows.get(config as usize) {
+        Some(&row) => row,
+        None => 0,
+    }
+}
+
 // Derived from the rows: M of subframes 9 to 0 of a configuration, a digit each; 0 where there is no window. The four tables of digits
-// stand beside the rows for speed. M as the length of the row was tried and takes 10 ns where a digit takes 2, the largest k of the row 17
-// and not 2, distance and position by a search of the rows 59 and 60 and not 2 and 5. They are proved equal to what the rows say.
+// stand beside the rows for speed, since the largest k, a distance and a position would be searches of the rows. They are proved equal to
+// what the rows say.
 fn sizes_of(config: u16) -> u64
     ensures { result ≡ size_digits config }
 {
-    match config {
-        0 => 0x1010010100,
-        1 => 0x0120001200,
-        2 => 0x0040000400,
-        3 => 0x0000022300,
-        4 => 0x0000004400,
-        5 => 0x0000000900,
-        6 => 0x0110011100,
-        _ => 0,
-    }
+    digits_in(
+        &[
+            0x1010010100,
+            0x0120001200,
+            0x0040000400,
+            0x0000022300,
+            0x0000004400,
+            0x0000000900,
+            0x0110011100,
+        ],
+        config,
+    )
 }
 
 // Derived from the rows: the largest k of subframes 9 to 0 of a configuration, a digit each; 0 where there is no window.
 fn earliest_ks_of(config: u16) -> u64
     ensures { result ≡ earliest_digits config }
 {
-    match config {
-        0 => 0x4060040600,
-        1 => 0x0470004700,
-        2 => 0x0080000800,
-        3 => 0x0000056B00,
-        4 => 0x0000007C00,
-        5 => 0x0000000D00,
-        6 => 0x0770057700,
-        _ => 0,
-    }
+    digits_in(
+        &[
+            0x4060040600,
+            0x0470004700,
+            0x0080000800,
+            0x0000056B00,
+            0x0000007C00,
+            0x0000000D00,
+            0x0770057700,
+        ],
+        config,
+    )
 }
 
 // Derived from the rows: how far after subframes 9 to 0 of a configuration the uplink subframe stands that answers for each, a digit
@@ -120,32 +147,36 @@ fn earliest_ks_of(config: u16) -> u64
 fn distances_of(config: u16) -> u64
     ensures { result ≡ distance_digits config }
 {
-    match config {
-        0 => 0x0006400064,
-        1 => 0x4006740067,
-        2 => 0x8406784067,
-        3 => 0x55667000B4,
-        4 => 0x45677800BC,
-        5 => 0xD4567890BC,
-        6 => 0x5007700077,
-        _ => 0,
-    }
+    digits_in(
+        &[
+            0x0006400064,
+            0x4006740067,
+            0x8406784067,
+            0x55667000B4,
+            0x45677800BC,
+            0xD4567890BC,
+            0x5007700077,
+        ],
+        config,
+    )
 }
 
 // Derived from the rows: the positions of subframes 9 to 0 of a configuration in their windows, a digit each; 0 for an uplink subframe.
 fn positions_of(config: u16) -> u64
     ensures { result ≡ position_digits config }
 {
-    match config {
-        0 => 0x0000000000,
-        1 => 0x0001000010,
-        2 => 0x0203102031,
-        3 => 0x0101000021,
-        4 => 0x2103210030,
-        5 => 0x0658432071,
-        6 => 0x0000000000,
-        _ => 0,
-    }
+    digits_in(
+        &[
+            0x0000000000,
+            0x0001000010,
+            0x0203102031,
+            0x0101000021,
+            0x2103210030,
+            0x0658432071,
+            0x0000000000,
+        ],
+        config,
+    )
 }
 
 // Derived from the rows: the positions of the window of subframe n with k falling, that is in time order; a table, since a sort would need
@@ -171,22 +202,19 @@ pub fn order_of(config: u16, n: u16) -> &'static [u16]
 }
 
 // Subframe n is downlink, D or S: a PDCCH can be sent there.
-#[tactic(auto, using(crate::proofs::Lookups::downlink_at, crate::proofs::Layouts::outside_frame))]
+#[tactic(auto, using(crate::proofs::Layouts::downlink_byte))]
 pub fn is_downlink(config: u16, n: u16) -> bool
     ensures { result ≡ downlink config n }
 {
-    if 9 < n {
-        return false;
-    }
-    digit_at(layout_of(config), n) != UPLINK
+    letter_of(config, n) != b'U'
 }
 
 // Subframe n is special, S.
-#[tactic(auto, using(crate::proofs::Lookups::special_at))]
+#[tactic(auto, using(crate::proofs::Layouts::special_byte))]
 pub fn is_special(config: u16, n: u16) -> bool
     ensures { result ≡ is_special config n }
 {
-    digit_at(layout_of(config), n) == SPECIAL
+    letter_of(config, n) == b'S'
 }
 
 // M of the window of subframe n; 0 where there is none, outside the table too.
