@@ -4,19 +4,18 @@
 use Prim.Native.Nat.{ℕ, zero, suc, ◌+◌, ◌<◌, ◌≤◌, ◌%◌, zero-le, suc-le-suc}
 use mathlib.Core.Bool.{Bool, true, false, cond}
 use mathlib.Core.List.{List, [], ◌∷◌}
-use mathlib.Core.Path.{◌≡◌, refl, sym, ap, fun_ext}
+use mathlib.Core.Path.{◌≡◌, refl}
 use native.Mathlib.Nat.{le_refl, le_step}
 use native.Mathlib.Omega.{arith}
 use lib.Dec.{eqb}
 use lib.ListN.{length}
-use Rattle.frame.specs.Coded.{digits, distance_digits, coded_position, position_digits}
+use Rattle.frame.specs.Coded.{coded_position}
 use Rattle.frame.specs.Distance.{distance_up_to, distance_of, uplink_of, answered_position}
 use Rattle.frame.specs.Layout.{letter_of, downlink}
 use Rattle.frame.specs.Order.{member, position_of}
 use Rattle.frame.specs.Table.{window_of}
-use Rattle.frame.proofs.Arms.{outside_configurations}
 use Rattle.frame.proofs.Layouts.{no_layout, outside_frame}
-use Rattle.frame.proofs.Windows.{window_size}
+use Rattle.frame.proofs.Windows.{window_size, outside_configurations}
 
 most_up_to : (k c d : ℕ) → distance_up_to k c d ≤ k
 unfolding distance_up_to
@@ -49,14 +48,10 @@ unfolding distance_up_to
 none_up_to zero c d h = refl
 none_up_to (suc k) c d h = rw (outside_configurations c ((d + suc k) % 10) h, none_up_to k c d h)
 
-no_distance : (c d : ℕ) → 6 < c → distance_of c d ≡ 0
+-- A configuration over 6 has no distances and no positions.
+pub no_distance : (c d : ℕ) → 6 < c → distance_of c d ≡ 0
 unfolding distance_of
 no_distance c d h = none_up_to 13 c d h
-
--- A configuration over 6 has no distances.
-pub no_distances : (c : ℕ) → 6 < c → 0 ≡ distance_digits c
-unfolding distance_digits
-no_distances c h = ap (digits 10) (sym (fun_ext (λ d. no_distance c d h)))
 
 within_length : (k : ℕ) (ks : List ℕ) → position_of k ks ≤ length ks
 within_length k [] = zero-le
@@ -80,11 +75,6 @@ pub outside_positions : (c d : ℕ) → 9 < d → 0 ≡ coded_position c d
 unfolding coded_position
 outside_positions c d h = rw (← outside_frame c d h)
 
-no_position : (c d : ℕ) → 6 < c → coded_position c d ≡ 0
+pub no_position : (c d : ℕ) → 6 < c → coded_position c d ≡ 0
 unfolding coded_position downlink letter_of
 no_position c d h = rw (no_layout c h)
-
--- A configuration over 6 has no positions.
-pub no_positions : (c : ℕ) → 6 < c → 0 ≡ position_digits c
-unfolding position_digits
-no_positions c h = ap (digits 10) (sym (fun_ext (λ d. no_position c d h)))

@@ -1,15 +1,13 @@
 -- The earliest subframe of a window, which is first in time order: how far before n it is.
 -- Assumes nothing.
 use Prim.Native.Nat.{ℕ, ◌<◌, ◌≤◌}
-use mathlib.Core.Path.{◌≡◌, ap, fun_ext}
+use mathlib.Core.Path.{◌≡◌}
 use lib.Dec.{T, leb, lit≤}
 use lib.ListN.{length, get_or}
-use Rattle.frame.specs.Coded.{digits, earliest_digits}
 use Rattle.frame.specs.Earliest.{earliest_k}
 use Rattle.frame.specs.Order.{times_of}
 use Rattle.frame.specs.Table.{table, window_of}
-use Rattle.frame.proofs.Arms.{outside_configurations, outside_subframes}
-use Rattle.frame.proofs.Windows.{every_row, every_position, window_passes, position_passes}
+use Rattle.frame.proofs.Windows.{every_row, every_position, window_passes, position_passes, outside_configurations, outside_subframes}
 
 most_tested : T (every_row (λ c n ks. leb (get_or (times_of ks) 0 0) 13) table)
 unfolding table times_of
@@ -34,10 +32,6 @@ pub none_outside : (c n : ℕ) → 9 < n → 0 ≡ earliest_k c n
 unfolding earliest_k times_of
 none_outside c n h = rw (outside_subframes c n h)
 
-none_of : (c : ℕ) → 6 < c → (n : ℕ) → 0 ≡ earliest_k c n
+pub no_earliest : (c n : ℕ) → 6 < c → earliest_k c n ≡ 0
 unfolding earliest_k times_of
-none_of c h n = rw (outside_configurations c n h)
-
-pub no_earliest : (c : ℕ) → 6 < c → 0 ≡ earliest_digits c
-unfolding earliest_digits
-no_earliest c h = ap (digits 10) (fun_ext (none_of c h))
+no_earliest c n h = rw (outside_configurations c n h)

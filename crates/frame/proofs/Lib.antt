@@ -1,6 +1,5 @@
 pub mod Accepted
 pub mod Answers
-pub mod Arms
 pub mod Below
 pub mod Bits
 pub mod Bools
@@ -13,7 +12,6 @@ pub mod Letters
 pub mod Lists
 pub mod Lookups
 pub mod OnePort
-pub mod Orders
 pub mod Ports
 pub mod Refused
 pub mod Rows

@@ -9,11 +9,10 @@ use Rattle.frame.specs.Coded.{digits, digit_at, size_digits, earliest_digits, di
 use Rattle.frame.specs.Distance.{distance_of}
 use Rattle.frame.specs.Earliest.{earliest_k}
 use Rattle.frame.specs.Table.{window_of}
-use Rattle.frame.proofs.Arms.{outside_subframes}
 use Rattle.frame.proofs.Distances.{distance_frame, distance_most, position_most, outside_positions}
 use Rattle.frame.proofs.Earliest.{earliest_most, none_outside}
 use Rattle.frame.proofs.Hex.{digit_at_holds, no_digit}
-use Rattle.frame.proofs.Windows.{window_size}
+use Rattle.frame.proofs.Windows.{window_size, outside_subframes}
 
 looked_up : (f : ℕ → ℕ) → ((n : ℕ) → f n < 16) → ((n : ℕ) → 9 < n → 0 ≡ f n) → (n : ℕ) → digit_at (digits 10 f) n ≡ f n
 looked_up f small outside n =

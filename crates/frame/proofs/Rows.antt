@@ -1,28 +1,45 @@
--- A table of seven rows, one for each configuration, is a definition's where each row is: one test, computed at each configuration.
+-- Tables with a row for each configuration: what is looked up is what the definition says, where the rows are the definition's; also outside
+-- the table, where the definition has what a lookup gives there.
 -- Assumes nothing.
-use Prim.Native.Nat.{ℕ, ◌<◌}
-use mathlib.Core.Bool.{Bool, ◌&&◌}
-use mathlib.Core.List.{List}
-use mathlib.Core.Path.{◌≡◌, ◌∙◌}
-use native.Mathlib.Decide.{dec_lt}
-use native.Mathlib.Omega.{arith}
-use lib.Dec.{T, eqb, eqb→eq}
-use lib.Ieee.Fits.{and_l, and_r}
-use lib.ListN.{length, get_or, get_or-eq_default}
-use Rattle.frame.specs.Coded.{row_in}
-use Rattle.frame.proofs.Below.{below, below_at}
+use Prim.Native.Nat.{ℕ, zero, suc, ◌≤◌, ◌<◌, zero-le, suc-le-suc}
+use mathlib.Core.List.{List, []}
+use mathlib.Core.Path.{◌≡◌, refl, sym, ap, fun_ext, ◌∙◌}
+use lib.ListN.{get_or}
+use Rattle.frame.specs.Coded.{digits, listed, grid, letter_byte, letter_in, list_in, row_in}
+use Rattle.frame.specs.Layout.{letter_of}
+use Rattle.frame.proofs.Layouts.{no_letter, outside_letters}
 
--- the rows are the definition's, and there are no others
-abbrev pub rows_tested : (ℕ → ℕ) → List ℕ → Bool
-rows_tested f rows = eqb (length rows) 7 && below 7 (λ (c : ℕ). eqb (get_or rows c 0) (f c))
+-- Of a list of values, of a row of a list of rows, and of a grid.
+listed_at : {A : Type 0} (k : ℕ) (f : ℕ → A) (d : A) → ((i : ℕ) → k ≤ i → f i ≡ d) → (i : ℕ) → get_or (listed k f) i d ≡ f i
+listed_at zero f d none i = sym (none i zero-le)
+listed_at (suc k) f d none zero = refl
+listed_at (suc k) f d none (suc i) = listed_at k (λ (i : ℕ). f (suc i)) d (λ i h. none (suc i) (suc-le-suc h)) i
 
-pub row_at : (f : ℕ → ℕ) (rows : List ℕ) (c r : ℕ) → r ≡ row_in rows c → T (rows_tested f rows) → ((c : ℕ) → 6 < c → 0 ≡ f c) → r ≡ f c
+in_row : {A : Type 0} (k : ℕ) (g : ℕ → List A) (n : ℕ) (d : A) → ((i : ℕ) → k ≤ i → get_or (g i) n d ≡ d) → (i : ℕ)
+    → get_or (get_or (listed k g) i []) n d ≡ get_or (g i) n d
+in_row zero g n d none i = sym (none i zero-le)
+in_row (suc k) g n d none zero = refl
+in_row (suc k) g n d none (suc i) = in_row k (λ (i : ℕ). g (suc i)) n d (λ i h. none (suc i) (suc-le-suc h)) i
+
+grid_at : {A : Type 0} (f : ℕ → ℕ → A) (d : A) → ((c n : ℕ) → 6 < c → f c n ≡ d) → ((c n : ℕ) → 9 < n → f c n ≡ d) → (c n : ℕ)
+    → get_or (get_or (grid f) c []) n d ≡ f c n
+grid_at f d over outside c n =
+    let at = λ (c : ℕ). listed_at 10 (f c) d (outside c) n in
+    in_row 7 (λ (c : ℕ). listed 10 (f c)) n d (λ i h. at i ∙ over i n h) c ∙ at c
+
+-- What the code's lookups read.
+pub digits_at : (f : ℕ → ℕ → ℕ) (rows : List ℕ) (c r : ℕ) → r ≡ row_in rows c → rows ≡ listed 7 (λ c. digits 10 (f c))
+    → ((c n : ℕ) → 6 < c → f c n ≡ 0) → r ≡ digits 10 (f c)
 unfolding row_in
-row_at f rows c r read t none =
-    let each = λ (c : ℕ). eqb (get_or rows c 0) (f c) in
-    let seven : length rows ≡ 7 = eqb→eq (length rows) 7 (and_l (eqb (length rows) 7) (below 7 each) t) in
-    read
-    ∙ elim (dec_lt c 7) [
-      | yes h ↦ eqb→eq _ _ (below_at 7 each (and_r (eqb (length rows) 7) (below 7 each) t) c h)
-      | no h ↦ get_or-eq_default rows 0 {n = c} (omega (arith, seven)) ∙ none c (omega arith)
-    ]
+digits_at f rows c r read same over =
+    rw (read, same) (listed_at 7 (λ (c : ℕ). digits 10 (f c)) 0 (λ c h. ap (digits 10) (fun_ext (λ n. over c n h))) c)
+
+pub letter_at : (rows : List (List ℕ)) (c n l : ℕ) → l ≡ letter_in rows c n → rows ≡ grid (λ c n. letter_byte (letter_of c n)) → l ≡ letter_byte (letter_of c n)
+unfolding letter_in
+letter_at rows c n l read same =
+    rw (read, same) (grid_at (λ c n. letter_byte (letter_of c n)) 85 (λ c n h. rw (no_letter c n h)) (λ c n h. rw (outside_letters c n h)) c n)
+
+pub list_at : (f : ℕ → ℕ → List ℕ) (rows : List (List (List ℕ))) (c n : ℕ) (l : List ℕ) → l ≡ list_in rows c n → rows ≡ grid f
+    → ((c n : ℕ) → 6 < c → f c n ≡ []) → ((c n : ℕ) → 9 < n → f c n ≡ []) → l ≡ f c n
+unfolding list_in
+list_at f rows c n l read same over outside = rw (read, same) (grid_at f [] over outside c n)

@@ -78,6 +78,16 @@ window_range c n h =
     let t = position_passes _ range_tested c n 0 h in
     (lit≤ (and_l (leb c 6) (leb n 9) t), lit≤ (and_r (leb c 6) (leb n 9) t))
 
+empty : (ks : List ℕ) → (0 < length ks → ⊥) → ks ≡ []
+empty [] h = refl
+empty (k ∷ ks) h = absurd (h (zero-lt-suc (length ks)))
+
+pub outside_configurations : (c n : ℕ) → 6 < c → window_of c n ≡ []
+outside_configurations c n h = empty (window_of c n) (λ some. omega (arith, (window_range c n some).0))
+
+pub outside_subframes : (c n : ℕ) → 9 < n → window_of c n ≡ []
+outside_subframes c n h = empty (window_of c n) (λ some. omega (arith, (window_range c n some).1))
+
 k_tested : T (every_position (λ c n ks m. leb 4 (get_or ks m 0) && leb (get_or ks m 0) 13) table)
 unfolding table
 k_tested = tt

@@ -1,7 +1,7 @@
 -- The code's form of the tables: the layouts with a letter as its byte, and of each table with ten numbers below 16, one for each
 -- subframe, one number a configuration, which has them as its hexadecimal digits.
 -- Assumes nothing.
-use Rattle.std.specs.Prelude.{ℕ, zero, suc, ◌+◌, ◌*◌, ◌/◌, ◌%◌, ◌^◌, cond, List, [], length, get_or}
+use Rattle.std.specs.Prelude.{ℕ, zero, suc, ◌+◌, ◌*◌, ◌/◌, ◌%◌, ◌^◌, cond, List, [], ◌∷◌, length, get_or}
 use Rattle.frame.specs.Distance.{distance_of, answered_position}
 use Rattle.frame.specs.Earliest.{earliest_k}
 use Rattle.frame.specs.Layout.{Letter, D, S, U, downlink}
@@ -16,6 +16,15 @@ digits (suc n) f = f 0 + 16 * digits n (λ (i : ℕ). f (suc i))
 abbrev pub digit_at : ℕ → ℕ → ℕ
 digit_at x n = x / 2 ^ (4 * n) % 16
 
+-- the n values f 0, f 1, .., f (n - 1)
+abbrev pub listed : {A : Type 0} → ℕ → (ℕ → A) → List A
+listed zero f = []
+listed (suc n) f = f 0 ∷ listed n (λ (i : ℕ). f (suc i))
+
+-- a row for each configuration, with a value for each of the ten subframes
+abbrev pub grid : {A : Type 0} → (ℕ → ℕ → A) → List (List A)
+grid f = listed 7 (λ (c : ℕ). listed 10 (f c))
+
 -- the letter's byte
 abbrev pub letter_byte : Letter → ℕ
 letter_byte D = 68
@@ -25,6 +34,10 @@ letter_byte U = 85
 -- the byte of a subframe; U's where the rows have none
 unfoldable pub letter_in : List (List ℕ) → ℕ → ℕ → ℕ
 letter_in rows c n = get_or (get_or rows c []) n 85
+
+-- the list of a subframe; the empty one where the rows have none
+unfoldable pub list_in : List (List (List ℕ)) → ℕ → ℕ → List ℕ
+list_in rows c n = get_or (get_or rows c []) n []
 
 -- the row of a configuration; 0 where the rows have none
 unfoldable pub row_in : List ℕ → ℕ → ℕ

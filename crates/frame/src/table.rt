@@ -1,6 +1,7 @@
-// The frame layouts and Table 10.1-1 (document 01, "Frame and windows"), one row of source for each row of the print.
-ghost use Rattle.std.specs.Prelude.{◌≡◌, length};
-ghost use Rattle.frame.specs.Coded.{letter_byte, letter_in, row_in, size_digits, earliest_digits, distance_digits, position_digits, coded_position};
+// The frame layouts and Table 10.1-1 (document 01, "Frame and windows"), one row of source for each configuration. A table is lent and looked
+// up, not matched on: so it is read in its place, by one load, and the tables that a call reads don't become jumps by configuration.
+ghost use Rattle.std.specs.Prelude.{◌≡◌, length, map};
+ghost use Rattle.frame.specs.Coded.{letter_byte, letter_in, row_in, grid, list_in, size_digits, earliest_digits, distance_digits, position_digits, coded_position};
 ghost use Rattle.frame.specs.Distance.{distance_of};
 ghost use Rattle.frame.specs.Earliest.{earliest_k};
 ghost use Rattle.frame.specs.Layout.{letter_of, downlink, is_special};
@@ -20,7 +21,7 @@ const LAYOUTS: [[u8; 10]; 7] = [
     *b"DSUUUDSUUD",
 ];
 
-// The letter in a table of layouts, U where there is none.
+// The letter in a table of layouts; U where there is none.
 #[tactic(auto, unfolding(crate::specs::Coded::letter_in))]
 fn letter_in(rows: &'static [[u8; 10]], config: u16, n: u16) -> u8
     ensures { result ≡ letter_in rows.now config n }
@@ -41,59 +42,42 @@ fn letter_of(config: u16, n: u16) -> u8
     letter_in(&LAYOUTS, config, n)
 }
 
+// A subframe without a window.
+const N: &[u16] = &[];
+
+// Table 10.1-1: a row for each configuration and a column for each subframe 0 to 9, K in the print's order.
+const WINDOWS: [[&[u16]; 10]; 7] = [
+    [N, N, &[6], N, &[4], N, N, &[6], N, &[4]],
+    [N, N, &[7, 6], &[4], N, N, N, &[7, 6], &[4], N],
+    [N, N, &[8, 7, 4, 6], N, N, N, N, &[8, 7, 4, 6], N, N],
+    [N, N, &[7, 6, 11], &[6, 5], &[5, 4], N, N, N, N, N],
+    [N, N, &[12, 8, 7, 11], &[6, 5, 4, 7], N, N, N, N, N, N],
+    [N, N, &[13, 12, 9, 8, 7, 5, 4, 11, 6], N, N, N, N, N, N, N],
+    [N, N, &[7], &[7], &[5], N, N, &[7], &[7], N],
+];
+
+// The list in a table of lists; the empty one where there is none.
+#[tactic(auto, unfolding(crate::specs::Coded::list_in))]
+fn list_in(rows: &'static [[&'static [u16]; 10]], config: u16, n: u16) -> &'static [u16]
+    ensures { result.now ≡ list_in (map (map (λ ks. ks.now)) rows.now) config n }
+{
+    match rows.get(config as usize) {
+        Some(row) => match row.get(n as usize) {
+            Some(&list) => list,
+            None => &[],
+        },
+        None => &[],
+    }
+}
+
 // The window of subframe n: K in the print's order, so that M is its length. Empty where there is none, outside the table too.
 pub fn window_of(config: u16, n: u16) -> &'static [u16]
     ensures { result.now ≡ window_of config n }
 {
-    match config {
-        0 => match n {
-            2 => &[6],
-            4 => &[4],
-            7 => &[6],
-            9 => &[4],
-            _ => &[],
-        },
-        1 => match n {
-            2 => &[7, 6],
-            3 => &[4],
-            7 => &[7, 6],
-            8 => &[4],
-            _ => &[],
-        },
-        2 => match n {
-            2 => &[8, 7, 4, 6],
-            7 => &[8, 7, 4, 6],
-            _ => &[],
-        },
-        3 => match n {
-            2 => &[7, 6, 11],
-            3 => &[6, 5],
-            4 => &[5, 4],
-            _ => &[],
-        },
-        4 => match n {
-            2 => &[12, 8, 7, 11],
-            3 => &[6, 5, 4, 7],
-            _ => &[],
-        },
-        5 => match n {
-            2 => &[13, 12, 9, 8, 7, 5, 4, 11, 6],
-            _ => &[],
-        },
-        6 => match n {
-            2 => &[7],
-            3 => &[7],
-            4 => &[5],
-            7 => &[7],
-            8 => &[7],
-            _ => &[],
-        },
-        _ => &[],
-    }
+    list_in(&WINDOWS, config, n)
 }
 
-// The row of a configuration, 0 where there is none. A table is lent and looked up, not matched on: it is read in its place, by one load,
-// and several tables that a call reads don't become jumps by configuration.
+// The row in a table of numbers; 0 where there is none.
 #[tactic(auto, unfolding(crate::specs::Coded::row_in))]
 fn digits_in(rows: &'static [u64], config: u16) -> u64
     ensures { result ≡ row_in rows.now config }
@@ -179,26 +163,23 @@ fn positions_of(config: u16) -> u64
     )
 }
 
-// Derived from the rows: the positions of the window of subframe n with k falling, that is in time order; a table, since a sort would need
-// room for its list. It is no part of a caller: with it `feedback_window` would take more stack than the header states.
-#[inline(never)]
+// Derived from the rows: the positions of the windows with k falling, that is in time order; a table, since a sort would need room for its
+// list.
+const ORDERS: [[&[u16]; 10]; 7] = [
+    [N, N, &[0], N, &[0], N, N, &[0], N, &[0]],
+    [N, N, &[0, 1], &[0], N, N, N, &[0, 1], &[0], N],
+    [N, N, &[0, 1, 3, 2], N, N, N, N, &[0, 1, 3, 2], N, N],
+    [N, N, &[2, 0, 1], &[0, 1], &[0, 1], N, N, N, N, N],
+    [N, N, &[0, 3, 1, 2], &[3, 0, 1, 2], N, N, N, N, N, N],
+    [N, N, &[0, 1, 7, 2, 3, 4, 8, 5, 6], N, N, N, N, N, N, N],
+    [N, N, &[0], &[0], &[0], N, N, &[0], &[0], N],
+];
+
+// The positions of the window of subframe n in time order. Empty where there is no window.
 pub fn order_of(config: u16, n: u16) -> &'static [u16]
     ensures { result.now ≡ order_of (window_of config n) }
 {
-    match size_of(config, n) {
-        1 => &[0],
-        2 => &[0, 1],
-        3 => &[2, 0, 1],
-        4 => match config {
-            2 => &[0, 1, 3, 2],
-            _ => match n {
-                2 => &[0, 3, 1, 2],
-                _ => &[3, 0, 1, 2],
-            },
-        },
-        9 => &[0, 1, 7, 2, 3, 4, 8, 5, 6],
-        _ => &[],
-    }
+    list_in(&ORDERS, config, n)
 }
 
 // Subframe n is downlink, D or S: a PDCCH can be sent there.
