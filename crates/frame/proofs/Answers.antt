@@ -1,7 +1,7 @@
 -- The answer for a downlink subframe: its refusal, and that in an accepted cell it is there and is the only one.
 -- Assumes nothing.
 use Prim.Native.Nat.{ℕ, ◌+◌, ◌<◌, ◌≤◌, ◌%◌}
-use mathlib.Core.Bool.{true, false, cond, false≢true}
+use mathlib.Core.Bool.{true, false, false≢true}
 use mathlib.Core.Path.{◌≡◌, refl, sym, ap, ◌∙◌}
 use native.Mathlib.Decide.{dec_lt}
 use native.Mathlib.Omega.{arith}
@@ -14,11 +14,10 @@ use Rattle.frame.specs.Layout.{downlink}
 use Rattle.frame.specs.Once.{InWindow, InExactlyOne}
 use Rattle.frame.specs.Refusals.{number_of, refusal_in}
 use Rattle.frame.specs.Settings.{settings_refusal}
-use Rattle.frame.proofs.Accepted.{neither, held}
 use Rattle.frame.proofs.Causes.{refused_next}
-use Rattle.frame.proofs.Distances.{distance_most}
+use Rattle.frame.proofs.Distances.{distance_most, downlink_distance, uplink_distance}
 use Rattle.frame.proofs.Layouts.{outside_frame}
-use Rattle.frame.proofs.Refused.{value_refused}
+use Rattle.frame.proofs.Refused.{chain_refused}
 use Rattle.frame.proofs.Windows.{inside_downlink, distance_inside, position_window, exactly_one_holds}
 
 -- Accepted settings are refused by 7 exactly where d is not downlink.
@@ -31,34 +30,40 @@ module _ (s : Settings) (d k : ℕ) (asked : k ≡ settings_refusal s) (none : k
   unfolding answered_refusal no_downlink_refusal
   at_other e = refused_next k _ 7 _ asked none (rw e)
 
--- Where 1 to 7, 17, 19 and 24 are not met, d is downlink.
-pub answered_downlink : (s : Settings) (d : ℕ) → answered_refusal s d ≡ 0 → downlink s.config d ≡ true
-unfolding answered_refusal no_downlink_refusal
-answered_downlink s d e =
-    (held (downlink s.config d) 6 0 (neither (settings_refusal s) (cond (downlink s.config d) 0 7) e).1).0
-
 -- A downlink subframe is one of the frame's ten.
 pub downlink_frame : (c d : ℕ) → downlink c d ≡ true → d ≤ 9
 downlink_frame c d e =
     elim (dec_lt 9 d) [ yes over ↦ absurd (false≢true (outside_frame c d over ∙ e)) | no within ↦ omega arith ]
 
--- What the code answers: the refusal, or for a downlink subframe its sum, which fits, and its answer.
-module _ (s : Settings) (d : ℕ) {T : Type 0} (asked : Result T Refusal) (told : refusal_in asked ≡ answered_refusal s d) where
+-- What the code answers: the settings' refusal, or 7, or for a downlink subframe its answer.
+module _ (s : Settings) (d : ℕ) {T : Type 0} (asked : Result T Refusal) (told : refusal_in asked ≡ settings_refusal s) where
   pub answer_refused : (e : Refusal) → asked ≡ Err e → answered_of s d ≡ Err (number_of e)
+  unfolding answered_refusal answered_of
+  answer_refused e refused = chain_refused asked e (settings_refusal s) _ _ refused told
+
+  accepted : (x : T) → asked ≡ Ok x → 0 ≡ settings_refusal s
+  accepted x ok = sym (ap refusal_in ok) ∙ told
+
+  refused : (x : T) → asked ≡ Ok x → downlink s.config d ≡ false → answered_of s d ≡ Err 7
   unfolding answered_of
-  answer_refused e refused = value_refused asked e (answered_refusal s d) _ refused told
+  refused x ok e = rw (← at_other s d 0 (accepted x ok) refl e)
 
-  accepted : (x : T) → asked ≡ Ok x → answered_refusal s d ≡ 0
-  accepted x ok = sym told ∙ ap refusal_in ok
+  pub over_refused : (x : T) → asked ≡ Ok x → 9 < d → answered_of s d ≡ Err 7
+  over_refused x ok over = refused x ok (sym (outside_frame s.config d over))
 
-  pub answer_small : (x : T) → asked ≡ Ok x → (k : ℕ) → k ≡ distance_of s.config d → d + k < 65536
-  answer_small x ok k e =
-      omega (arith, downlink_frame s.config d (answered_downlink s d (accepted x ok)), distance_most s.config d)
+  pub uplink_refused : (x : T) → asked ≡ Ok x → d ≤ 9 → (k : ℕ) → k ≡ distance_of s.config d → k ≡ 0 → answered_of s d ≡ Err 7
+  uplink_refused x ok within k e none = refused x ok (uplink_distance s.config d within (sym e ∙ none))
 
-  pub answer_told : (x : T) → asked ≡ Ok x → (k m : ℕ) → k ≡ distance_of s.config d → m ≡ coded_position s.config d
+  pub answer_told : (x : T) → asked ≡ Ok x → d ≤ 9 → (k m : ℕ) → k ≡ distance_of s.config d → (k ≡ 0 → ⊥) → m ≡ coded_position s.config d
       → Ok (record { n = (d + k) % 10; k = k; position = m }) ≡ answered_of s d
   unfolding coded_position uplink_of answered_of
-  answer_told x ok k m ek em = rw (accepted x ok, ek, em, answered_downlink s d (accepted x ok))
+  answer_told x ok within k m ek some em =
+      let down = downlink_distance s.config d within (omega arith) in
+      rw (← at_downlink s d 0 (accepted x ok) refl down, ek, em, down)
+
+-- The sum fits.
+pub answer_small : (c d k : ℕ) → d ≤ 9 → k ≡ distance_of c d → d + k < 65536
+answer_small c d k within e = omega (arith, distance_most c d)
 
 -- An answer for d is a position of d in the window of d + k of the run.
 in_run : (c d n k m : ℕ) → Answers c d n k m → InWindow c (d + k) m d

@@ -7,14 +7,16 @@ use mathlib.Core.List.{List, [], ◌∷◌}
 use mathlib.Core.Path.{◌≡◌, refl}
 use native.Mathlib.Nat.{le_refl, le_step}
 use native.Mathlib.Omega.{arith}
-use lib.Dec.{eqb}
+use native.Mathlib.Decide.{dec_lt}
+use lib.Dec.{T, eqb, leb, eqb→eq, leb→le}
 use lib.ListN.{length}
 use Rattle.frame.specs.Coded.{coded_position}
 use Rattle.frame.specs.Distance.{distance_up_to, distance_of, uplink_of, answered_position}
-use Rattle.frame.specs.Layout.{letter_of, downlink}
+use Rattle.frame.specs.Layout.{layouts, letter_of, downlink}
 use Rattle.frame.specs.Order.{member, position_of}
-use Rattle.frame.specs.Table.{window_of}
-use Rattle.frame.proofs.Layouts.{no_layout, outside_frame}
+use Rattle.frame.specs.Table.{table, window_of}
+use Rattle.frame.proofs.Below.{below, below_at}
+use Rattle.frame.proofs.Layouts.{no_layout, no_letter, outside_frame}
 use Rattle.frame.proofs.Windows.{window_size, outside_configurations}
 
 most_up_to : (k c d : ℕ) → distance_up_to k c d ≤ k
@@ -52,6 +54,36 @@ none_up_to (suc k) c d h = rw (outside_configurations c ((d + suc k) % 10) h, no
 pub no_distance : (c d : ℕ) → 6 < c → distance_of c d ≡ 0
 unfolding distance_of
 no_distance c d h = none_up_to 13 c d h
+
+-- Only an uplink subframe has distance 0.
+abbrev answers : ℕ → ℕ → Bool
+answers c d = cond (downlink c d) (leb 1 (distance_of c d)) (eqb (distance_of c d) 0)
+
+answers_tested : T (below 7 (λ c. below 10 (answers c)))
+unfolding table window_of layouts letter_of downlink distance_up_to distance_of
+answers_tested = tt
+
+answers_at : (c d : ℕ) → d ≤ 9 → T (answers c d)
+unfolding downlink
+answers_at c d h =
+    elim (dec_lt c 7) [
+      | yes inside ↦ below_at 10 (answers c) (below_at 7 (λ c. below 10 (answers c)) answers_tested c inside) d (omega arith)
+      | no over ↦ rw (no_letter c d (omega arith), no_distance c d (omega arith)) tt
+    ]
+
+pub downlink_distance : (c d : ℕ) → d ≤ 9 → 0 < distance_of c d → downlink c d ≡ true
+downlink_distance c d h some = go (downlink c d) refl (answers_at c d h)
+  where
+    go : (b : Bool) → downlink c d ≡ b → T (cond b (leb 1 (distance_of c d)) (eqb (distance_of c d) 0)) → b ≡ true
+    go true e t = refl
+    go false e t = absurd (omega (arith, eqb→eq (distance_of c d) 0 t))
+
+pub uplink_distance : (c d : ℕ) → d ≤ 9 → distance_of c d ≡ 0 → downlink c d ≡ false
+uplink_distance c d h none = go (downlink c d) refl (answers_at c d h)
+  where
+    go : (b : Bool) → downlink c d ≡ b → T (cond b (leb 1 (distance_of c d)) (eqb (distance_of c d) 0)) → b ≡ false
+    go true e t = absurd (omega (arith, leb→le 1 (distance_of c d) t))
+    go false e t = refl
 
 within_length : (k : ℕ) (ks : List ℕ) → position_of k ks ≤ length ks
 within_length k [] = zero-le

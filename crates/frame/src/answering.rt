@@ -1,9 +1,9 @@
 // The answer for one downlink subframe: Table 10.1-1 read the other way round.
 ghost use Rattle.std.specs.Prelude.{◌≡◌};
-ghost use Rattle.frame.specs.Distance.{answered_refusal, answered_of, before, shares};
-ghost use Rattle.frame.specs.Refusals.{refusal_in, numbered};
+ghost use Rattle.frame.specs.Distance.{answered_of, before, shares};
+ghost use Rattle.frame.specs.Refusals.{numbered};
 
-use crate::table::{distance_of, is_downlink, position_of};
+use crate::table::{distance_of, position_of};
 use crate::{Answered, Refusal, Settings};
 
 // The subframe k before n, by its number in the frame.
@@ -14,25 +14,20 @@ pub fn before(n: u16, k: u16) -> u16
 }
 
 impl Settings {
-    // The first of refusals 1 to 6, 17, 19 and 24 that the settings meet, then 7 for a subframe d that is not downlink.
-    #[tactic(auto, using(crate::proofs::Refused::first_refused, crate::proofs::Refused::first_accepted), unfolding(crate::specs::Distance::answered_refusal, crate::specs::Distance::no_downlink_refusal))]
-    fn check_downlink(self, d: u16) -> Result<(), Refusal>
-        ensures { refusal_in result ≡ answered_refusal self d }
-    {
-        self.check()?;
-        if !is_downlink(self.config, d) {
-            return Err(Refusal::Subframe);
-        }
-        Ok(())
-    }
-
-    // The uplink subframe that answers for subframe d, how far it is from d, and d's position in its window.
-    #[tactic(auto, using(crate::proofs::Answers::answer_refused, crate::proofs::Answers::answer_told, crate::proofs::Answers::answer_small))]
+    // The uplink subframe that answers for subframe d, how far it is from d, and d's position in its window: or the first of refusals 1 to 6,
+    // 17, 19 and 24 that the settings meet, then 7 for a subframe d that is not downlink. Such a subframe is over 9, or its distance is 0.
+    #[tactic(auto, using(crate::proofs::Answers::answer_refused, crate::proofs::Answers::over_refused, crate::proofs::Answers::uplink_refused, crate::proofs::Answers::answer_told, crate::proofs::Answers::answer_small))]
     pub fn answered(self, d: u16) -> Result<Answered, Refusal>
         ensures { numbered result ≡ answered_of self d }
     {
-        self.check_downlink(d)?;
+        self.check()?;
+        if 9 < d {
+            return Err(Refusal::Subframe);
+        }
         let k = distance_of(self.config, d);
+        if k == 0 {
+            return Err(Refusal::Subframe);
+        }
         Ok(Answered {
             n: (d + k) % 10,
             k,
