@@ -6,6 +6,7 @@ ghost use Rattle.std.specs.Prelude.{◌≡◌, map, slice_get};
 ghost use Rattle.symbols.specs.Coded.{printed, states_of, symbol_at};
 ghost use Rattle.symbols.specs.Delivered.{delivery_of};
 ghost use Rattle.symbols.specs.Selection.{table_of, symbol_of};
+ghost use Rattle.symbols.specs.declared.TheConstants.{DELIVERED};
 
 use Cell::{Ack, Dtx, Nack, NackDtx};
 
@@ -193,6 +194,13 @@ pub fn symbol_of(size: u16, code: u16) -> Option<Symbol>
     }
 }
 
+// The sets, as memory that is read in place: an index into the constant itself would copy all of it at every call.
+fn deliveries() -> &'static [[[[Option<u16>; 2]; 2]; 4]]
+    ensures { result.now ≡ DELIVERED }
+{
+    &DELIVERED
+}
+
 // What a symbol delivers for M = size: the positions that are A in every state whose symbol this is, bit p for position p; nothing
 // where the symbol is in no row.
 #[tactic(auto, using(crate::proofs::Reading::in_row))]
@@ -203,5 +211,5 @@ pub fn delivered(size: u16, symbol: Symbol) -> Option<u16>
     if !(2..=4).contains(&size) || index > 3 || b0 > 1 || b1 > 1 {
         return None;
     }
-    DELIVERED[usize::from(size - 2)][usize::from(index)][usize::from(b0)][usize::from(b1)]
+    deliveries()[usize::from(size - 2)][usize::from(index)][usize::from(b0)][usize::from(b1)]
 }

@@ -43,4 +43,5 @@ read size i b0 b1 m j x y h em ej ex ey =
 
 pub returns : goal.returns
 returns c = let a = c.args in
-    read a.size a.symbol.index a.symbol.b0 a.symbol.b1 _ _ _ _ (search rules) c.from.ensures c.from-2.ensures c.from-3.ensures c.from-4.ensures
+    rw c.deliveries.ensures
+    (read a.size a.symbol.index a.symbol.b0 a.symbol.b1 _ _ _ _ (search rules) c.from.ensures c.from-2.ensures c.from-3.ensures c.from-4.ensures)
