@@ -5,8 +5,9 @@ mod window;
 
 ghost use Rattle.std.specs.Prelude.{◌≡◌, ◌≤◌};
 ghost use Rattle.fold.specs.Fold.{unseen, step_of, expected};
+ghost use Rattle.heard.specs.Memory.{view_in};
 
-use heard::View;
+use heard::Slot;
 use resource::Cce;
 pub use window::seen_in;
 
@@ -40,29 +41,25 @@ impl Seen {
         }
     }
 
-    // One subframe more, at position m.
-    #[tactic(auto, unfolding(crate::specs::Fold::step_of))]
-    fn step(self, m: u16, x: View) -> Seen
+    // One subframe more, at position m. Each field is chosen by itself, with no branch on what was heard, for speed: what is chosen from is
+    // made before, since a choice of which one side calls a function is compiled to a branch.
+    fn step(self, m: u16, t: Slot) -> Seen
         requires { self.u ≤ 9 }
-        ensures { result ≡ step_of self m x }
+        ensures { result ≡ step_of self m (view_in t) }
     {
-        match x {
-            View::Unheard => self,
-            View::Pdcch(g) => Seen {
-                u: self.u + 1,
-                v: g.dai,
-                position: m,
-                cce: g.cce,
-                first: self.first && g.first,
-                second: self.second && g.second,
-                ..self
-            },
-            View::Block(b) => Seen {
-                first: self.first && b.first,
-                second: self.second && b.second,
-                scheduled: true,
-                ..self
-            },
+        let pdcch = t.heard_pdcch();
+        let (dai, first_cce) = (t.dai.into(), Cce::new(t.cce.into()));
+        let v = if pdcch { dai } else { self.v };
+        let position = if pdcch { m } else { self.position };
+        let cce = if pdcch { first_cce } else { self.cce };
+        Seen {
+            u: self.u + pdcch as u16,
+            v,
+            position,
+            cce,
+            first: self.first & !t.first_failed(),
+            second: self.second & !t.second_failed(),
+            scheduled: self.scheduled | t.heard_block(),
         }
     }
 

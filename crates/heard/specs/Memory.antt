@@ -1,12 +1,13 @@
 -- A remembered subframe as four numbers, and what stood k subframes ago.
 -- Assumes nothing.
-use Rattle.std.specs.Prelude.{ℕ, ◌+◌, ◌-◌, ◌*◌, ◌/◌, ◌%◌, Bool, cond, List, eqb, get_or}
+use Rattle.std.specs.Prelude.{ℕ, ◌+◌, ◌-◌, ◌*◌, ◌/◌, ◌%◌, Bool, true, false, not, cond, List, eqb, get_or}
 use Rattle.frame.specs.Table.{window_of}
 use Rattle.heard.specs.declared.Heard.{Heard}
 use Rattle.heard.specs.declared.Heard.TheVariants.{Nothing, Granted, Scheduled, Released}
 use Rattle.heard.specs.declared.Memory.{Memory}
 use Rattle.heard.specs.declared.Slot.{Slot}
 use Rattle.heard.specs.declared.View.{View}
+use Rattle.heard.specs.declared.View.TheVariants.{Unheard, Pdcch, Block}
 use Rattle.heard.specs.Heard.{view_of}
 
 -- Nothing heard: every number 0.
@@ -48,6 +49,29 @@ heard_in t =
 -- What a reply sees of a remembered subframe.
 unfoldable pub view_in : Slot → View
 view_in t = view_of (heard_in t)
+
+-- It is a PDCCH.
+abbrev pub sees_pdcch : View → Bool
+sees_pdcch Unheard = false
+sees_pdcch (Pdcch g) = true
+sees_pdcch (Block b) = false
+
+-- It is a scheduled block.
+abbrev pub sees_block : View → Bool
+sees_block Unheard = false
+sees_block (Pdcch g) = false
+sees_block (Block b) = true
+
+-- The first block, and the second one, was heard and did not decode.
+abbrev pub first_failed : View → Bool
+first_failed Unheard = false
+first_failed (Pdcch g) = not g.first
+first_failed (Block b) = not b.first
+
+abbrev pub second_failed : View → Bool
+second_failed Unheard = false
+second_failed (Pdcch g) = not g.second
+second_failed (Block b) = not b.second
 
 -- What a reply sees of the subframe k ago; the newest slot comes first, and before the oldest nothing was heard.
 unfoldable pub view_ago : List Slot → ℕ → View

@@ -4,9 +4,9 @@
 mod checks;
 mod kind;
 
-ghost use Rattle.std.specs.Prelude.{◌≡◌, ◌≤◌, cond, eqb};
-ghost use Rattle.heard.specs.Heard.{view_of};
-ghost use Rattle.heard.specs.Memory.{heard_in, ks_in, views_in};
+ghost use Rattle.std.specs.Prelude.{◌-◌, ◌≡◌, ◌≤◌, cond, eqb, get_or};
+ghost use Rattle.heard.specs.Heard.{is_data, view_of};
+ghost use Rattle.heard.specs.Memory.{first_failed, second_failed, heard_in, ks_in, none, sees_block, sees_pdcch, view_in, views_in};
 ghost use Rattle.heard.specs.declared.View.TheVariants.{Unheard};
 
 pub use checks::check_heard;
@@ -85,6 +85,53 @@ pub struct Slot {
     pub cce: u8,
     pub dai: u8,
     pub results: u8,
+}
+
+// What a reply sees of a remembered subframe, by tests with no branch on its kind, for speed.
+impl Slot {
+    // A PDCCH was heard.
+    #[tactic(auto, using(crate::proofs::Remembered::pdcch_seen))]
+    pub fn heard_pdcch(self) -> bool
+        ensures { result ≡ sees_pdcch (view_in self) }
+    {
+        (self.kind == SlotKind::Grant as u8) | (self.kind == SlotKind::Release as u8)
+    }
+
+    // A scheduled block was heard.
+    #[tactic(auto, using(crate::proofs::Remembered::block_seen))]
+    pub fn heard_block(self) -> bool
+        ensures { result ≡ sees_block (view_in self) }
+    {
+        self.kind == SlotKind::Block as u8
+    }
+
+    // A grant or a scheduled block was heard, which have results.
+    #[tactic(auto, using(crate::proofs::Remembered::data_heard))]
+    fn heard_data(self) -> bool
+        ensures { result ≡ is_data (heard_in self) }
+    {
+        (self.kind == SlotKind::Grant as u8) | (self.kind == SlotKind::Block as u8)
+    }
+
+    // The first block was heard and did not decode.
+    #[tactic(auto, using(crate::proofs::Remembered::first_fails))]
+    pub fn first_failed(self) -> bool
+        ensures { result ≡ first_failed (view_in self) }
+    {
+        let decoded = self.results % 2 == 1;
+        self.heard_data() & !decoded
+    }
+
+    // The second block was heard and did not decode; a sole block's result stands for both.
+    pub fn second_failed(self) -> bool
+        ensures { result ≡ second_failed (view_in self) }
+    {
+        let first = self.results % 2 == 1;
+        let second = self.results / 2 % 2 == 1;
+        let two = self.results / 4 % 2 == 1;
+        let decoded = if two { second } else { first };
+        self.heard_data() & !decoded
+    }
 }
 
 // What a remembered subframe heard, by its kind; nothing where there is no such kind.
@@ -169,16 +216,22 @@ impl Memory<'_> {
         frame::window_of(self.settings.config, self.n)
     }
 
+    // The slot of the subframe k before n; before the oldest slot, and in n itself, one that heard nothing.
+    pub fn slot_ago(self, k: u16) -> Slot
+        ensures before { 1 ≤ k → result ≡ get_or self.entry.past.now (k - 1) none }
+        ensures none_yet { k ≡ 0 → result ≡ none }
+    {
+        // (of 0 it is more than any length)
+        let ago = usize::from(k).wrapping_sub(1);
+        self.past.get(ago).copied().unwrap_or_default()
+    }
+
     // What a reply sees of the subframe k before n; before the oldest slot nothing was heard, and in n itself nothing yet.
-    #[tactic(auto, unfolding(crate::specs::Memory::view_ago, crate::specs::Memory::view_in))]
+    #[tactic(auto, unfolding(crate::specs::Heard::view_of, crate::specs::Memory::heard_in, crate::specs::Memory::view_ago, crate::specs::Memory::view_in))]
     pub fn view_ago(self, k: u16) -> View
         ensures before { 1 ≤ k → result ≡ views_in self.entry k }
         ensures none_yet { k ≡ 0 → result ≡ Unheard }
     {
-        let Some(ago) = k.checked_sub(1) else {
-            return View::Unheard;
-        };
-        let slot = self.past.get(ago as usize);
-        View::from(Heard::from(slot.copied().unwrap_or_default()))
+        View::from(Heard::from(self.slot_ago(k)))
     }
 }
