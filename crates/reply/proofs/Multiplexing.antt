@@ -3,8 +3,9 @@
 use Rattle.std.proofs.Common.{Result, Option, Some, None}
 use Rattle.resource.specs.declared.Resource.{Resource}
 use Prim.Native.Nat.{ℕ, ◌+◌, ◌*◌, ◌^◌, ◌<◌, ◌≤◌}
+use mathlib.Core.Bool.{Bool, true, false, cond, not, ◌&&◌, ◌||◌, false≢true}
 use mathlib.Core.List.{List, [], ◌∷◌, ◌++◌, map-append}
-use mathlib.Core.Path.{◌≡◌, sym, ap, ◌∙◌}
+use mathlib.Core.Path.{◌≡◌, refl, sym, ap, ◌∙◌}
 use native.Mathlib.Nat.{mul_assoc, pow-suc, pow-le-pow_right}
 use native.Mathlib.Numerals.{add-one}
 use native.Mathlib.Omega.{arith}
@@ -23,7 +24,27 @@ use Rattle.symbols.proofs.Rows.{index_heard}
 use Rattle.reply.specs.declared.Answer.TheVariants.{Silent}
 use Rattle.reply.specs.Kinds.{kind_multiplexed}
 use Rattle.heard.specs.declared.View.{View}
+use Rattle.heard.specs.declared.View.TheVariants.{Unheard, Pdcch, Block}
+use Rattle.heard.specs.Memory.{sees_pdcch, sees_block, first_failed, second_failed}
 use Rattle.reply.specs.Replies.{reply_on, state_of, carrier_of, window_state, symbol_answer, multiplexed_answer}
+
+-- The digit of a position, from what a reply sees of it.
+both_decoded : (first second : Bool) → cond (not first || not second) 1 0 ≡ state_digit (cond (first && second) Ack Nack)
+both_decoded true true = refl
+both_decoded true false = refl
+both_decoded false second = refl
+
+pub digit_heard : (x : View) → (sees_pdcch x || sees_block x) ≡ true → cond (first_failed x || second_failed x) 1 0 ≡ state_digit (state_of x)
+unfolding state_of
+digit_heard Unheard e = absurd (false≢true e)
+digit_heard (Pdcch g) e = both_decoded g.first g.second
+digit_heard (Block b) e = both_decoded b.first b.second
+
+pub digit_unheard : (x : View) → (sees_pdcch x || sees_block x) ≡ false → 2 ≡ state_digit (state_of x)
+unfolding state_of
+digit_unheard Unheard e = refl
+digit_unheard (Pdcch g) e = absurd (false≢true (sym e))
+digit_unheard (Block b) e = absurd (false≢true (sym e))
 
 -- One position more is one digit more.
 pub code_more : (ss : List State) (s : State) → code_of (ss ++ (s ∷ [])) ≡ code_of ss * 3 + state_digit s

@@ -1,9 +1,8 @@
 // The reply of a window (document 01, "The bundled reply" and "The multiplexed reply"; document 02, U1 and U9).
-ghost use Rattle.std.specs.Prelude.{◌≡◌, ◌≤◌, cond, ◌&&◌};
+ghost use Rattle.std.specs.Prelude.{◌≡◌, ◌≤◌};
 ghost use Rattle.frame.specs.Refusals.{numbered};
-ghost use Rattle.symbols.specs.declared.State.TheVariants.{Ack, Nack};
 ghost use Rattle.symbols.specs.Coded.{state_digit, code_of};
-ghost use Rattle.heard.specs.Memory.{bit, ks_in, views_in};
+ghost use Rattle.heard.specs.Memory.{bit, ks_in, view_in, views_in};
 ghost use Rattle.reply.specs.Kinds.{kind_bundled};
 ghost use Rattle.reply.specs.Replies.{reply_on, miss_shown, second_bit, on_scheduled, lone_answer, bundled_answer};
 ghost use Rattle.reply.specs.Replies.{state_of, carrier_of, window_state, multiplexed_answer, window_answer};
@@ -11,9 +10,8 @@ ghost use Rattle.reply.specs.Replies.{state_of, carrier_of, window_state, multip
 use crate::{Answer, Reply, ReplyKind};
 use fold::Seen;
 use frame::{Refusal, Settings};
-use heard::{Memory, View};
+use heard::{Memory, Slot, View};
 use resource::{Cce, Resource};
-use symbols::State;
 
 // A reply on the resource that the map gives; nothing is sent where it gives none.
 #[tactic(auto, unfolding(crate::specs::Replies::reply_on))]
@@ -100,33 +98,13 @@ fn bundled_answer(s: Settings, n: u16, seen: Seen) -> Answer
     bundled_on(s, mapped, seen)
 }
 
-// The state of a heard position.
-fn heard_state(first: bool, second: bool) -> State
-    ensures { result ≡ cond (first && second) Ack Nack }
+// The digit of a position's state: 0 for A, 1 for N, 2 for D. It is found with no branch on the slot's kind, for speed.
+fn digit_of(t: Slot) -> u16
+    ensures { result ≡ state_digit (state_of (view_in t)) }
 {
-    if first && second {
-        return State::Ack;
-    }
-    State::Nack
-}
-
-// The state of a position.
-#[tactic(auto, unfolding(crate::specs::Replies::state_of))]
-fn state_of(x: View) -> State
-    ensures { result ≡ state_of x }
-{
-    match x {
-        View::Unheard => State::Dtx,
-        View::Pdcch(g) => heard_state(g.first, g.second),
-        View::Block(b) => heard_state(b.first, b.second),
-    }
-}
-
-// The digit of a position's state: 0 for A, 1 for N, 2 for D.
-fn digit_of(x: View) -> u16
-    ensures { result ≡ state_digit (state_of x) }
-{
-    state_of(x) as u16
+    let heard = t.heard_pdcch() | t.heard_block();
+    let failed = t.first_failed() | t.second_failed();
+    if heard { failed as u16 } else { 2 }
 }
 
 // The resource of position m in the window of n: that of a PDCCH's first CCE, or the one configured for scheduled blocks.
@@ -148,7 +126,7 @@ fn code_of(memory: Memory) -> u16
 {
     let mut code = 0;
     for &k in memory.ks() {
-        code = code * 3 + digit_of(memory.view_ago(k));
+        code = code * 3 + digit_of(memory.slot_ago(k));
     }
     code
 }
