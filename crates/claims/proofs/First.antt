@@ -8,6 +8,8 @@ use mathlib.Core.Path.{◌≡◌, refl, sym, ◌∙◌}
 use native.Mathlib.Nat.{eq-or-lt_of_le, zero-add}
 use native.Mathlib.Omega.{arith}
 use lib.ListN.{length, get_or}
+use borrow.Author.Tests.{le-ltb}
+use Rattle.std.specs.Prelude.{None}
 use Rattle.std.specs.List.{position, position_or_len}
 use Rattle.frame.specs.declared.Settings.{Settings}
 use Rattle.claims.specs.Claims.{is_bad, first_index, first_bad, earlier, first_clash, found}
@@ -78,6 +80,14 @@ first_in_list test (x ∷ xs) = rw (later (λ k. test (get_or (x ∷ xs) k 0)) (
 pub position_bad : (s : Settings) (n : ℕ) (claims : List ℕ) → position (is_bad s n) claims ≡ found (first_bad s n claims) (length claims)
 unfolding first_bad
 position_bad s n claims = rw (first_in_list (is_bad s n) claims)
+
+-- A search of a list without a bad claim finds none.
+pub no_bad : (s : Settings) (n : ℕ) (claims : List ℕ) → ((k : ℕ) → k < length claims → is_bad s n (get_or claims k 0) ≡ false)
+    → position (is_bad s n) claims ≡ None
+unfolding first_bad
+no_bad s n claims good =
+    position_bad s n claims
+    ∙ rw (le-ltb (first_bad s n claims) (length claims) (omega (arith, first_none _ (length claims) (length claims) good (omega arith) (omega arith))))
 
 pub first_bad_holds : (s : Settings) (n : ℕ) (claims : List ℕ)
     → First (λ (i : ℕ). is_bad s n (get_or claims i 0)) 0 (length claims) (first_bad s n claims)

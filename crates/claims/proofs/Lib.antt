@@ -6,7 +6,7 @@ pub mod First
 pub mod Forms
 pub mod Front
 pub mod Marked
-pub mod Offsets
+pub mod Offset
 pub mod OnPorts
 pub mod Share
 pub mod Turn

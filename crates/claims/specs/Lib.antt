@@ -6,4 +6,5 @@ pub mod Form
 pub mod Forms
 pub mod Laws
 pub mod Marking
+pub mod Offsets
 pub mod OnPorts

@@ -3,6 +3,7 @@
 // (U6).
 #![tactic(auto)]
 
+mod offsets;
 mod scratch;
 mod window;
 

@@ -1,39 +1,39 @@
 // The window that claims are for, and the two passes over them: the first bad claim, then marks up to the first clash.
 ghost use Rattle.std.specs.Prelude.{◌≡◌, ◌+◌, ◌<◌, ◌≤◌, false, length, None, position};
-ghost use Rattle.resource.specs.Formula.{edge};
-ghost use Rattle.claims.specs.Claims.{resources_of, ports_more, room_of, is_bad, first_bad, first_clash, found, marked};
+ghost use Rattle.frame.specs.Settings.{has_second_port};
+ghost use Rattle.claims.specs.Claims.{resources_of, room_of, is_bad, first_bad, first_clash, found, marked};
 ghost use Rattle.claims.specs.Marking.{Has};
 
+use crate::offsets::Offsets;
 use crate::scratch::Form;
 use frame::Window;
-use resource::{Cce, Map};
+use resource::Map;
 
-// The window that claims are for, with N_4, how far above its first resource a claim's second one is, 1 with two antenna ports and 0 with
-// one, where it is the first, and the number of resources that a claim may have, a mark for each.
+// The window that claims are for, with the offsets of its resources, whether there are two antenna ports, and the number of resources
+// that a claim may have, a mark for each.
 #[derive(Clone, Copy)]
 pub(crate) struct ClaimedWindow {
     window: Window,
-    top: u16,
-    more: usize,
+    offsets: Offsets,
+    two: bool,
     pub(crate) marks: usize,
-    ghost cces: { top ≡ edge window.settings.nrb 4 },
-    ghost ports: { more ≡ ports_more window.settings },
+    ghost map: { (offsets.map.nrb ≡ window.settings.nrb) × (offsets.map.size ≡ window.size) },
+    ghost ports: { two ≡ has_second_port window.settings },
     ghost resources: { marks ≡ room_of window.settings window.n },
 }
 
 impl ClaimedWindow {
-    #[tactic(auto, using(resource::proofs::Counts::cces_answered), unfolding(crate::specs::Claims::room_of, crate::specs::Claims::resources_of))]
+    #[tactic(auto, using(crate::proofs::Counts::resources_most), unfolding(crate::specs::Claims::room_of, crate::specs::Claims::resources_of))]
     pub(crate) fn of(window: Window) -> ClaimedWindow
         ensures { result.window ≡ window }
     {
-        let s = window.settings;
-        let top = resource::cces_of(s.nrb);
-        let more = usize::from(s.has_second_port());
-        let marks = usize::from(window.size) * usize::from(top) + more;
+        let offsets = Offsets::of(Map::of(window));
+        let two = window.settings.has_second_port();
+        let marks = offsets.count() + usize::from(two);
         ClaimedWindow {
             window,
-            top,
-            more,
+            offsets,
+            two,
             marks,
         }
     }
@@ -43,31 +43,37 @@ impl ClaimedWindow {
     fn is_bad(&self, claim: u16) -> bool
         ensures { result ≡ is_bad self.now.window.settings self.now.window.n claim }
     {
-        !(claim / 256 < self.window.size && claim % 256 < self.top)
+        !self.offsets.has(claim / 256, claim % 256)
     }
 
-    // The first bad claim.
+    // The first bad claim. Most lists have none, and a pass that does not stop at one takes several claims at a time; so only a list that
+    // has one is searched for it.
+    #[tactic(auto, using(crate::proofs::First::no_bad))]
     pub(crate) fn first_bad(&self, claims: &[u16]) -> Option<usize>
         ensures { result ≡ position (is_bad self.now.window.settings self.now.window.n) claims.now }
     {
+        let mut bad = false;
+        for &claim in claims {
+            bad |= self.is_bad(claim);
+        }
+        if !bad {
+            return None;
+        }
         claims.iter().position(|&claim| self.is_bad(claim))
     }
 
-    // The offset of a claim, its first resource less N1; 0 for a claim without one. It is below M × N_4 whatever the claim, so that the
+    // The offset of a claim, its first resource less N1; 0 for a bad claim. It is below M × N_4 whatever the claim, so that the
     // offset of the second resource is inside the marks too.
-    #[tactic(auto, using(crate::proofs::Offsets::mapped_claim, crate::proofs::Offsets::claimed_range, crate::proofs::Offsets::refused_bad, crate::proofs::Offsets::some_resource))]
+    #[tactic(auto, using(crate::proofs::Offset::offset_below, crate::proofs::Offset::offset_resource))]
     fn offset_of(&self, claim: u16) -> usize
         ensures below { result < resources_of self.now.window.settings self.now.window.n }
         ensures resource { is_bad self.now.window.settings self.now.window.n claim ≡ false → Has self.now.window.settings self.now.window.n claim (result + self.now.window.settings.n1) }
     {
-        match Map::of(self.window).resource(claim / 256, Cce::new(claim % 256)) {
-            Ok(r) => usize::from(r.number() - self.window.settings.n1),
-            Err(_) => 0,
-        }
+        self.offsets.offset_of(claim / 256, claim % 256)
     }
 
     // Clears the bytes of the marks, then marks the claims up to the first clash, whose index it answers. Each claim is read once:
-    // whatever it is, its marks are inside these bytes. Both are looked at before either is set; with one port they are the same.
+    // whatever it is, its marks are inside these bytes. Both are looked at before either is set; with one port there is one.
     #[tactic(auto, using(crate::proofs::Counts::resources_most, frame::proofs::Bools::bit_small), unfolding(crate::specs::Claims::room_of))]
     pub(crate) fn mark_to_clash<F: Form>(&self, claims: &[u16], bytes: &mut [u8]) -> Option<usize>
         requires good { length claims.now ≤ first_bad self.now.window.settings self.now.window.n claims.now }
@@ -78,12 +84,13 @@ impl ClaimedWindow {
         bytes.fill(0);
         for (i, &claim) in claims.iter().enumerate() {
             let t = self.offset_of(claim);
-            let u = t + self.more;
-            if F::is_marked(bytes, t) || F::is_marked(bytes, u) {
+            if F::is_marked(bytes, t) || (self.two && F::is_marked(bytes, t + 1)) {
                 return Some(i);
             }
             F::mark(bytes, t);
-            F::mark(bytes, u);
+            if self.two {
+                F::mark(bytes, t + 1);
+            }
         }
         None
     }

@@ -1,4 +1,4 @@
--- Where 1 to 7, 17, 19 and 24 are not met: N_4 is what the call for it gives, and a window has from 1 to 1,206 resources.
+-- Where 1 to 7, 17, 19 and 24 are not met: a window has from 1 to 1,206 resources.
 -- Assumes nothing.
 use Prim.Native.Nat.{ℕ, ◌*◌, ◌≤◌}
 use mathlib.Core.Path.{◌≡◌}
@@ -6,17 +6,13 @@ use native.Mathlib.Nat.{mul-le-mul}
 use native.Mathlib.Omega.{arith}
 use Rattle.frame.specs.declared.Settings.{Settings}
 use Rattle.frame.specs.Settings.{window_refusal}
-use Rattle.frame.proofs.Accepted.{answered, not_outside}
+use Rattle.frame.proofs.Accepted.{answered}
 use Rattle.frame.proofs.Windows.{window_size}
 use Rattle.resource.specs.Formula.{edge}
-use Rattle.resource.specs.Calls.{cces_of, size_of}
+use Rattle.resource.specs.Calls.{size_of}
 use Rattle.resource.proofs.Edges.{edge_least, resources_most}
 
 module _ (s : Settings) (n : ℕ) (e : window_refusal s n ≡ 0) where
-  pub cces_answered : cces_of s.nrb ≡ edge s.nrb 4
-  unfolding cces_of
-  cces_answered = let a = (answered s n e).0 in rw (not_outside 6 110 s.nrb a.nrb_least a.nrb_most)
-
   pub resources_least : 1 ≤ size_of s n * edge s.nrb 4
   resources_least =
       let a = answered s n e in

@@ -1,10 +1,15 @@
 -- The PUCCH resource of a grant: document 01, "Resources" (TS 36.213, section 10.1).
 -- Assumes nothing.
-use Rattle.std.specs.Prelude.{ℕ, ◌+◌, ◌-◌, ◌*◌, ◌/◌, ◌%◌, cond, ltb}
+use Rattle.std.specs.Prelude.{ℕ, ◌+◌, ◌-◌, ◌*◌, ◌/◌, ◌%◌, cond, List, map, ltb}
+use Rattle.std.specs.List.{range_with_len}
 
 -- N_p = max(0, floor(N_RB × (12 × p − 4) / 36)), p 0 to 4. Subtraction on ℕ stops at 0, which is the max at p = 0.
 unfoldable pub edge : ℕ → ℕ → ℕ
 edge nrb p = nrb * (12 * p - 4) / 36
+
+-- N_0 to N_4.
+abbrev pub edges_of : ℕ → List ℕ
+edges_of nrb = map (edge nrb) (range_with_len 0 5)
 
 -- The region p of a CCE: regions are tried upward, and the search ends with the first region whose upper edge N_(p+1) lies
 -- above the CCE. The last region, 3, ends at N_4.

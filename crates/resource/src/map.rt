@@ -1,7 +1,7 @@
 // The map from a PDCCH to its resource and back, in a window of M positions (document 01, "Resources").
 ghost use Rattle.std.specs.Prelude.{◌≡◌, ◌≤◌, ltb, IfOk};
 ghost use Rattle.frame.specs.Refusals.{refusal_in, numbered};
-ghost use Rattle.resource.specs.Formula.{edge};
+ghost use Rattle.resource.specs.Formula.{edge, edges_of};
 ghost use Rattle.resource.specs.Calls.{cces_of, map_refusal, resource_in, inverse_in};
 ghost use Rattle.resource.specs.Bounds.{Bounds};
 ghost use Rattle.resource.specs.Search.{Searched};
@@ -110,6 +110,20 @@ impl Map {
             n1: s.n1,
             size: window.size,
         }
+    }
+
+    // N_0 to N_4. They are the same for every CCE, so a caller with many makes them once.
+    #[tactic(auto, using(crate::proofs::Edges::edge_none))]
+    pub fn edges(self) -> [u16; 5]
+        ensures { result ≡ edges_of self.nrb }
+    {
+        [
+            0,
+            edge_of(self.nrb, 1),
+            edge_of(self.nrb, 2),
+            edge_of(self.nrb, 3),
+            edge_of(self.nrb, 4),
+        ]
     }
 
     // The formula, with M = size: resource = (M − m − 1) × N_p + m × N_(p+1) + c + N1. 11 where position or CCE is none of the window's.
