@@ -1,47 +1,135 @@
 //! Measures the engine's C calls beside the plain implementation, on the same
 //! inputs and in one run: `cargo run --release --offline --locked --bin bench`.
-//! What it prints is a page of Markdown.
+//! What it prints is a page of Markdown. Words behind `--` choose rows: `-- feed claims`
+//! measures those whose names have one of the two, and draws no other inputs.
 //!
-//! Batches of the two alternate, so that both meet the same disturbances, and
-//! the median batch counts. Nothing here is a test: the figures depend on the
-//! machine, and no figure fails.
+//! Batches of the two alternate, so that both meet the same disturbances; the
+//! median batch counts, and the least stands beside it. Nothing here is a test: the
+//! figures depend on the machine, and no figure fails.
 
 use feedback_tests::c::{
     feedback_answered, feedback_change_mode, feedback_command, feedback_confirmed, feedback_credit,
     feedback_feed_grant, feedback_feed_nothing, feedback_feed_release, feedback_feed_scheduled,
     feedback_game, feedback_inverse, feedback_make, feedback_open_account, feedback_reading,
-    feedback_replay, feedback_replay_size, feedback_resource, feedback_silence,
+    feedback_record, feedback_replay, feedback_replay_size, feedback_resource, feedback_silence,
     feedback_trace_write, feedback_window,
 };
-use feedback_tests::compare::plain_feed;
+use feedback_tests::compare::{plain_credit_of, plain_feed};
 use feedback_tests::every;
 use feedback_tests::form::{Form, OnClaims};
 use feedback_tests::model::{bundles, edge, is_short, is_uplink, Game, Model, Window};
 use feedback_tests::plain::{
-    plain_answered, plain_change_mode, plain_command, plain_confirmed, plain_credit, plain_game,
-    plain_inverse, plain_make, plain_open_account, plain_reading, plain_replay, plain_replay_size,
-    plain_resource, plain_silence, plain_trace_write, plain_window,
+    plain_answered, plain_change_mode, plain_command, plain_confirmed, plain_credit,
+    plain_feed_grant, plain_feed_nothing, plain_feed_release, plain_feed_scheduled, plain_game,
+    plain_inverse, plain_make, plain_open_account, plain_reading, plain_record, plain_replay,
+    plain_replay_size, plain_resource, plain_silence, plain_trace_write, plain_window,
 };
 use feedback_tests::random::Random;
-use feedback_tests::registers::{Written, ALL, FLAGS, REPLY, SIZE};
+use feedback_tests::registers::{Written, ALL, FLAGS, NO_COMMAND, REPLY, SIZE};
 use feedback_tests::trace::{record_of, Trace, LONGEST, WINDOW};
 use feedback_tests::{
     Account, AnsweredAnswer, Block, Changed, CommandAnswer, ConfirmedAnswer, CreditAnswer,
-    Exchange, Fed, GameAnswer, Grant, Handset, Heard, Opened, ReadingAnswer, Release, ReplayAnswer,
-    ReplaySizeAnswer, ResourceAnswer, Settings, SilenceAnswer, Slot, WindowAnswer, WriteAnswer,
-    NOT_TOLD,
+    Exchange, Fed, GameAnswer, Grant, Handset, Heard, InverseAnswer, Made, Opened, ReadingAnswer,
+    RecordAnswer, Release, ReplayAnswer, ReplaySizeAnswer, ResourceAnswer, SentWindow, Settings,
+    SilenceAnswer, Slot, WindowAnswer, WriteAnswer, NOT_TOLD,
 };
+use std::env;
 use std::hint::black_box;
-use std::time::Instant;
+use std::iter;
+use std::time::{Duration, Instant};
 
-/// The inputs of one batch, too many for their branches to be learnt by heart.
-const INPUTS: usize = 8192;
+/// The inputs of one batch, or a few more: too many for a processor to learn their branches by
+/// heart, as it does with some thousands. What is printed tells the number.
+const INPUTS: usize = 65_536;
 
-/// The batches of each implementation; odd, so that one is the median.
-const BATCHES: usize = 1001;
+/// The fewest batches of each side.
+const BATCHES: usize = 102;
 
-/// The runs of feeds.
-const RUNS: usize = 200;
+/// How long a row is measured at least: one of short calls has more batches, so that a short
+/// disturbance is not all that it meets.
+const TIME: Duration = Duration::from_secs(1);
+
+/// The engine's call and plain Rust's, or what else differs between the two. That their
+/// signatures are the same the compiler checks where both stand under one type; and both are
+/// called by the same code, since a row has one way to make its call.
+type Sides<C> = [C; 2];
+
+type OnWindow = unsafe extern "C" fn(Settings, u16) -> WindowAnswer;
+const WINDOWS: Sides<OnWindow> = [feedback_window, plain_window];
+
+type OnAnswered = unsafe extern "C" fn(Settings, u16) -> AnsweredAnswer;
+const ANSWERED: Sides<OnAnswered> = [feedback_answered, plain_answered];
+
+type OnResource = unsafe extern "C" fn(Settings, u16, u16, u16) -> ResourceAnswer;
+const RESOURCE: Sides<OnResource> = [feedback_resource, plain_resource];
+
+type OnInverse = unsafe extern "C" fn(Settings, u16, u16) -> InverseAnswer;
+const INVERSE: Sides<OnInverse> = [feedback_inverse, plain_inverse];
+
+type OnReading = unsafe extern "C" fn(Settings, u16, u16, u16, u16, u16) -> ReadingAnswer;
+const READING: Sides<OnReading> = [feedback_reading, plain_reading];
+
+type OnConfirmed =
+    unsafe extern "C" fn(Settings, u16, SentWindow, u16, u16, u16) -> ConfirmedAnswer;
+const CONFIRMED: Sides<OnConfirmed> = [feedback_confirmed, plain_confirmed];
+
+type OnCredit =
+    unsafe extern "C" fn(Settings, u16, SentWindow, u16, u16, u16, Account) -> CreditAnswer;
+const CREDIT: Sides<OnCredit> = [feedback_credit, plain_credit];
+
+type OnPrice = unsafe extern "C" fn(u32) -> Opened;
+const OPEN_ACCOUNT: Sides<OnPrice> = [feedback_open_account, plain_open_account];
+
+type OnSilence = unsafe extern "C" fn(Handset) -> SilenceAnswer;
+const SILENCE: Sides<OnSilence> = [feedback_silence, plain_silence];
+
+type OnReplay = unsafe extern "C" fn(*const u8, usize, *mut u8, usize) -> ReplayAnswer;
+const REPLAY: Sides<OnReplay> = [feedback_replay, plain_replay];
+
+type OnReplaySize = unsafe extern "C" fn(*const u8, usize) -> ReplaySizeAnswer;
+const REPLAY_SIZE: Sides<OnReplaySize> = [feedback_replay_size, plain_replay_size];
+
+type OnRecord = unsafe extern "C" fn(*const u8, usize, usize) -> RecordAnswer;
+const RECORD: Sides<OnRecord> = [feedback_record, plain_record];
+
+type OnTraceWrite = unsafe extern "C" fn(*const u8, usize, *mut u8, usize) -> WriteAnswer;
+const TRACE_WRITE: Sides<OnTraceWrite> = [feedback_trace_write, plain_trace_write];
+
+type OnGame = unsafe extern "C" fn(u16, u16, u16) -> GameAnswer;
+const GAME: Sides<OnGame> = [feedback_game, plain_game];
+
+type OnCommand = unsafe extern "C" fn(Handset, *mut u8, usize) -> CommandAnswer;
+const COMMAND: Sides<OnCommand> = [feedback_command, plain_command];
+
+/// The calls that make a handset and lead it on.
+#[derive(Clone, Copy)]
+struct OnHandset {
+    make: unsafe extern "C" fn(Settings) -> Made,
+    nothing: unsafe extern "C" fn(Handset) -> Fed,
+    grant: unsafe extern "C" fn(Handset, u16, u16, u16, u16, u16) -> Fed,
+    scheduled: unsafe extern "C" fn(Handset, u16, u16, u16) -> Fed,
+    release: unsafe extern "C" fn(Handset, u16, u16) -> Fed,
+    change_mode: unsafe extern "C" fn(Handset, u16) -> Changed,
+}
+
+const HANDSET: Sides<OnHandset> = [
+    OnHandset {
+        make: feedback_make,
+        nothing: feedback_feed_nothing,
+        grant: feedback_feed_grant,
+        scheduled: feedback_feed_scheduled,
+        release: feedback_feed_release,
+        change_mode: feedback_change_mode,
+    },
+    OnHandset {
+        make: plain_make,
+        nothing: plain_feed_nothing,
+        grant: plain_feed_grant,
+        scheduled: plain_feed_scheduled,
+        release: plain_feed_release,
+        change_mode: plain_change_mode,
+    },
+];
 
 /// One allowed input of the calls on numbers: the subframe is the one at the
 /// position, the resource is that of the pair, and the bits are a reply that is
@@ -73,6 +161,9 @@ struct Run {
     heard: Vec<Heard>,
 }
 
+/// How a run is drawn.
+type DrawRun = fn(&Model, &mut Random) -> Run;
+
 /// A list of claims for a window.
 struct List {
     settings: Settings,
@@ -80,79 +171,116 @@ struct List {
     claims: Vec<u16>,
 }
 
+/// A window, its reply, and the account that it is credited to.
+struct Credit {
+    exchange: Exchange,
+    account: Account,
+}
+
+/// The bytes of a trace, and how many records it has.
+struct Drive {
+    trace: Vec<u8>,
+    records: usize,
+}
+
+/// A register block before a command, and the handset behind it.
+struct Command {
+    handset: Handset,
+    block: [u8; SIZE],
+}
+
 fn main() {
+    print_header();
+    let bench = Bench { model: Model::new(), words: env::args().skip(1).collect() };
+    numbers(&bench);
+    feeds(&bench);
+    claims(&bench);
+    schedule(&bench);
+    short_specials(&bench);
+    replays(&bench);
+    sizes(&bench);
+    records(&bench);
+    writings(&bench);
+    mode_changes(&bench);
+    two_ports(&bench);
+    charging(&bench);
+    silences(&bench);
+    games(&bench);
+    registers(&bench);
+}
+
+fn print_header() {
     println!(
         "# Performance
 
 The C calls beside the same calls in plain Rust, in nanoseconds for one call, for
 the claims for one claim, and for a replay and the writing of a trace for one record.
 Printed by `cargo run --release --offline --locked --bin bench` in `tests`. Both sides
-are `extern \"C\"` functions of one signature and are not inlined; they get the same
-inputs, in batches that alternate, and the median of {BATCHES} batches counts. The
+are `extern \"C\"` functions of one signature and are not inlined; the same code calls
+both, through a pointer. Plain Rust is built at the optimization of a release, in one
+codegen unit. Both get the same inputs in batches of 65,536, of which a processor does
+not learn the branches by heart. The batches alternate, {BATCHES} of each side, and more where
+these take less than a second. Their median counts, and the least of them stands beside it;
+the last two columns are ours over plain Rust's, by the medians and by the least. The
 figures depend on the machine; the ratios do so less.
 
 The numbers are allowed ones over all configurations, bandwidths, modes and blocks.
-The feeds are those of {RUNS} runs of 20 frames: a grant in seven of ten downlink
-subframes, one in twenty of them lost, nine of ten blocks decoded. A feed checks
-the whole state that it is lent, and a list of claims clears its scratch: as many bytes
-as there are resources, or as many bits. With a schedule one subframe of each window
-has a scheduled block, every other time, and one PDCCH in eight is a release. Special
-subframes carry data, but for the cells called short: there they bring nothing or a
+The feeds are those of runs of 20 frames, one run behind the other, of as many as have enough
+feeds of a kind: a grant in seven of ten downlink subframes, one in twenty of them lost, nine of
+ten blocks decoded. A feed checks the whole state that it is lent. With a schedule one subframe
+of each window has a scheduled block, every other time, and one PDCCH in eight is a release.
+Special subframes carry data, but for the cells called short: there they bring nothing or a
 release. A mode change checks the whole state too; it is to the other mode, of the handsets
 of such runs, and in a run of its own it comes before one subframe in eleven. Handsets with
-two ports bundle; a claim of theirs has two resources, and the lists are of claims two apart.
-The cause of a silence is asked for in windows of such runs that are silent, and in every
-subframe of a run, in the downlink too.
+two ports bundle. The cause of a silence is asked for in windows of such runs that are silent,
+and in every subframe of a run, in the downlink too.
+
+A list of claims clears its scratch: as many bytes as there are resources, or as many bits. With
+two ports a claim has two resources, and the lists are of claims two apart. There are as many
+lists of a length as have 65,536 claims, or a few more, together: of 10 claims 6,554 lists, of
+600 there are 110, of 1,000 there are 66, and of 100,000, which repeat the claims of one window,
+there is one.
 
 Blocks are confirmed and credited in windows of all sizes, in which grants, releases and
 scheduled blocks were sent, and the reply is for something that was; a credit of nothing is for
 something that was not, or a NACK. The accounts have some octets and any price.
 
 The traces are of configuration 2 with two blocks and a schedule, with grants, scheduled
-blocks, releases and nothing in the downlink, and good to the end. In plain Rust a
-replay keeps no state: it checks the settings once and looks back into the trace. A
-trace is written when all its records have been checked as in a replay, and in plain
-Rust that check makes no reply. The size of a replay is worked out from header and settings, and
-takes as long for every number of records: that row has traces of any settings, with up to 100
-records.
+blocks, releases and nothing in the downlink, and good to the end, and there are as many as have
+65,536 records, or some more, together: 66, 17 and 5. In plain Rust a replay keeps no state: it
+checks the settings once and looks back into the trace. A trace is written when all its records
+have been checked as in a replay, and in plain Rust that check makes no reply. Records are read
+one after another, each by a call, which looks at header and parts anew. The size of a replay is
+worked out from header and settings, and takes as long for every number of records: that row has
+traces of any settings, with up to 20 records.
 
 A command of a register block is carried out on a copy of the block, with any flags and mask. A
-feed is that of the handsets of runs, with their whole state checked; a clear looks at no handset,
-and what it takes is passing one.
+feed is that of the handsets of runs, with their whole state checked; none and a clear look at no
+handset, and what they take is passing one. The games are drawn from all that there are, 540.
 
-| call | ours, ns | plain Rust, ns | ratio |
-|---|---:|---:|---:|"
+| call | ours, ns | least | plain Rust, ns | least | ratio | of the least |
+|---|---:|---:|---:|---:|---:|---:|"
     );
-    let model = Model::new();
-    let mut random = Random::new(0);
-    numbers(&model, &mut random);
-    feeds(&model, &mut random);
-    claims(&model, &mut random);
-    schedule(&model, &mut Random::new(1));
-    short_specials(&model, &mut Random::new(2));
-    replays(&model, &mut Random::new(3));
-    sizes(&mut Random::new(11));
-    writings(&model, &mut Random::new(4));
-    mode_changes(&model, &mut Random::new(5));
-    two_ports(&model, &mut Random::new(6));
-    charging(&model, &mut Random::new(7));
-    silences(&model, &mut Random::new(8));
-    games(&mut Random::new(9));
-    registers(&model, &mut Random::new(10));
 }
 
-fn numbers(model: &Model, random: &mut Random) {
-    let inputs: Vec<Input> = (0..INPUTS).map(|_| input(model, random, |_| true)).collect();
-    row("window", &inputs, inputs.len(), engine_window, plain_rust_window);
-    row("answered", &inputs, inputs.len(), engine_answered, plain_rust_answered);
-    row("resource", &inputs, inputs.len(), engine_resource, plain_rust_resource);
-    row("inverse", &inputs, inputs.len(), engine_inverse, plain_rust_inverse);
+fn numbers(bench: &Bench) {
+    let all = || draws(0, |random| input(&bench.model, random));
+    bench.row("window", all(), WINDOWS, window);
+    bench.row("answered", all(), ANSWERED, answered);
+    bench.row("resource", all(), RESOURCE, resource);
+    bench.row("inverse", all(), INVERSE, inverse);
     for (name, bundled) in [("reading, bundled", true), ("reading, multiplexed", false)] {
-        let fits = |input: &Input| bundles(input.settings, size(model, input)) == bundled;
-        let inputs: Vec<Input> = (0..INPUTS).map(|_| input(model, random, fits)).collect();
-        row(name, &inputs, inputs.len(), engine_reading, plain_rust_reading);
+        let fits = |input: &Input| bundles(input.settings, size(&bench.model, input)) == bundled;
+        bench.row(name, all().filter(fits), READING, reading);
     }
-    row("make", &inputs, inputs.len(), engine_make, plain_rust_make);
+    bench.row("make", all(), HANDSET, make);
+}
+
+/// Without end what is drawn from a seed. A row draws its inputs itself, and from a seed of its
+/// group, so that they are the same whatever else is measured.
+fn draws<T>(seed: u64, mut draw: impl FnMut(&mut Random) -> T) -> impl Iterator<Item = T> {
+    let mut random = Random::new(seed);
+    iter::repeat_with(move || draw(&mut random))
 }
 
 fn size(model: &Model, input: &Input) -> u16 {
@@ -160,11 +288,20 @@ fn size(model: &Model, input: &Input) -> u16 {
 }
 
 /// An allowed input over all configurations, bandwidths, modes and block numbers.
-fn input(model: &Model, random: &mut Random, fits: impl Fn(&Input) -> bool) -> Input {
+fn input(model: &Model, random: &mut Random) -> Input {
+    read_input(model, random, Random::plain_settings)
+}
+
+/// An input of such settings whose reply is read.
+fn read_input(
+    model: &Model,
+    random: &mut Random,
+    settings: impl Fn(&mut Random) -> Settings,
+) -> Input {
     loop {
-        let settings = random.plain_settings();
+        let settings = settings(random);
         let input = unread(model, settings, random);
-        if is_read(model, &input) && fits(&input) {
+        if is_read(model, &input) {
             return input;
         }
     }
@@ -208,38 +345,52 @@ fn is_read(model: &Model, input: &Input) -> bool {
     model.reading(settings, n, told, resource, b0, b1).refusal == 0
 }
 
-fn feeds(model: &Model, random: &mut Random) {
-    let runs: Vec<Run> = (0..RUNS).map(|_| run(model, random)).collect();
-    let feeds: Vec<Feed> = runs.iter().flat_map(|run| feeds_of(model, run)).collect();
-    let rows: [(&str, Fits); 4] = [
+fn feeds(bench: &Bench) {
+    let is_windowless = |feed: &Feed| {
+        let Handset { settings, next, .. } = feed.handset;
+        is_uplink(settings.config, next) && bench.model.window(settings.config, next).is_none()
+    };
+    let rows: [(&str, Fits); 5] = [
         ("feed, downlink, grant", &|feed| feed.heard != Heard::Nothing),
         ("feed, downlink, nothing", &|feed| {
             let Handset { settings, next, .. } = feed.handset;
             feed.heard == Heard::Nothing && !is_uplink(settings.config, next)
         }),
-        ("feed, uplink, bundled window", &|feed| answers(model, feed, true)),
-        ("feed, uplink, multiplexed window", &|feed| answers(model, feed, false)),
+        ("feed, uplink, bundled window", &|feed| answers(&bench.model, feed, true)),
+        ("feed, uplink, multiplexed window", &|feed| answers(&bench.model, feed, false)),
+        ("feed, uplink, no window", &is_windowless),
     ];
-    feed_rows(&feeds, &rows);
-    // Few enough that a batch is short, as the others are.
-    let runs = &runs[..10];
-    let number = runs.iter().map(|run| run.heard.len()).sum();
-    row("feed, one after another in a run", runs, number, engine_run, plain_rust_run);
+    feed_rows(bench, 0, run, &rows);
+    run_row(bench, "feed, one after another in a run", 0, run);
+}
+
+fn feed_rows(bench: &Bench, seed: u64, run: DrawRun, rows: &[(&str, Fits)]) {
+    for (name, fits) in rows {
+        bench.row(name, run_feeds(bench, seed, run).filter(fits), HANDSET, feed);
+    }
+}
+
+/// Without end the feeds of runs.
+fn run_feeds(bench: &Bench, seed: u64, run: DrawRun) -> impl Iterator<Item = Feed> + '_ {
+    draws(seed, move |random| run(&bench.model, random)).flat_map(|run| feeds_of(&run))
+}
+
+fn run_row(bench: &Bench, name: &str, seed: u64, run: DrawRun) {
+    let runs = draws(seed, |random| run(&bench.model, random));
+    bench.row_of(name, runs, |run| run.heard.len(), HANDSET, whole_run);
 }
 
 /// Mode changes on the handsets of runs, and a run with such changes. Configuration 5 has one
 /// mode only.
-fn mode_changes(model: &Model, random: &mut Random) {
-    let runs = (0..RUNS).map(|_| run(model, random)).filter(|run| run.settings.config != 5);
-    let runs: Vec<Run> = runs.collect();
-    let handsets: Vec<Handset> =
-        runs.iter().flat_map(|run| feeds_of(model, run)).map(|feed| feed.handset).collect();
-    let inputs: Vec<Handset> = handsets.iter().copied().step_by(3).take(INPUTS).collect();
-    row("mode change", &inputs, inputs.len(), engine_change, plain_rust_change);
-    let runs = &runs[..10];
-    let number = runs.iter().map(|run| run.heard.len()).sum();
+fn mode_changes(bench: &Bench) {
+    let runs = || {
+        let all = draws(5, |random| run(&bench.model, random));
+        all.filter(|run| run.settings.config != 5)
+    };
+    let handsets = runs().flat_map(|run| feeds_of(&run)).map(|feed| feed.handset);
+    bench.row("mode change", handsets.step_by(3), HANDSET, change);
     let name = "feed, one after another in a run with mode changes";
-    row(name, runs, number, engine_changing_run, plain_rust_changing_run);
+    bench.row_of(name, runs(), |run| run.heard.len(), HANDSET, changing_run);
 }
 
 /// Whether a feed answers a window that is bundled, or one that is not.
@@ -249,25 +400,16 @@ fn answers(model: &Model, feed: &Feed, bundled: bool) -> bool {
     window.is_some_and(|window| bundles(settings, window.size()) == bundled)
 }
 
-fn feed_rows(feeds: &[Feed], rows: &[(&str, Fits)]) {
-    for (name, fits) in rows {
-        let inputs: Vec<Feed> = feeds.iter().copied().filter(fits).take(INPUTS / 4).collect();
-        row(name, &inputs, inputs.len(), engine_feed, plain_rust_feed);
-    }
-}
-
 /// The calls that a schedule brings, and the answers of windows with one.
-fn schedule(model: &Model, random: &mut Random) {
+fn schedule(bench: &Bench) {
     for (name, of_block) in
         [("reading, told, on the block's resource", true), ("reading, told, on another", false)]
     {
         let settings = Random::plain_scheduled_settings;
-        let input = |_| told_input(model, random, settings, of_block);
-        let inputs: Vec<Input> = (0..INPUTS).map(input).collect();
-        row(name, &inputs, inputs.len(), engine_reading, plain_rust_reading);
+        let inputs = draws(1, |random| told_input(&bench.model, random, settings, of_block));
+        bench.row(name, inputs, READING, reading);
     }
-    let runs: Vec<Run> = (0..RUNS).map(|_| scheduled_run(model, random)).collect();
-    let feeds: Vec<Feed> = runs.iter().flat_map(|run| feeds_of(model, run)).collect();
+    let model = &bench.model;
     let rows: [(&str, Fits); 5] = [
         ("feed, downlink, scheduled block", &|feed| matches!(feed.heard, Heard::Block(_))),
         ("feed, downlink, release", &|feed| matches!(feed.heard, Heard::Release(_))),
@@ -275,21 +417,18 @@ fn schedule(model: &Model, random: &mut Random) {
         ("feed, uplink, bundled window, with a schedule", &|feed| answers(model, feed, true)),
         ("feed, uplink, multiplexed window, with a schedule", &|feed| answers(model, feed, false)),
     ];
-    feed_rows(&feeds, &rows);
+    feed_rows(bench, 1, scheduled_run, &rows);
+    run_row(bench, "feed, one after another in a run with a schedule", 1, scheduled_run);
 }
 
 /// Cells whose special subframes are too short for data.
-fn short_specials(model: &Model, random: &mut Random) {
+fn short_specials(bench: &Bench) {
     let settings = |random: &mut Random| {
         let (prefix, special) = random.one_of(&every::SHORT);
         random.plain_scheduled_settings().with_special(prefix, special)
     };
-    let input = |_| told_input(model, random, settings, false);
-    let inputs: Vec<Input> = (0..INPUTS).map(input).collect();
-    let name = "reading, told, on another, short special cell";
-    row(name, &inputs, inputs.len(), engine_reading, plain_rust_reading);
-    let runs: Vec<Run> = (0..RUNS).map(|_| short_run(model, random)).collect();
-    let feeds: Vec<Feed> = runs.iter().flat_map(|run| feeds_of(model, run)).collect();
+    let inputs = draws(2, |random| told_input(&bench.model, random, settings, false));
+    bench.row("reading, told, on another, short special cell", inputs, READING, reading);
     let rows: [(&str, Fits); 2] = [
         ("feed, downlink, grant, short special cell", &|feed| {
             matches!(feed.heard, Heard::Grant(_))
@@ -298,7 +437,7 @@ fn short_specials(model: &Model, random: &mut Random) {
             matches!(feed.heard, Heard::Release(_))
         }),
     ];
-    feed_rows(&feeds, &rows);
+    feed_rows(bench, 2, short_run, &rows);
 }
 
 /// A run of grants, with a release in place of one in a special subframe.
@@ -347,6 +486,12 @@ fn run(model: &Model, random: &mut Random) -> Run {
     run_of(model, settings, random)
 }
 
+/// The same of a handset with two ports.
+fn two_port_run(model: &Model, random: &mut Random) -> Run {
+    let settings = two_port_settings(random);
+    run_of(model, settings, random)
+}
+
 fn run_of(model: &Model, settings: Settings, random: &mut Random) -> Run {
     let mut heard = vec![Heard::Nothing; 200];
     for window in model.windows().iter().filter(|window| window.config == settings.config) {
@@ -372,29 +517,34 @@ fn run_of(model: &Model, settings: Settings, random: &mut Random) -> Run {
     Run { settings, heard }
 }
 
-fn feeds_of(model: &Model, run: &Run) -> Vec<Feed> {
-    let mut handset = model.make(run.settings).handset;
+/// The handsets are led on in plain Rust, which is quicker than the model and held to it by the
+/// tests.
+fn feeds_of(run: &Run) -> Vec<Feed> {
+    let mut handset = plain_make(run.settings).handset;
     let mut feeds = Vec::new();
     for heard in &run.heard {
         feeds.push(Feed { handset, heard: *heard });
-        handset = model.feed(handset, *heard).handset;
+        let fed = plain_feed(handset, *heard);
+        assert_eq!(fed.refusal, 0, "a feed of a run");
+        handset = fed.handset;
     }
     feeds
 }
 
-fn claims(model: &Model, random: &mut Random) {
-    let cells: Vec<List> = (0..INPUTS / 8).map(|_| list_of_ten(model, random)).collect();
+fn claims(bench: &Bench) {
+    let model = &bench.model;
     let widest = Settings::plain(5, 110, 10, 0, 1);
     let window = model.window(5, 2).expect("a window");
     let of_widest = |claims| List { settings: widest, n: 2, claims };
-    let thousands: Vec<List> =
-        (0..8).map(|_| of_widest(distinct(widest, window, 1000, random))).collect();
-    let all = distinct(widest, window, 1206, random);
-    let many = [of_widest(all.into_iter().cycle().take(100_000).collect())];
+    let thousand = |random: &mut Random| of_widest(distinct(widest, window, 1000, random));
+    let many = |random: &mut Random| of_widest(repeated(distinct(widest, window, 1206, random)));
     for (name, form) in [("claims", Form::Bytes), ("claims by bits", Form::Bits)] {
-        claims_row(&format!("{name}, list of 10"), form, &cells);
-        claims_row(&format!("{name}, list of 1,000"), form, &thousands);
-        claims_row(&format!("{name}, list of 100,000, of which 1,206 differ"), form, &many);
+        let row = |list: &str, draw: &dyn Fn(&mut Random) -> List| {
+            claims_row(bench, &format!("{name}, list of {list}"), form, draws(0, draw));
+        };
+        row("10", &|random| list_of_ten(model, random));
+        row("1,000", &thousand);
+        row("100,000, of which 1,206 differ", &many);
     }
 }
 
@@ -414,163 +564,167 @@ fn distinct(settings: Settings, window: &Window, length: usize, random: &mut Ran
     claims
 }
 
-/// The resource call, the answer of a window and the claims with two ports.
-fn two_ports(model: &Model, random: &mut Random) {
-    let inputs: Vec<Input> = (0..INPUTS)
-        .map(|_| {
-            let settings = two_port_settings(random);
-            unread(model, settings, random)
-        })
-        .collect();
-    row("resource, two ports", &inputs, inputs.len(), engine_resource, plain_rust_resource);
-    let run = |_| {
-        let settings = two_port_settings(random);
-        run_of(model, settings, random)
-    };
-    let runs: Vec<Run> = (0..RUNS).map(run).collect();
-    let feeds: Vec<Feed> = runs.iter().flat_map(|run| feeds_of(model, run)).collect();
-    let fits: Fits = &|feed| answers(model, feed, true);
-    feed_rows(&feeds, &[("feed, uplink, bundled window, two ports", fits)]);
+/// A list of 100,000 claims that are these again and again.
+fn repeated(claims: Vec<u16>) -> Vec<u16> {
+    claims.into_iter().cycle().take(100_000).collect()
+}
 
-    let cell = |_| {
+/// The calls on handsets with two ports, as far as they have two resources or allow no other
+/// mode and no schedule.
+fn two_ports(bench: &Bench) {
+    let model = &bench.model;
+    let inputs = || draws(6, |random| read_input(model, random, two_port_settings));
+    bench.row("resource, two ports", inputs(), RESOURCE, resource);
+    bench.row("reading, two ports", inputs(), READING, reading);
+    let rows: [(&str, Fits); 2] = [
+        ("feed, downlink, grant, two ports", &|feed| feed.heard != Heard::Nothing),
+        ("feed, uplink, bundled window, two ports", &|feed| answers(model, feed, true)),
+    ];
+    feed_rows(bench, 6, two_port_run, &rows);
+    run_row(bench, "feed, one after another in a run, two ports", 6, two_port_run);
+    let replies = commands(bench, 6, two_port_run, &is_answered, &fed_command);
+    bench.row("command, feed, uplink, a reply, two ports", replies, COMMAND, command);
+    two_port_claims(bench);
+}
+
+fn two_port_claims(bench: &Bench) {
+    let model = &bench.model;
+    let ten = |random: &mut Random| {
         let mut settings = two_port_settings(random);
         settings.nrb = settings.nrb.max(25);
         let window = random.window(model, settings.config);
         List { settings, n: window.n, claims: apart(model, settings, window, 10, random) }
     };
-    let cells: Vec<List> = (0..INPUTS / 8).map(cell).collect();
     let widest = Settings::plain(5, 110, 10, 0, 1).with_ports(2);
     let window = model.window(5, 2).expect("a window");
     let of_widest = |claims| List { settings: widest, n: 2, claims };
-    let hundreds: Vec<List> =
-        (0..16).map(|_| of_widest(apart(model, widest, window, 600, random))).collect();
-    let all = apart(model, widest, window, 603, random);
-    let many = [of_widest(all.into_iter().cycle().take(100_000).collect())];
+    let hundreds = |random: &mut Random| of_widest(apart(model, widest, window, 600, random));
+    let many = |random: &mut Random| of_widest(repeated(apart(model, widest, window, 603, random)));
     for (name, form) in
         [("claims, two ports", Form::Bytes), ("claims by bits, two ports", Form::Bits)]
     {
-        claims_row(&format!("{name}, list of 10"), form, &cells);
-        claims_row(&format!("{name}, list of 600"), form, &hundreds);
-        claims_row(&format!("{name}, list of 100,000, of which 603 differ"), form, &many);
+        let row = |list: &str, draw: &dyn Fn(&mut Random) -> List| {
+            claims_row(bench, &format!("{name}, list of {list}"), form, draws(6, draw));
+        };
+        row("10", &ten);
+        row("600", &hundreds);
+        row("100,000, of which 603 differ", &many);
     }
 }
 
-/// A window, its reply, and the account that it is credited to.
-struct Credit {
-    exchange: Exchange,
-    account: Account,
-}
+/// Which windows belong to a row, by what was sent and heard there and the octets credited.
+type FitsCredit<'a> = &'a dyn Fn(&Exchange, u32) -> bool;
 
-fn charging(model: &Model, random: &mut Random) {
+fn charging(bench: &Bench) {
+    let model = &bench.model;
     let bundled = |exchange: &Exchange| {
         let window = model.window(exchange.settings.config, exchange.n).expect("a window");
         bundles(exchange.settings, window.size())
     };
-    let of = |random: &mut Random, fits: &dyn Fn(&Exchange, u32) -> bool| -> Vec<Credit> {
-        (0..INPUTS / 2).map(|_| allowed_credit(model, random, fits)).collect()
-    };
-    let in_bundled = of(random, &|exchange, octets| octets > 0 && bundled(exchange));
-    let in_multiplexed = of(random, &|exchange, octets| octets > 0 && !bundled(exchange));
-    let of_nothing = of(random, &|_, octets| octets == 0);
-    let all = [
-        ("bundled window", &in_bundled),
-        ("multiplexed window", &in_multiplexed),
-        ("nothing", &of_nothing),
+    let all: [(&str, FitsCredit); 4] = [
+        ("bundled window", &|exchange, octets| octets > 0 && bundled(exchange)),
+        ("multiplexed window", &|exchange, octets| octets > 0 && !bundled(exchange)),
+        ("two ports", &|exchange, octets| octets > 0 && exchange.settings.ports == 2),
+        ("nothing", &|_, octets| octets == 0),
     ];
-    for (name, inputs) in all {
+    for (name, fits) in all {
         let name = format!("confirmed blocks, {name}");
-        row(&name, inputs, inputs.len(), engine_confirmed, plain_rust_confirmed);
+        bench.row(&name, credits(model, fits), CONFIRMED, confirmed);
     }
-    for (name, inputs) in all {
-        let name = format!("credit, {name}");
-        row(&name, inputs, inputs.len(), engine_credit, plain_rust_credit);
+    for (name, fits) in all {
+        bench.row(&format!("credit, {name}"), credits(model, fits), CREDIT, credit);
     }
-    row("a new account", &in_bundled, in_bundled.len(), engine_open, plain_rust_open);
+    bench.row("a new account", draws(7, price), OPEN_ACCOUNT, open_account);
 }
 
-/// A credit that is not refused.
-fn allowed_credit(
-    model: &Model,
-    random: &mut Random,
-    fits: &dyn Fn(&Exchange, u32) -> bool,
-) -> Credit {
+/// Without end credits that are not refused. Plain Rust says which, quicker than the model and
+/// held to it by the tests.
+fn credits<'a>(model: &'a Model, fits: FitsCredit<'a>) -> impl Iterator<Item = Credit> + 'a {
     const HARDLY_EVER: usize = 1_000_000;
-    loop {
+    let all = draws(7, |random| {
         let exchange = random.exchange(model, HARDLY_EVER);
-        let price = random.below(1_000_001) as u32;
-        let account = Account::with(price, random.below(1_000_000_000) as u64);
-        let answer = model.credit(&exchange, account);
-        if answer.refusal == 0 && fits(&exchange, answer.octets) {
-            return Credit { exchange, account };
-        }
-    }
+        let account = Account::with(price(random), random.below(1_000_000_000) as u64);
+        Credit { exchange, account }
+    });
+    all.filter(move |Credit { exchange, account }| {
+        let answer = plain_credit_of(*exchange, *account);
+        answer.refusal == 0 && fits(exchange, answer.octets)
+    })
+}
+
+fn price(random: &mut Random) -> u32 {
+    random.below(1_000_001) as u32
 }
 
 /// The cause of a silence: of the handsets of runs those that are silent, by their cause, and
 /// all of them, whatever the runs bring there.
-fn silences(model: &Model, random: &mut Random) {
-    let mut of_causes: [Vec<Handset>; 3] = Default::default();
-    let mut all: Vec<Handset> = Vec::new();
-    while of_causes[1..].iter().any(|handsets| handsets.len() < INPUTS / 4) {
-        for Feed { handset, .. } in feeds_of(model, &run(model, random)) {
-            of_causes[usize::from(model.silence(handset).cause)].push(handset);
-            all.push(handset);
-        }
-    }
-    let [_, nothing_heard, miss_shown] = of_causes;
-    for (name, handsets, number) in [
-        ("silence, nothing heard", nothing_heard, INPUTS / 4),
-        ("silence, a miss shown", miss_shown, INPUTS / 4),
-        ("silence, every subframe", all, INPUTS),
+fn silences(bench: &Bench) {
+    let handsets = || run_feeds(bench, 8, run).map(|feed| feed.handset);
+    for (name, cause) in [
+        ("silence, nothing heard", SilenceAnswer::NOTHING_HEARD),
+        ("silence, a miss shown", SilenceAnswer::MISS_SHOWN),
     ] {
-        let inputs = &handsets[..number];
-        row(name, inputs, number, engine_silence, plain_rust_silence);
+        let silent = handsets().filter(|handset| plain_silence(*handset).cause == cause);
+        bench.row(name, silent, SILENCE, silence);
     }
+    bench.row("silence, every subframe", handsets(), SILENCE, silence);
 }
 
 /// Games at random, of all sizes.
-fn games(random: &mut Random) {
+fn games(bench: &Bench) {
     let all: Vec<Game> = Game::all().collect();
-    let inputs: Vec<Game> = (0..INPUTS).map(|_| all[random.below(all.len())]).collect();
-    row("game", &inputs, inputs.len(), engine_game, plain_rust_game);
-}
-
-/// A register block before a command, and the handset behind it.
-struct Command {
-    handset: Handset,
-    block: [u8; SIZE],
+    bench.row("game", draws(9, |random| all[random.below(all.len())]), GAME, game);
 }
 
 /// What is written for a feed to the block before its command.
 type Writes<'a> = &'a dyn Fn(&Feed) -> Written;
 
-/// Commands of register blocks: feeds of a grant, feeds of the uplink that bring a reply, and
-/// clears of all flags.
-fn registers(model: &Model, random: &mut Random) {
-    let runs: Vec<Run> = (0..RUNS).map(|_| run(model, random)).collect();
-    let feeds: Vec<Feed> = runs.iter().flat_map(|run| feeds_of(model, run)).collect();
-    let replies = |feed: &Feed| {
-        let kind = model.feed(feed.handset, feed.heard).kind;
-        kind == Fed::BUNDLED || kind == Fed::MULTIPLEXED
-    };
-    let fed = |feed: &Feed| Written::feed(record_of(feed.heard), ALL);
+/// Commands of register blocks: feeds of a grant, feeds of the uplink that bring a reply,
+/// clears of all flags, and none.
+fn registers(bench: &Bench) {
     let clear = |_: &Feed| Written::clear(ALL, ALL);
-    let rows: [(&str, Fits, Writes); 3] = [
-        ("command, feed, downlink, grant", &|feed| feed.heard != Heard::Nothing, &fed),
-        ("command, feed, uplink, a reply", &replies, &fed),
+    let none = |_: &Feed| Written { command: NO_COMMAND, ..Written::clear(ALL, ALL) };
+    let rows: [(&str, Fits, Writes); 4] = [
+        ("command, feed, downlink, grant", &|feed| feed.heard != Heard::Nothing, &fed_command),
+        ("command, feed, uplink, a reply", &is_answered, &fed_command),
         ("command, clear", &|_| true, &clear),
+        ("command, none", &|_| true, &none),
     ];
     for (name, fits, written) in rows {
-        let fitting = feeds.iter().filter(|feed| fits(feed)).take(INPUTS / 4);
-        let inputs: Vec<Command> = fitting
-            .map(|feed| {
-                let mut block = random.register_block();
-                written(feed).write(&mut block);
-                Command { handset: feed.handset, block }
-            })
-            .collect();
-        row(name, &inputs, inputs.len(), engine_command, plain_rust_command);
+        bench.row(name, commands(bench, 10, run, fits, written), COMMAND, command);
     }
+}
+
+/// Without end commands on the handsets of runs, with blocks of any bytes.
+fn commands<'a>(
+    bench: &'a Bench,
+    seed: u64,
+    run: DrawRun,
+    fits: Fits<'a>,
+    written: Writes<'a>,
+) -> impl Iterator<Item = Command> + 'a {
+    let of_run = move |random: &mut Random| -> Vec<Command> {
+        let feeds = feeds_of(&run(&bench.model, random));
+        let fitting = feeds.iter().filter(|feed| fits(feed));
+        let of_feed = fitting.map(|feed| {
+            let mut block = random.register_block();
+            written(feed).write(&mut block);
+            Command { handset: feed.handset, block }
+        });
+        of_feed.collect()
+    };
+    draws(seed, of_run).flatten()
+}
+
+/// A feed of what the subframe brought, with any flag on the line.
+fn fed_command(feed: &Feed) -> Written {
+    Written::feed(record_of(feed.heard), ALL)
+}
+
+/// Whether a feed is answered by a reply.
+fn is_answered(feed: &Feed) -> bool {
+    let kind = plain_feed(feed.handset, feed.heard).kind;
+    kind == Fed::BUNDLED || kind == Fed::MULTIPLEXED
 }
 
 fn two_port_settings(random: &mut Random) -> Settings {
@@ -597,256 +751,245 @@ fn apart(
 }
 
 /// Each form has the scratch that the widest window needs, with two ports.
-fn claims_row(name: &str, form: Form, lists: &[List]) {
-    let number = lists.iter().map(|list| list.claims.len()).sum();
-    let (mut our_scratch, mut plain_scratch) = ([0; 1207], [0; 1207]);
+fn claims_row(bench: &Bench, name: &str, form: Form, lists: impl Iterator<Item = List>) {
+    let mut scratch = [0; 1207];
     let room = form.need(1207);
-    row(
-        name,
-        lists,
-        number,
-        |list| judged(list, &mut our_scratch[..room], form.call()),
-        |list| judged(list, &mut plain_scratch[..room], form.plain_call()),
-    );
+    let sides = [form.call(), form.plain_call()];
+    let judge = |call: OnClaims, list: &List| judged(call, list, &mut scratch[..room]);
+    bench.row_of(name, lists, |list| list.claims.len(), sides, judge);
 }
 
-/// How many records the measured traces have, in words too, and how many traces a batch
-/// has: of the short ones so many that it has thousands of records.
-const TRACES: [(&str, usize, usize); 3] =
-    [("1,000", 1_000, 8), ("4,000", 4_000, 2), ("16,379", 16_379, 1)];
+/// How many records the measured traces have, in words too.
+const LENGTHS: [(&str, usize); 3] = [("1,000", 1_000), ("4,000", 4_000), ("16,379", 16_379)];
 
-fn replays(model: &Model, random: &mut Random) {
+fn replays(bench: &Bench) {
+    let mut output = vec![0; LONGEST];
     for (name, mode) in [("bundled", 0), ("multiplexed", 1)] {
-        for (length, records, traces) in TRACES {
+        for (length, records) in LENGTHS {
             let name = format!("replay, {name} cell, {length} records");
-            let inputs = traces_of(model, mode, records, traces, random);
-            trace_row(&name, &inputs, records, engine_replay, plain_rust_replay);
+            let play = |call: OnReplay, drive: &Drive| replay(call, drive, &mut output);
+            bench.row_of(&name, drives(bench, 3, mode, records), length_of, REPLAY, play);
         }
     }
 }
 
-/// Traces of records of nothing, of which none is looked at; so few that they stay in the cache.
-fn sizes(random: &mut Random) {
-    let trace = |_| {
-        let records = vec![Slot::NOTHING; random.below(101)];
+/// Traces of records of nothing, of which none is looked at; so few that little of the time goes
+/// to fetching them from memory.
+fn sizes(bench: &Bench) {
+    let drives = draws(11, |random| {
+        let records = random.below(21);
         let settings = random.mixed_settings();
-        random.arranged(Trace::new(settings, &records)).bytes()
-    };
-    let inputs: Vec<Vec<u8>> = (0..INPUTS / 8).map(trace).collect();
-    row(
-        "replay size",
-        &inputs,
-        inputs.len(),
-        |trace| engine_replay_size(trace),
-        |trace| plain_rust_replay_size(trace),
-    );
+        let trace = Trace::new(settings, &vec![Slot::NOTHING; records]);
+        Drive { trace: random.arranged(trace).bytes(), records }
+    });
+    bench.row("replay size", drives, REPLAY_SIZE, replay_size);
 }
 
-fn writings(model: &Model, random: &mut Random) {
-    for (length, records, traces) in TRACES {
+fn records(bench: &Bench) {
+    let name = "a record read, one after another, 1,000 records";
+    bench.row_of(name, drives(bench, 12, 0, 1_000), length_of, RECORD, read_all);
+}
+
+fn writings(bench: &Bench) {
+    let mut output = vec![0; LONGEST];
+    for (length, records) in LENGTHS {
         let name = format!("a trace written, {length} records");
-        let inputs = traces_of(model, 0, records, traces, random);
-        trace_row(&name, &inputs, records, engine_trace_write, plain_rust_trace_write);
+        let write = |call: OnTraceWrite, drive: &Drive| trace_write(call, drive, &mut output);
+        bench.row_of(&name, drives(bench, 4, 0, records), length_of, TRACE_WRITE, write);
     }
 }
 
-fn traces_of(
-    model: &Model,
-    mode: u16,
-    records: usize,
-    traces: usize,
-    random: &mut Random,
-) -> Vec<Vec<u8>> {
+fn length_of(drive: &Drive) -> usize {
+    drive.records
+}
+
+/// Without end traces of so many records.
+fn drives(bench: &Bench, seed: u64, mode: u16, records: usize) -> impl Iterator<Item = Drive> + '_ {
     let settings = Settings::plain(2, 50, 10, mode, 2).with_scheduled(7);
-    let mut trace = || Trace::new(settings, &random.records(model, settings, records));
-    (0..traces).map(|_| trace().bytes()).collect()
+    draws(seed, move |random| {
+        let slots = random.records(&bench.model, settings, records);
+        Drive { trace: Trace::new(settings, &slots).bytes(), records }
+    })
 }
 
-/// A call that reads a trace and writes an output, which has room for every trace.
-type OnTrace = fn(&[u8], &mut [u8]) -> u64;
-
-fn trace_row(name: &str, inputs: &[Vec<u8>], records: usize, ours: OnTrace, plain: OnTrace) {
-    let (mut our_output, mut plain_output) = (vec![0; LONGEST], vec![0; LONGEST]);
-    row(
-        name,
-        inputs,
-        inputs.len() * records,
-        |trace| ours(trace, &mut our_output),
-        |trace| plain(trace, &mut plain_output),
-    );
+/// What is measured: the rows whose names have one of the words, all of them where there is none.
+struct Bench {
+    model: Model,
+    words: Vec<String>,
 }
 
-/// Measures two implementations whose batches alternate, each over all inputs,
-/// and prints the nanoseconds of one of the `number` things that are in them.
-fn row<T>(
-    name: &str,
-    inputs: &[T],
-    number: usize,
-    mut ours: impl FnMut(&T) -> u64,
-    mut plain: impl FnMut(&T) -> u64,
-) {
-    assert!(!inputs.is_empty() && inputs.iter().all(|input| ours(input) == plain(input)), "{name}");
-    let (mut our_times, mut plain_times) = (Vec::new(), Vec::new());
-    for batch in 0..BATCHES {
-        if batch % 2 == 0 {
-            our_times.push(time(inputs, &mut ours));
-            plain_times.push(time(inputs, &mut plain));
-        } else {
-            plain_times.push(time(inputs, &mut plain));
-            our_times.push(time(inputs, &mut ours));
-        }
+impl Bench {
+    /// A row of one call for each input; see [`Bench::row_of`].
+    fn row<C: Copy, T>(
+        &self,
+        name: &str,
+        inputs: impl Iterator<Item = T>,
+        sides: Sides<C>,
+        how: impl FnMut(C, &T) -> u64,
+    ) {
+        self.row_of(name, inputs, |_| 1, sides, how);
     }
-    let (ours, plain) = (median(our_times) / number as f64, median(plain_times) / number as f64);
-    println!("| {name} | {ours:.2} | {plain:.2} | {:.2} |", ours / plain);
+
+    /// Measures the two sides on the first inputs, as many as have enough things in them, and
+    /// prints the nanoseconds of one thing. Where the row is not asked for no input is drawn.
+    fn row_of<C: Copy, T>(
+        &self,
+        name: &str,
+        inputs: impl Iterator<Item = T>,
+        number: impl Fn(&T) -> usize,
+        sides: Sides<C>,
+        mut how: impl FnMut(C, &T) -> u64,
+    ) {
+        if !self.words.is_empty() && !self.words.iter().any(|word| name.contains(word)) {
+            return;
+        }
+        let inputs = enough(inputs, &number);
+        let things: usize = inputs.iter().map(number).sum();
+        let mut agree = |input: &T| how(sides[0], input) == how(sides[1], input);
+        assert!(inputs.iter().all(&mut agree), "{name}");
+        let [ours, plain] =
+            measured(&inputs, sides, &mut how).map(|times| Figures::of(times, things));
+        println!(
+            "| {name} | {:.2} | {:.2} | {:.2} | {:.2} | {:.2} | {:.2} |",
+            ours.median,
+            ours.least,
+            plain.median,
+            plain.least,
+            ours.median / plain.median,
+            ours.least / plain.least
+        );
+    }
 }
 
-/// The nanoseconds of one batch.
+/// The first inputs, until they have enough things in them.
+fn enough<T>(inputs: impl Iterator<Item = T>, number: &impl Fn(&T) -> usize) -> Vec<T> {
+    let mut things = 0;
+    let is_missing = |input: &T| {
+        let before = things;
+        things += number(input);
+        before < INPUTS
+    };
+    inputs.take_while(is_missing).collect()
+}
+
+/// The times of both sides' batches, each over all inputs. They take turns in which is first.
+fn measured<C: Copy, T>(
+    inputs: &[T],
+    [ours, plain]: Sides<C>,
+    how: &mut impl FnMut(C, &T) -> u64,
+) -> Sides<Vec<f64>> {
+    let (mut our_times, mut plain_times) = (Vec::new(), Vec::new());
+    let start = Instant::now();
+    while our_times.len() < BATCHES || start.elapsed() < TIME {
+        our_times.push(time(inputs, ours, how));
+        plain_times.push(time(inputs, plain, how));
+        plain_times.push(time(inputs, plain, how));
+        our_times.push(time(inputs, ours, how));
+    }
+    [our_times, plain_times]
+}
+
+/// The nanoseconds of one batch. Which side it is the compiler is not told, so that it makes the
+/// same code for both.
 #[inline(never)]
-fn time<T>(inputs: &[T], call: &mut impl FnMut(&T) -> u64) -> f64 {
+fn time<C: Copy, T>(inputs: &[T], call: C, how: &mut impl FnMut(C, &T) -> u64) -> f64 {
+    let call = black_box(call);
     let start = Instant::now();
     let mut sum = 0u64;
     for input in inputs {
-        sum = sum.wrapping_add(call(input));
+        sum = sum.wrapping_add(how(call, input));
     }
     black_box(sum);
     start.elapsed().as_nanos() as f64
 }
 
-fn median(mut times: Vec<f64>) -> f64 {
-    times.sort_by(f64::total_cmp);
-    times[times.len() / 2]
+/// Nanoseconds for one thing.
+struct Figures {
+    median: f64,
+    least: f64,
 }
 
-fn engine_window(input: &Input) -> u64 {
+impl Figures {
+    /// By the times of batches over so many things.
+    fn of(mut times: Vec<f64>, things: usize) -> Self {
+        times.sort_by(f64::total_cmp);
+        let of_one = |time: f64| time / things as f64;
+        Self { median: of_one(times[times.len() / 2]), least: of_one(times[0]) }
+    }
+}
+
+fn window(call: OnWindow, input: &Input) -> u64 {
     // SAFETY: the call takes numbers and gives numbers, and is lent no memory.
-    last_in_time(unsafe { feedback_window(input.settings, input.n) })
+    let answer = unsafe { call(input.settings, input.n) };
+    let answer = black_box(&answer);
+    let last = answer.order[usize::from(answer.size.wrapping_sub(1) % 9)];
+    u64::from(last) << 16 | u64::from(answer.k[0])
 }
 
-fn plain_rust_window(input: &Input) -> u64 {
-    last_in_time(plain_window(input.settings, input.n))
-}
-
-fn last_in_time(window: WindowAnswer) -> u64 {
-    let window = black_box(&window);
-    let last = window.order[usize::from(window.size.wrapping_sub(1) % 9)];
-    u64::from(last) << 16 | u64::from(window.k[0])
-}
-
-fn engine_answered(input: &Input) -> u64 {
+fn answered(call: OnAnswered, input: &Input) -> u64 {
     // SAFETY: the call takes numbers and gives numbers, and is lent no memory.
-    place(unsafe { feedback_answered(input.settings, input.subframe) })
-}
-
-fn plain_rust_answered(input: &Input) -> u64 {
-    place(plain_answered(input.settings, input.subframe))
-}
-
-fn place(answer: AnsweredAnswer) -> u64 {
+    let answer = unsafe { call(input.settings, input.subframe) };
     u64::from(answer.n) << 32 | u64::from(answer.k) << 16 | u64::from(answer.position)
 }
 
-fn engine_resource(input: &Input) -> u64 {
+fn resource(call: OnResource, input: &Input) -> u64 {
     // SAFETY: the call takes numbers and gives numbers, and is lent no memory.
-    both(unsafe { feedback_resource(input.settings, input.n, input.position, input.cce) })
-}
-
-fn plain_rust_resource(input: &Input) -> u64 {
-    both(plain_resource(input.settings, input.n, input.position, input.cce))
-}
-
-fn both(answer: ResourceAnswer) -> u64 {
+    let answer = unsafe { call(input.settings, input.n, input.position, input.cce) };
     u64::from(answer.second) << 16 | u64::from(answer.resource)
 }
 
-fn engine_inverse(input: &Input) -> u64 {
+fn inverse(call: OnInverse, input: &Input) -> u64 {
     // SAFETY: the call takes numbers and gives numbers, and is lent no memory.
-    let answer = unsafe { feedback_inverse(input.settings, input.n, input.resource) };
+    let answer = unsafe { call(input.settings, input.n, input.resource) };
     u64::from(answer.position) << 16 | u64::from(answer.cce)
 }
 
-fn plain_rust_inverse(input: &Input) -> u64 {
-    let answer = plain_inverse(input.settings, input.n, input.resource);
-    u64::from(answer.position) << 16 | u64::from(answer.cce)
-}
-
-fn engine_reading(input: &Input) -> u64 {
+fn reading(call: OnReading, input: &Input) -> u64 {
     let Input { settings, n, told, resource, bits: (b0, b1), .. } = *input;
     // SAFETY: the call takes numbers and gives numbers, and is lent no memory.
-    said(unsafe { feedback_reading(settings, n, told, resource, b0, b1) })
-}
-
-fn plain_rust_reading(input: &Input) -> u64 {
-    let Input { settings, n, told, resource, bits: (b0, b1), .. } = *input;
-    said(plain_reading(settings, n, told, resource, b0, b1))
-}
-
-fn said(answer: ReadingAnswer) -> u64 {
+    let answer = unsafe { call(settings, n, told, resource, b0, b1) };
     let place = u64::from(answer.scheduled) << 32 | u64::from(answer.delivered) << 16;
     place | u64::from(answer.cce)
 }
 
-fn engine_make(input: &Input) -> u64 {
+fn make(calls: OnHandset, input: &Input) -> u64 {
     // SAFETY: the call takes numbers and gives numbers, and is lent no memory.
-    let made = unsafe { feedback_make(input.settings) };
+    let made = unsafe { (calls.make)(input.settings) };
     black_box(&made).handset.settings.n1.into()
 }
 
-fn plain_rust_make(input: &Input) -> u64 {
-    let made = plain_make(input.settings);
-    black_box(&made).handset.settings.n1.into()
-}
-
-fn engine_feed(feed: &Feed) -> u64 {
-    value(engine_fed(feed.handset, feed.heard))
-}
-
-fn plain_rust_feed(feed: &Feed) -> u64 {
-    value(plain_rust_fed(feed.handset, feed.heard))
-}
-
-fn value(fed: Fed) -> u64 {
+fn feed(calls: OnHandset, feed: &Feed) -> u64 {
+    let fed = fed(calls, feed.handset, feed.heard);
     let fed = black_box(&fed);
     let bits = fed.b0 << 1 | fed.b1;
     let resources = u64::from(fed.second) << 48 | u64::from(fed.resource) << 32;
     resources | u64::from(fed.kind) << 16 | u64::from(bits)
 }
 
-fn engine_fed(handset: Handset, heard: Heard) -> Fed {
+#[inline(always)]
+fn fed(calls: OnHandset, handset: Handset, heard: Heard) -> Fed {
     // SAFETY: the calls take numbers and give numbers, and are lent no memory.
     unsafe {
         match heard {
-            Heard::Nothing => feedback_feed_nothing(handset),
+            Heard::Nothing => (calls.nothing)(handset),
             Heard::Grant(Grant { blocks, first, second, cce, dai }) => {
-                feedback_feed_grant(handset, blocks, first, second, cce, dai)
+                (calls.grant)(handset, blocks, first, second, cce, dai)
             }
             Heard::Block(Block { blocks, first, second }) => {
-                feedback_feed_scheduled(handset, blocks, first, second)
+                (calls.scheduled)(handset, blocks, first, second)
             }
-            Heard::Release(Release { cce, dai }) => feedback_feed_release(handset, cce, dai),
+            Heard::Release(Release { cce, dai }) => (calls.release)(handset, cce, dai),
         }
     }
 }
 
-fn plain_rust_fed(handset: Handset, heard: Heard) -> Fed {
-    plain_feed(handset, heard)
-}
-
-fn engine_run(run: &Run) -> u64 {
-    // SAFETY: the call takes numbers and gives numbers, and is lent no memory.
-    let handset = unsafe { feedback_make(run.settings) }.handset;
-    whole_run(run, handset, engine_fed)
-}
-
-fn plain_rust_run(run: &Run) -> u64 {
-    whole_run(run, plain_make(run.settings).handset, plain_rust_fed)
-}
-
 /// Each feed gets the handset that the one before returned.
-#[inline(always)]
-fn whole_run(run: &Run, mut handset: Handset, feed: impl Fn(Handset, Heard) -> Fed) -> u64 {
+fn whole_run(calls: OnHandset, run: &Run) -> u64 {
+    // SAFETY: the call takes numbers and gives numbers, and is lent no memory.
+    let mut handset = unsafe { (calls.make)(run.settings) }.handset;
     let mut sum = 0u64;
     for heard in &run.heard {
-        let fed = feed(handset, *heard);
+        let fed = fed(calls, handset, *heard);
         sum = sum.wrapping_add(u64::from(fed.resource));
         handset = fed.handset;
     }
@@ -854,55 +997,33 @@ fn whole_run(run: &Run, mut handset: Handset, feed: impl Fn(Handset, Heard) -> F
 }
 
 /// To the other mode.
-fn engine_change(handset: &Handset) -> u64 {
+fn change(calls: OnHandset, handset: &Handset) -> u64 {
     // SAFETY: the call takes numbers and gives numbers, and is lent no memory.
-    mode(unsafe { feedback_change_mode(*handset, 1 - handset.settings.mode) })
-}
-
-fn plain_rust_change(handset: &Handset) -> u64 {
-    mode(plain_change_mode(*handset, 1 - handset.settings.mode))
-}
-
-fn mode(changed: Changed) -> u64 {
+    let changed = unsafe { (calls.change_mode)(*handset, 1 - handset.settings.mode) };
     let changed = black_box(&changed);
     u64::from(changed.refusal) << 32 | u64::from(changed.handset.settings.mode)
 }
 
-fn engine_changing_run(run: &Run) -> u64 {
-    // SAFETY: the calls take numbers and give numbers, and are lent no memory.
-    let handset = unsafe { feedback_make(run.settings) }.handset;
-    let change = |handset, mode| unsafe { feedback_change_mode(handset, mode) };
-    changing_run(run, handset, engine_fed, change)
-}
-
-fn plain_rust_changing_run(run: &Run) -> u64 {
-    let change = |handset, mode| plain_change_mode(handset, mode);
-    changing_run(run, plain_make(run.settings).handset, plain_rust_fed, change)
-}
-
-/// The same with a change to the other mode before one subframe in eleven, each time another
-/// one of the frame.
-#[inline(always)]
-fn changing_run(
-    run: &Run,
-    mut handset: Handset,
-    feed: impl Fn(Handset, Heard) -> Fed,
-    change: impl Fn(Handset, u16) -> Changed,
-) -> u64 {
+/// A run with a change to the other mode before one subframe in eleven, each time another one of
+/// the frame.
+fn changing_run(calls: OnHandset, run: &Run) -> u64 {
+    // SAFETY: the call takes numbers and gives numbers, and is lent no memory.
+    let mut handset = unsafe { (calls.make)(run.settings) }.handset;
     let mut sum = 0u64;
     for (s, heard) in run.heard.iter().enumerate() {
         if s % 11 == 5 {
-            handset = change(handset, 1 - handset.settings.mode).handset;
+            // SAFETY: the same holds of this call.
+            let changed = unsafe { (calls.change_mode)(handset, 1 - handset.settings.mode) };
+            handset = changed.handset;
         }
-        let fed = feed(handset, *heard);
+        let fed = fed(calls, handset, *heard);
         sum = sum.wrapping_add(u64::from(fed.resource));
         handset = fed.handset;
     }
     sum
 }
 
-#[inline(always)]
-fn judged(list: &List, scratch: &mut [u8], call: OnClaims) -> u64 {
+fn judged(call: OnClaims, list: &List, scratch: &mut [u8]) -> u64 {
     let (claims, count) = (list.claims.as_ptr(), list.claims.len());
     let (marks, room) = (scratch.as_mut_ptr(), scratch.len());
     // SAFETY: list and scratch are lent with their lengths and do not overlap.
@@ -910,154 +1031,91 @@ fn judged(list: &List, scratch: &mut [u8], call: OnClaims) -> u64 {
     u64::from(answer.kind) << 32 | answer.index
 }
 
-fn engine_replay(trace: &[u8], output: &mut [u8]) -> u64 {
-    let (out, room) = (output.as_mut_ptr(), output.len());
-    // SAFETY: trace and output are lent with their lengths and do not overlap.
-    let answer = unsafe { feedback_replay(trace.as_ptr(), trace.len(), out, room) };
-    last_window(answer, output)
-}
-
-fn plain_rust_replay(trace: &[u8], output: &mut [u8]) -> u64 {
-    let (out, room) = (output.as_mut_ptr(), output.len());
-    // SAFETY: trace and output are lent with their lengths and do not overlap.
-    let answer = unsafe { plain_replay(trace.as_ptr(), trace.len(), out, room) };
-    last_window(answer, output)
-}
-
 /// How many windows were written, and some of the last one.
-fn last_window(answer: ReplayAnswer, output: &[u8]) -> u64 {
+fn replay(call: OnReplay, drive: &Drive, output: &mut [u8]) -> u64 {
+    let (file, length) = (drive.trace.as_ptr(), drive.trace.len());
+    let (out, room) = (output.as_mut_ptr(), output.len());
+    // SAFETY: trace and output are lent with their lengths and do not overlap.
+    let answer = unsafe { call(file, length, out, room) };
     let windows = usize::from(answer.windows);
     let last = &black_box(output)[WINDOW * windows.max(1) - WINDOW..][..WINDOW];
     let resource = u64::from(last[3]) << 8 | u64::from(last[2]);
     u64::from(answer.kind) << 48 | (windows as u64) << 16 | resource
 }
 
-fn engine_replay_size(trace: &[u8]) -> u64 {
+fn replay_size(call: OnReplaySize, drive: &Drive) -> u64 {
     // SAFETY: the trace is lent with its length.
-    told(unsafe { feedback_replay_size(trace.as_ptr(), trace.len()) })
-}
-
-fn plain_rust_replay_size(trace: &[u8]) -> u64 {
-    // SAFETY: the trace is lent with its length.
-    told(unsafe { plain_replay_size(trace.as_ptr(), trace.len()) })
-}
-
-fn told(size: ReplaySizeAnswer) -> u64 {
+    let size = unsafe { call(drive.trace.as_ptr(), drive.trace.len()) };
     u64::from(size.refusal) << 48 | u64::from(size.windows) << 32 | u64::from(size.bytes)
 }
 
-fn engine_trace_write(trace: &[u8], output: &mut [u8]) -> u64 {
-    let (out, room) = (output.as_mut_ptr(), output.len());
-    // SAFETY: trace and output are lent with their lengths and do not overlap.
-    let answer = unsafe { feedback_trace_write(trace.as_ptr(), trace.len(), out, room) };
-    last_bytes(answer, output)
-}
-
-fn plain_rust_trace_write(trace: &[u8], output: &mut [u8]) -> u64 {
-    let (out, room) = (output.as_mut_ptr(), output.len());
-    // SAFETY: trace and output are lent with their lengths and do not overlap.
-    let answer = unsafe { plain_trace_write(trace.as_ptr(), trace.len(), out, room) };
-    last_bytes(answer, output)
+/// One record after another.
+fn read_all(call: OnRecord, drive: &Drive) -> u64 {
+    let mut sum = 0u64;
+    for next in 0..drive.records {
+        // SAFETY: the trace is lent with its length.
+        let answer = unsafe { call(drive.trace.as_ptr(), drive.trace.len(), next) };
+        let Slot { kind, cce, dai, results } = answer.slot;
+        let slot = u32::from_le_bytes([kind, cce, dai, results]);
+        sum = sum.wrapping_add(u64::from(answer.kind) << 32 | u64::from(slot));
+    }
+    sum
 }
 
 /// How many bytes were written, and the last four of them.
-fn last_bytes(answer: WriteAnswer, output: &[u8]) -> u64 {
+fn trace_write(call: OnTraceWrite, drive: &Drive, output: &mut [u8]) -> u64 {
+    let (file, length) = (drive.trace.as_ptr(), drive.trace.len());
+    let (out, room) = (output.as_mut_ptr(), output.len());
+    // SAFETY: trace and output are lent with their lengths and do not overlap.
+    let answer = unsafe { call(file, length, out, room) };
     let written = &black_box(output)[..answer.bytes.into()];
     let last = written.last_chunk().map_or(0, |last| u32::from_le_bytes(*last));
     u64::from(answer.kind) << 48 | u64::from(answer.bytes) << 32 | u64::from(last)
 }
 
-fn engine_confirmed(input: &Credit) -> u64 {
+fn confirmed(call: OnConfirmed, input: &Credit) -> u64 {
     let Exchange { settings, n, sent, resource, b0, b1 } = input.exchange;
     // SAFETY: the call takes numbers and gives numbers, and is lent no memory.
-    blocks(unsafe { feedback_confirmed(settings, n, sent, resource, b0, b1) })
-}
-
-fn plain_rust_confirmed(input: &Credit) -> u64 {
-    let Exchange { settings, n, sent, resource, b0, b1 } = input.exchange;
-    blocks(plain_confirmed(settings, n, sent, resource, b0, b1))
-}
-
-fn blocks(answer: ConfirmedAnswer) -> u64 {
+    let answer = unsafe { call(settings, n, sent, resource, b0, b1) };
     u64::from(answer.refusal) << 32 | u64::from(answer.first) << 16 | u64::from(answer.second)
 }
 
-fn engine_credit(input: &Credit) -> u64 {
+fn credit(call: OnCredit, input: &Credit) -> u64 {
     let Exchange { settings, n, sent, resource, b0, b1 } = input.exchange;
     // SAFETY: the call takes numbers and gives numbers, and is lent no memory.
-    charged(unsafe { feedback_credit(settings, n, sent, resource, b0, b1, input.account) })
-}
-
-fn plain_rust_credit(input: &Credit) -> u64 {
-    let Exchange { settings, n, sent, resource, b0, b1 } = input.exchange;
-    charged(plain_credit(settings, n, sent, resource, b0, b1, input.account))
-}
-
-fn charged(answer: CreditAnswer) -> u64 {
+    let answer = unsafe { call(settings, n, sent, resource, b0, b1, input.account) };
     let answer = black_box(&answer);
     let Account { charged, carry, .. } = answer.account;
     u64::from(answer.octets) << 40 ^ u64::from(carry) << 20 ^ charged
 }
 
-fn engine_silence(handset: &Handset) -> u64 {
+fn open_account(call: OnPrice, price: &u32) -> u64 {
+    // SAFETY: the call takes a number and gives numbers, and is lent no memory.
+    let opened = unsafe { call(*price) };
+    let opened = black_box(&opened);
+    u64::from(opened.refusal) << 32 | u64::from(opened.account.price)
+}
+
+fn silence(call: OnSilence, handset: &Handset) -> u64 {
     // SAFETY: the call takes numbers and gives numbers, and is lent no memory.
-    cause(unsafe { feedback_silence(*handset) })
-}
-
-fn plain_rust_silence(handset: &Handset) -> u64 {
-    cause(plain_silence(*handset))
-}
-
-fn cause(answer: SilenceAnswer) -> u64 {
+    let answer = unsafe { call(*handset) };
     let answer = black_box(&answer);
     let [cause, v, expected] = answer.told().map(u64::from);
     let fed = u64::from(answer.fed.kind) << 16 | u64::from(answer.fed.resource);
     fed << 24 | cause << 16 | v << 8 | expected
 }
 
-fn engine_open(input: &Credit) -> u64 {
-    // SAFETY: the call takes a number and gives numbers, and is lent no memory.
-    price(unsafe { feedback_open_account(input.account.price) })
-}
-
-fn plain_rust_open(input: &Credit) -> u64 {
-    price(plain_open_account(input.account.price))
-}
-
-fn price(opened: Opened) -> u64 {
-    let opened = black_box(&opened);
-    u64::from(opened.refusal) << 32 | u64::from(opened.account.price)
-}
-
-fn engine_game(input: &Game) -> u64 {
+fn game(call: OnGame, input: &Game) -> u64 {
     // SAFETY: the call takes numbers and gives numbers, and is lent no memory.
-    forced(unsafe { feedback_game(input.size, input.grants, input.losses) })
-}
-
-fn plain_rust_game(input: &Game) -> u64 {
-    forced(plain_game(input.size, input.grants, input.losses))
-}
-
-fn forced(answer: GameAnswer) -> u64 {
+    let answer = unsafe { call(input.size, input.grants, input.losses) };
     u64::from(answer.refusal) << 16 | u64::from(answer.radio)
 }
 
-fn engine_command(input: &Command) -> u64 {
-    let mut block = input.block;
-    // SAFETY: the block is lent with its length.
-    let answer = unsafe { feedback_command(input.handset, block.as_mut_ptr(), block.len()) };
-    shown(answer, block)
-}
-
-fn plain_rust_command(input: &Command) -> u64 {
-    let mut block = input.block;
-    // SAFETY: the block is lent with its length.
-    let answer = unsafe { plain_command(input.handset, block.as_mut_ptr(), block.len()) };
-    shown(answer, block)
-}
-
 /// The resource and bits that the block shows, its flags, and the answer.
-fn shown(answer: CommandAnswer, block: [u8; SIZE]) -> u64 {
+fn command(call: OnCommand, input: &Command) -> u64 {
+    let mut block = input.block;
+    // SAFETY: the block is lent with its length.
+    let answer = unsafe { call(input.handset, block.as_mut_ptr(), block.len()) };
     let (answer, block) = (black_box(&answer), black_box(&block));
     let reply = block[REPLY + 2..].first_chunk().map_or(0, |reply| u32::from_le_bytes(*reply));
     let answered = u64::from(answer.refusal) << 8 | u64::from(answer.handset.next);
