@@ -218,11 +218,11 @@ the claims for one claim, and for a replay and the writing of a trace for one re
 Printed by `cargo run --release --offline --locked --bin bench` in `tests`. Both sides
 are `extern \"C\"` functions of one signature and are not inlined; the same code calls
 both, through a pointer. Plain Rust is built at the optimization of a release, in one
-codegen unit. Both get the same inputs in batches of 65,536, of which a processor does
-not learn the branches by heart. The batches alternate, {BATCHES} of each side, and more where
-these take less than a second. Their median counts, and the least of them stands beside it;
-the last two columns are ours over plain Rust's, by the medians and by the least. The
-figures depend on the machine; the ratios do so less.
+codegen unit and, as the engine is, for x86-64-v2. Both get the same inputs in batches of
+65,536, of which a processor does not learn the branches by heart. The batches alternate,
+{BATCHES} of each side, and more where these take less than a second. Their median counts, and
+the least of them stands beside it; the last two columns are ours over plain Rust's, by the
+medians and by the least. The figures depend on the machine; the ratios do so less.
 
 The numbers are allowed ones over all configurations, bandwidths, modes and blocks.
 The feeds are those of runs of 20 frames, one run behind the other, of as many as have enough
