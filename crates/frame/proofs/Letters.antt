@@ -7,7 +7,8 @@ use native.Mathlib.Omega.{arith}
 use lib.ListN.{length, get_or, take, drop}
 use Rattle.std.proofs.lemmas.List.FromFn.{get_or-map-range_with_len, take-map-range_with_len}
 use Rattle.std.specs.List.{range_with_len}
-use Rattle.frame.specs.Letters.{letter_byte, letters_before, backward_row, backward_rows}
+use Rattle.frame.specs.Coded.{letter_byte}
+use Rattle.frame.specs.Letters.{letters_before, backward_row, backward_rows}
 use Rattle.frame.specs.Distance.{before}
 use Rattle.frame.specs.Layout.{letter_of}
 use Rattle.frame.proofs.Layouts.{no_layout}

@@ -2,14 +2,9 @@
 -- Assumes nothing.
 use Rattle.std.specs.Prelude.{ℕ, List, map}
 use Rattle.std.specs.List.{range_with_len}
+use Rattle.frame.specs.Coded.{letter_byte}
 use Rattle.frame.specs.Distance.{before}
-use Rattle.frame.specs.Layout.{Letter, D, S, U, letter_of}
-
--- The byte of a letter.
-abbrev pub letter_byte : Letter → ℕ
-letter_byte D = 68
-letter_byte S = 83
-letter_byte U = 85
+use Rattle.frame.specs.Layout.{letter_of}
 
 -- The letters of the sixteen subframes before n, from the one before it on.
 unfoldable pub letters_before : ℕ → ℕ → List ℕ

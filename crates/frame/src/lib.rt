@@ -14,7 +14,9 @@ pub use answering::{before, shares_window};
 pub use backward::letters_before;
 pub use refusal::Refusal;
 pub use special::no_pdsch;
-pub use table::{distance_of, earliest_k_of, is_downlink, is_special, order_of, size_of, window_of};
+pub use table::{
+    distance_of, earliest_k_of, is_downlink, is_special, order_of, size_of, window_of,
+};
 pub use window::Window;
 
 // The settings of a cell (document 01, "Settings"), as raw numbers: a call refuses what 01 does not allow. `config` is the

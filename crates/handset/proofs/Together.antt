@@ -9,7 +9,7 @@ use lib.Dec.{eqb, leb, ltb}
 use borrow.Author.Tests.{ne_eqb, lt-ltb, le-ltb, lt-leb}
 use Rattle.frame.specs.declared.Settings.{Settings}
 use Rattle.frame.specs.Layout.{Letter, D, S, U, letter_of, carries, downlink, is_s, is_special}
-use Rattle.frame.specs.Letters.{letter_byte}
+use Rattle.frame.specs.Coded.{letter_byte}
 use Rattle.frame.specs.Settings.{or_else, outside, has_scheduled, settings_refusal}
 use Rattle.frame.specs.Special.{no_pdsch, too_short}
 use Rattle.frame.proofs.Accepted.{accepted, not_outside}

@@ -2,7 +2,7 @@
 // U9).
 ghost use Rattle.std.specs.Prelude.{ℕ, ◌+◌, ◌≡◌, ◌≤◌, ◌/◌, ◌%◌, eqb};
 ghost use Rattle.frame.specs.Layout.{letter_of};
-ghost use Rattle.frame.specs.Letters.{letter_byte};
+ghost use Rattle.frame.specs.Coded.{letter_byte};
 ghost use Rattle.frame.specs.Refusals.{refusal_in};
 ghost use Rattle.frame.specs.Settings.{has_scheduled, settings_refusal};
 ghost use Rattle.frame.specs.Special.{no_pdsch};
