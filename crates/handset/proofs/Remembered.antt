@@ -7,8 +7,8 @@ use mathlib.Core.Path.{◌≡◌, refl, sym, ap, ◌∙◌}
 use native.Mathlib.Numerals.{add-one}
 use native.Mathlib.Omega.{arith}
 use lib.Dec.{eqb, leb, eqb-suc-zero}
-use lib.ListN.{length, get_or, drop, drop_of_length-le, length-append}
-use lib.Seq.{drop-cons}
+use lib.ListN.{length, get_or, set, take, drop, drop_of_length-le, replicate, length-append}
+use lib.Seq.{drop-cons, take-length}
 use Rattle.frame.specs.declared.Settings.{Settings}
 use Rattle.frame.specs.Distance.{before}
 use Rattle.frame.specs.Settings.{or_else}
@@ -16,7 +16,7 @@ use Rattle.heard.specs.declared.Slot.{Slot}
 use Rattle.heard.specs.Heard.{heard_refusal, block_before, second_refusal, cause_of}
 use Rattle.heard.specs.Memory.{none, heard_in, block_ago}
 use Rattle.heard.proofs.Remembered.{kind_block}
-use Rattle.handset.specs.Checked.{slot_valid, all_valid, any_block, blocks_apart}
+use Rattle.handset.specs.Checked.{slot_valid, nothings, all_valid, any_block, blocks_apart}
 use Rattle.handset.specs.Sound.{slot_sound, previous, all_sound}
 
 -- A slot is sound where it is valid by itself, and is no scheduled block or the first one heard in its window.
@@ -58,9 +58,6 @@ none_apart c n (t ∷ ts) e = go (eqb t.kind 2) e (λ h. none_apart c (previous 
     go false h rest = rest h
 
 -- Slots of nothing behind them change nothing.
-abbrev pub nothings : List Slot
-nothings = none ∷ none ∷ none ∷ []
-
 valid_padded : (s : Settings) (n : ℕ) (past : List Slot) → all_valid s n (past ++ nothings) ≡ all_valid s n past
 unfolding all_valid slot_valid heard_in heard_refusal
 valid_padded s n [] = refl
@@ -107,18 +104,32 @@ module _ (past : List Slot) (slots : List Slot) (padded : slots ≡ past ++ noth
   unfolding any_block
   block_told block e = sym (block_padded past) ∙ ap any_block (sym padded) ∙ e ∙ rw (drop_of_length-le slots {i = i} done) (or-false block)
 
-pub sixteen : (past : List Slot) (t : Slot) → length past ≡ 13 → length (past ++ t ∷ t ∷ t ∷ []) ≡ 16
-sixteen past t e = length-append past (t ∷ t ∷ t ∷ []) ∙ rw e refl
+-- A loop that puts them there: one slot more.
+pub put_more : (past own : List Slot) (i : ℕ) → i < length past → i < length own
+    → set (take i past ++ drop i own) i (get_or past i none) ≡ take (i + 1) past ++ drop (i + 1) own
+put_more past own i h k = rw add-one (go past own i h k)
+  where
+    go : (past own : List Slot) (i : ℕ) → i < length past → i < length own
+        → set (take i past ++ drop i own) i (get_or past i none) ≡ take (suc i) past ++ drop (suc i) own
+    go [] own i h k = absurd (omega arith)
+    go (t ∷ ts) [] i h k = absurd (omega arith)
+    go (t ∷ ts) (u ∷ us) zero h k = refl
+    go (t ∷ ts) (u ∷ us) (suc i) h k = ap (λ (l : List Slot). t ∷ l) (go ts us i (omega (arith, h)) (omega (arith, k)))
 
+-- A default slot is one of nothing.
 none_of : (kind cce dai results : ℕ) → kind ≡ 0 → cce ≡ 0 → dai ≡ 0 → results ≡ 0
     → ◌≡◌ {A = Slot} (record { kind = kind; cce = cce; dai = dai; results = results }) none
 none_of kind cce dai results a b c d = rw (a, b, c, d) refl
 
-pub behind : (past own : List Slot) (t : Slot) → own ≡ past → (t.kind ≡ 0) × ((t.cce ≡ 0) × ((t.dai ≡ 0) × (t.results ≡ 0)))
-    → own ++ t ∷ t ∷ t ∷ [] ≡ past ++ nothings
-behind past own t e f =
-    let empty : t ≡ none = none_of t.kind t.cce t.dai t.results f.0 f.1.0 f.1.1.0 f.1.1.1 in
-    rw (e, empty) refl
+pub is_none : (t : Slot) → (t.kind ≡ 0) × ((t.cce ≡ 0) × ((t.dai ≡ 0) × (t.results ≡ 0))) → t ≡ none
+is_none t e = none_of t.kind t.cce t.dai t.results e.0 e.1.0 e.1.1.0 e.1.1.1
+
+pub all_put : (past slots : List Slot) (i : ℕ) → length past ≡ 13 → i ≡ 13 → slots ≡ take i past ++ drop i (replicate 16 none) → slots ≡ past ++ nothings
+all_put past slots i size done e =
+    e ∙ rw done (ap (λ (k : ℕ). take k past ++ nothings) (sym size) ∙ ap (λ (l : List Slot). l ++ nothings) (take-length past))
+
+pub sixteen : (past slots : List Slot) → length past ≡ 13 → slots ≡ past ++ nothings → length slots ≡ 16
+sixteen past slots e f = rw f (length-append past nothings ∙ rw e refl)
 
 -- What a state that remembers this comes to.
 module _ (s : Settings) (n : ℕ) (past : List Slot) where

@@ -1,7 +1,7 @@
 -- A remembered slot is valid by itself: the tests of its kind, as the code draws them together.
 -- Assumes nothing.
 use Prim.Native.Nat.{ℕ, zero, suc, ◌+◌, ◌<◌, ◌≤◌, ◌/◌, ◌%◌}
-use mathlib.Core.Bool.{Bool, true, false, cond, not, ◌&&◌, ◌||◌, and-false}
+use mathlib.Core.Bool.{Bool, true, false, cond, not, ◌&&◌, ◌||◌, and-true, and-false, or-true}
 use mathlib.Core.Path.{◌≡◌, refl, sym, ◌∙◌}
 use native.Mathlib.Decide.{ℕ_discrete, dec_lt}
 use native.Mathlib.Omega.{arith}
@@ -176,7 +176,7 @@ module _ (s : Settings) (n : ℕ) (t : Slot) where
       ]
 
 -- The tests as the code has them: the kind and the letter first, then what only a PDCCH, only data, only a block must meet.
-abbrev pub coded : ℕ → Bool → Bool → Bool → Bool → Bool
+abbrev coded : ℕ → Bool → Bool → Bool → Bool → Bool
 coded kind carries pdcch fits set =
     (((leb kind 3 && (eqb kind 0 || carries)) && (pdcch || not (eqb (kind % 2) 1))) && (fits || not (eqb ((kind + 1) / 2 % 2) 1))) && (set || not (eqb kind 2))
 
@@ -250,18 +250,35 @@ letter_special S false = refl
 letter_special U true = refl
 letter_special U false = refl
 
+-- The greatest kind of an uplink subframe is 0, and of any other 3.
+kinds_told : (kind letter : ℕ) → leb kind (cond (eqb letter 85) 0 3) ≡ (leb kind 3 && (eqb kind 0 || not (eqb letter 85)))
+kinds_told kind letter = go kind (eqb letter 85)
+  where
+    go : (kind : ℕ) (b : Bool) → leb kind (cond b 0 3) ≡ (leb kind 3 && (eqb kind 0 || not b))
+    go kind false = sym (rw (or-true (eqb kind 0)) (and-true (leb kind 3)))
+    go zero true = refl
+    go (suc kind) true = rw (lt-leb (suc kind) 0 (omega arith), ne_eqb (suc kind) 0 (λ e. absurd (omega arith))) (sym (and-false (leb (suc kind) 3)))
+
+two_told : (one : Bool) (two : ℕ) → not (eqb (cond one two 0) 1) ≡ not (eqb two 1 && one)
+two_told true two = rw (and-true (eqb two 1)) refl
+two_told false two = rw (and-false (eqb two 1)) refl
+
 -- So the code's tests are those of the slot by itself.
+abbrev pub tests : ℕ → ℕ → Bool → Bool → Bool → Bool
+tests kind most pdcch fits set =
+    ((leb kind most && (pdcch || not (eqb (kind % 2) 1))) && (fits || not (eqb ((kind + 1) / 2 % 2) 1))) && (set || not (eqb kind 2))
+
 pub valid_coded : (s : Settings) (n : ℕ) (t : Slot) → settings_refusal s ≡ 0
     → slot_valid s n t
-    ≡ coded t.kind (not (eqb (letter_byte (letter_of s.config n)) 85)) (pdcch s n t)
-    (not (eqb (t.results / 4 % 2) 1 && eqb s.blocks 1) && not (eqb (letter_byte (letter_of s.config n)) 83 && no_pdsch s.prefix s.special))
+    ≡ tests t.kind (cond (eqb (letter_byte (letter_of s.config n)) 85) 0 3) (pdcch s n t)
+    (not (eqb (cond (eqb s.blocks 1) (t.results / 4 % 2) 0) 1) && not (eqb (letter_byte (letter_of s.config n)) 83 && no_pdsch s.prefix s.special))
     (has_scheduled s)
 unfolding downlink too_short is_special
 valid_coded s n t e =
     let a = accepted s e in
     valid_together s n t
     ∙ rw
-    (carried_one (t.results / 4 % 2) s.blocks (omega arith) a.blocks_least a.blocks_most, letter_carries (letter_of s.config n), letter_special (letter_of s.config n) (no_pdsch s.prefix s.special))
+    (carried_one (t.results / 4 % 2) s.blocks (omega arith) a.blocks_least a.blocks_most, letter_carries (letter_of s.config n), letter_special (letter_of s.config n) (no_pdsch s.prefix s.special), kinds_told t.kind (letter_byte (letter_of s.config n)), two_told (eqb s.blocks 1) (t.results / 4 % 2))
     (coded_together t.kind _ _ _ _)
 
 -- N_4, as the call for it gives it to accepted settings.

@@ -5,12 +5,16 @@ use Rattle.std.specs.Prelude.{ℕ, Bool, true, false, not, ◌&&◌, ◌||◌, L
 use Rattle.frame.specs.declared.Settings.{Settings}
 use Rattle.heard.specs.declared.Slot.{Slot}
 use Rattle.heard.specs.Heard.{heard_refusal, block_before}
-use Rattle.heard.specs.Memory.{heard_in, block_ago}
+use Rattle.heard.specs.Memory.{none, heard_in, block_ago}
 use Rattle.handset.specs.Sound.{previous}
 
 -- A slot is of a kind that there is, and what it heard is valid in subframe n by itself.
 unfoldable pub slot_valid : Settings → ℕ → Slot → Bool
 slot_valid s n t = leb t.kind 3 && eqb (heard_refusal s n (heard_in t)) 0
+
+-- Three slots of nothing, which the code puts behind the 13.
+abbrev pub nothings : List Slot
+nothings = none ∷ none ∷ none ∷ []
 
 -- Every slot is valid by itself: the newest in the subframe before n, and so on back.
 unfoldable pub all_valid : Settings → ℕ → List Slot → Bool

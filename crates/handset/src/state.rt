@@ -1,13 +1,13 @@
 // Refusal 8: what a lent state must be (document 01, "Causes and their numbers"; document 02, U1, U2, U8 and
 // U9).
-ghost use Rattle.std.specs.Prelude.{ℕ, ◌+◌, ◌≡◌, ◌≤◌, ◌/◌, ◌%◌, eqb};
+ghost use Rattle.std.specs.Prelude.{ℕ, ◌+◌, ◌++◌, ◌≡◌, ◌≤◌, ◌/◌, ◌%◌, cond, eqb};
 ghost use Rattle.frame.specs.Layout.{letter_of};
 ghost use Rattle.frame.specs.Coded.{letter_byte};
 ghost use Rattle.frame.specs.Refusals.{refusal_in};
 ghost use Rattle.frame.specs.Settings.{has_scheduled, settings_refusal};
 ghost use Rattle.frame.specs.Special.{no_pdsch};
 ghost use Rattle.resource.specs.Formula.{edge};
-ghost use Rattle.handset.specs.Checked.{slot_valid, all_valid, any_block, blocks_apart};
+ghost use Rattle.handset.specs.Checked.{slot_valid, nothings, all_valid, any_block, blocks_apart};
 ghost use Rattle.handset.specs.Sound.{previous, all_sound, state_refusal};
 
 use crate::Handset;
@@ -43,6 +43,24 @@ impl Limits {
             short: frame::no_pdsch(settings.prefix, settings.special),
         }
     }
+
+    // 1 where a slot's number has the bit for two blocks and one block is the most.
+    fn two_in(self, word: u32) -> u32
+        ensures { result ≡ cond self.one_block (word / 67108864 % 2) 0 }
+    {
+        if self.one_block {
+            word / 0x4000000 % 2
+        } else {
+            0
+        }
+    }
+}
+
+// The greatest kind that a subframe of this letter may have: nothing is heard in an uplink one.
+fn kinds_of(letter: u8) -> u32
+    ensures { result ≡ cond (eqb letter 85) 0 3 }
+{
+    if letter == b'U' { 0 } else { 3 }
 }
 
 // A slot as one number, its first byte lowest: so the compiler tests four slots at a time.
@@ -65,13 +83,27 @@ fn is_valid(limits: Limits, letter: u8, t: Slot) -> bool
     let kind = word % 0x100;
     let cce = word / 0x100 % 0x100;
     let dai = word / 0x10000 % 0x100;
-    let two = word / 0x4000000 % 2 == 1;
-    let place = (kind <= 3) & ((kind == 0) | (letter != b'U'));
     let pdcch = (cce < limits.cces) & (0 < dai) & (dai < 5);
-    let data = !(two & limits.one_block) & !((letter == b'S') & limits.short);
+    let two = limits.two_in(word) == 1;
+    let data = !two & !((letter == b'S') & limits.short);
     let is_pdcch = kind % 2 == 1;
     let is_data = (kind + 1) / 2 % 2 == 1;
-    place & (pdcch | !is_pdcch) & (data | !is_data) & (limits.scheduled | (kind != 2))
+    (kind <= kinds_of(letter))
+        & (pdcch | !is_pdcch)
+        & (data | !is_data)
+        & (limits.scheduled | (kind != 2))
+}
+
+// The slots and three of nothing behind them, since the compiler tests sixteen four at a time and 13 one by one. A loop, which it makes no
+// copy of.
+fn padded(past: &[Slot; 13]) -> [Slot; 16]
+    ensures { result ≡ past.now ++ nothings }
+{
+    let mut slots = [Slot::default(); 16];
+    for (i, &t) in past.iter().enumerate() {
+        slots[i] = t;
+    }
+    slots
 }
 
 // The subframe after n; after 9 comes 0.
@@ -109,7 +141,6 @@ impl Handset {
 
     // Every remembered subframe is sound in the subframe it was fed in: the newest in the one before that which is expected, and so on
     // back. Each is valid by itself, and no scheduled block is a second one in its window: only a state that has one looks for another.
-    // Three slots of nothing stand behind the 13, since the compiler tests sixteen four at a time and 13 one by one.
     fn all_sound(&self) -> bool
         requires next { self.now.next ≤ 9 }
         requires settings { settings_refusal self.now.settings ≡ 0 }
@@ -117,8 +148,7 @@ impl Handset {
     {
         let limits = Limits::of(self.settings);
         let letters = frame::letters_before(self.settings.config, self.next);
-        let mut slots = [Slot::default(); 16];
-        slots[..13].copy_from_slice(&self.past);
+        let slots = padded(&self.past);
         let mut valid = true;
         let mut block = false;
         for (i, &t) in slots.iter().enumerate() {
