@@ -8,8 +8,9 @@
  * for the sizes of transport blocks, for one serving cell with dynamic grants and
  * semi-persistent scheduling, and PUCCH formats 1a, 1b and 1b with channel selection;
  * for PUCCH on two antenna ports, those of a later release, section 10.1.3. Link with
- * libfeedback.a, which is built for x86-64 with the System V calling convention. For C99
- * and C++98 and all later.
+ * libfeedback.a, which is built for x86-64 with the System V calling convention, for the
+ * processors of the level x86-64-v2 and later (SSE4.2 and POPCNT, since 2009). For C99 and
+ * C++98 and all later.
  *
  *   calls of both ends      feedback_window, feedback_answered
  *   calls of the station    feedback_resource, feedback_inverse,
@@ -263,8 +264,8 @@
  *             feedback_inverse        64
  *             feedback_reading        512
  *             feedback_confirmed      1280
- *             feedback_claims         128
- *             feedback_claims_bits    128
+ *             feedback_claims         256
+ *             feedback_claims_bits    256
  *             feedback_open_account   64
  *             feedback_credit         1024
  *             feedback_make           128
@@ -294,8 +295,8 @@
 #include <stdint.h>
 
 /* This header's version: major * 10000 + minor * 100 + patch, and the same as text. */
-#define FEEDBACK_VERSION 50500
-#define FEEDBACK_VERSION_TEXT "5.5.0"
+#define FEEDBACK_VERSION 50501
+#define FEEDBACK_VERSION_TEXT "5.5.1"
 
 #define FEEDBACK_WINDOW_MOST 9     /* the most subframes of a window: M in configuration 5 */
 #define FEEDBACK_LOSSES_MOST 9     /* the most losses that feedback_game is asked about */
