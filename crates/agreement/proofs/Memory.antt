@@ -2,16 +2,16 @@
 -- next subframe, and is sound.
 -- Assumes nothing.
 use Rattle.std.proofs.Common.{Ok, Err}
-use Prim.Native.Nat.{ℕ, zero, suc, ◌+◌, ◌-◌, ◌*◌, ◌/◌, ◌%◌, ◌<◌, ◌≤◌}
-use mathlib.Core.Bool.{Bool, true, false, cond, false≢true}
+use Prim.Native.Nat.{ℕ, zero, suc, ◌+◌, ◌-◌, ◌%◌, ◌<◌, ◌≤◌}
+use mathlib.Core.Bool.{true, cond, false≢true}
 use mathlib.Core.List.{List, [], ◌∷◌, map}
 use mathlib.Core.Path.{◌≡◌, refl, sym, ap, ◌∙◌}
-use native.Mathlib.Nat.{zero-add, add-suc, suc-add, le_of_suc-le-suc, not-suc-le-zero, add-zero}
+use native.Mathlib.Nat.{zero-add}
 use native.Mathlib.Decide.{dec_lt}
 use native.Mathlib.Omega.{arith}
-use lib.Dec.{eqb, leb, eqb-suc-zero}
+use lib.Dec.{eqb, eqb-suc-zero}
 use lib.ListN.{length, get_or}
-use borrow.Author.Tests.{le-leb, eqb-true, eqb-false}
+use borrow.Author.Tests.{le-leb}
 use Rattle.frame.specs.declared.Settings.{Settings}
 use Rattle.frame.specs.Refusals.{number_in}
 use Rattle.frame.specs.Settings.{or_else, new_mode_refusal, settings_refusal, in_mode}
@@ -19,71 +19,20 @@ use Rattle.frame.proofs.Accepted.{Accepted, accepted, accepted_in}
 use Rattle.heard.specs.declared.Heard.{Heard}
 use Rattle.heard.specs.declared.Heard.TheVariants.{Nothing, Granted, Scheduled, Released}
 use Rattle.heard.specs.declared.Slot.{Slot}
-use Rattle.heard.specs.Heard.{is_block, heard_refusal, second_refusal, cause_of, view_of}
-use Rattle.heard.specs.Memory.{none, bit, slot_of, heard_in, view_in, view_ago, block_ago}
+use Rattle.heard.specs.Heard.{is_block, heard_refusal, cause_of, view_of}
+use Rattle.heard.specs.Memory.{none, slot_of, view_in, view_ago, block_ago}
 use Rattle.heard.proofs.Before.{cause_same, cause_none_holds, cause_fewer}
-use Rattle.heard.proofs.Valid.{ValidBlocks, Valid, valid}
+use Rattle.heard.proofs.Valid.{Valid, valid}
 use Rattle.handset.specs.declared.Handset.{Handset}
 use Rattle.handset.specs.Change.{change_refusal, changed_as, change_of}
 use Rattle.handset.specs.Feed.{next_answer, pushed, feed_refusal, fed_as, feed_of}
 use Rattle.handset.specs.Make.{slots_from, memory, fresh, make_of}
 use Rattle.handset.specs.Sound.{slot_sound, previous, all_sound, state_sound, state_refusal}
+use Rattle.handset.proofs.Kept.{slot_back, slots_at, beyond, slots_tail, none_all, kind_small}
 use Rattle.agreement.specs.Run.{cause_after, standing}
 use Rattle.agreement.specs.Window.{heard_at}
 use Rattle.agreement.proofs.BundledWindow.{LowCce}
 use Rattle.agreement.proofs.Modes.{cause_in_holds, Allowed, modes_after, made_allowed, modes_sound_holds}
-
--- The three bits of a slot's results, taken apart again.
-first_back : (a b c : Bool) → eqb ((bit a + 2 * bit b + 4 * bit c) % 2) 1 ≡ a
-first_back true true true = refl
-first_back true true false = refl
-first_back true false true = refl
-first_back true false false = refl
-first_back false true true = refl
-first_back false true false = refl
-first_back false false true = refl
-first_back false false false = refl
-
-second_back : (a b c : Bool) → eqb ((bit a + 2 * bit b + 4 * bit c) / 2 % 2) 1 ≡ b
-second_back true true true = refl
-second_back true true false = refl
-second_back true false true = refl
-second_back true false false = refl
-second_back false true true = refl
-second_back false true false = refl
-second_back false false true = refl
-second_back false false false = refl
-
-two_back : (a b c : Bool) → eqb ((bit a + 2 * bit b + 4 * bit c) / 4 % 2) 1 ≡ c
-two_back true true true = refl
-two_back true true false = refl
-two_back true false true = refl
-two_back true false false = refl
-two_back false true true = refl
-two_back false true false = refl
-two_back false false true = refl
-two_back false false false = refl
-
-blocks_back : (set : Settings) → Accepted set → (b : ℕ) → ValidBlocks set b → cond (eqb b 2) 2 1 ≡ b
-blocks_back set ok b v = go (eqb b 2) refl
-  where
-    go : (t : Bool) → eqb b 2 ≡ t → cond t 2 1 ≡ b
-    go true t = sym (eqb-true b 2 t)
-    go false t = let other = eqb-false b 2 t in omega (arith, v.least, v.most, ok.blocks_most)
-
--- What a slot made of a valid heard thing holds.
-pub slot_back : (set : Settings) → Accepted set → (n : ℕ) (x : Heard) → heard_refusal set n x ≡ 0 → heard_in (slot_of x) ≡ x
-unfolding heard_in slot_of
-slot_back set ok n Nothing e = refl
-slot_back set ok n (Granted g) e =
-    let t : Bool = eqb g.blocks 2 in
-    let b = blocks_back set ok g.blocks (valid set n (Granted g) e).1 in
-    rw (two_back g.first g.second t, first_back g.first g.second t, second_back g.first g.second t, b)
-slot_back set ok n (Scheduled x) e =
-    let t : Bool = eqb x.blocks 2 in
-    let b = blocks_back set ok x.blocks (valid set n (Scheduled x) e).1 in
-    rw (two_back x.first x.second t, first_back x.first x.second t, second_back x.first x.second t, b)
-slot_back set ok n (Released p) e = refl
 
 pub slot_view : (set : Settings) → Accepted set → (n : ℕ) (x : Heard) → heard_refusal set n x ≡ 0 → view_in (slot_of x) ≡ view_of x
 unfolding view_in
@@ -112,18 +61,6 @@ unfolding pushed
 pushed_after set m ms l x =
     let e : (length l % 10 + 1) % 10 ≡ suc (length l) % 10 = omega arith in
     rw e
-
-slots_at : (count i : ℕ) (l : List Slot) (j : ℕ) → j < count → get_or (slots_from count i l) j none ≡ get_or l (i + j) none
-slots_at zero i l j h = absurd (not-suc-le-zero h)
-slots_at (suc count) i l zero h = ap (λ (x : ℕ). get_or l x none) (sym (add-zero i))
-slots_at (suc count) i l (suc j) h =
-    slots_at count (suc i) l j (le_of_suc-le-suc h) ∙ ap (λ (x : ℕ). get_or l x none) (suc-add i j ∙ sym (add-suc i j))
-
--- Past the slots there is nothing.
-beyond : (count i : ℕ) (l : List Slot) (j : ℕ) → count ≤ j → get_or (slots_from count i l) j none ≡ none
-beyond zero i l j h = refl
-beyond (suc count) i l zero h = absurd (not-suc-le-zero h)
-beyond (suc count) i l (suc j) h = beyond count (suc i) l j (le_of_suc-le-suc h)
 
 -- A heard thing of the history, or nothing before it, was valid.
 valid_at : (set : Settings) (l : List Heard) → ValidPast set l → (i : ℕ) → (n : ℕ) × (heard_refusal set n (get_or l i Nothing) ≡ 0)
@@ -196,26 +133,6 @@ fewer_blocks count l a least e = go (dec_lt (a - 1) count)
         absurd (false≢true (sym (ap (λ (t : Slot). eqb t.kind 2) out) ∙ e))
 
 -- Refusal 8 is never met.
-slots_tail : (count i : ℕ) (t : Slot) (ts : List Slot) → slots_from count (suc i) (t ∷ ts) ≡ slots_from count i ts
-slots_tail zero i t ts = refl
-slots_tail (suc count) i t ts = ap (λ (l : List Slot). get_or ts i none ∷ l) (slots_tail count (suc i) t ts)
-
-none_sound : (set : Settings) (n : ℕ) (older : List Slot) → slot_sound set n older none ≡ true
-unfolding slot_sound heard_in cause_of second_refusal heard_refusal
-none_sound set n older = refl
-
-none_all : (set : Settings) (count i n : ℕ) → all_sound set n (slots_from count i []) ≡ true
-unfolding all_sound
-none_all set zero i n = refl
-none_all set (suc count) i n = rw (none_sound set (previous n) (slots_from count (suc i) [])) (none_all set count (suc i) (previous n))
-
-kind_small : (x : Heard) → leb (slot_of x).kind 3 ≡ true
-unfolding slot_of
-kind_small Nothing = refl
-kind_small (Granted g) = refl
-kind_small (Scheduled b) = refl
-kind_small (Released p) = refl
-
 slot_sound_holds : (set : Settings) → Accepted set → (l : List Heard) (x : Heard) → cause_after set l x ≡ 0 → (count : ℕ)
     → slot_sound set (length l % 10) (slots_from count 0 (map slot_of l)) (slot_of x) ≡ true
 unfolding slot_sound

@@ -1,4 +1,5 @@
 pub mod Apart
+pub mod Kept
 pub mod ModeBits
 pub mod Passing
 pub mod Pushed

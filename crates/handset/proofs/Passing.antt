@@ -29,6 +29,7 @@ use Rattle.handset.specs.Stored.{Storable}
 
 -- Where 8 is not met.
 pub record Sound (h : Handset) : Type 0 where
+  pub good : settings_refusal h.settings ≡ 0
   pub settings : Accepted h.settings
   pub next : h.next ≤ 9
   pub modes : modes_sound h.settings h.modes ≡ true
@@ -44,6 +45,7 @@ sound h e =
     let d = and_parts (first && leb h.next 9) modes a.0 in
     let b = and_parts first (leb h.next 9) d.0 in
     record {
+      good = eqb-true (settings_refusal h.settings) 0 b.0;
       settings = accepted h.settings (eqb-true (settings_refusal h.settings) 0 b.0);
       next = leb-true h.next 9 b.1;
       modes = d.1;

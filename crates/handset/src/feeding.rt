@@ -61,7 +61,7 @@ impl Handset {
 
     // The answer at the subframe that is expected: "taken" in a downlink one, else what its window says.
     #[tactic(auto, unfolding(crate::specs::Feed::next_answer, crate::specs::Feed::answer_of, crate::specs::Feed::window_settings))]
-    fn next_answer(&self) -> Answer
+    pub(crate) fn next_answer(&self) -> Answer
         ensures { result ≡ next_answer self.now }
     {
         if frame::is_downlink(self.settings.config, self.next) {
@@ -75,7 +75,7 @@ impl Handset {
     }
 
     // The subframe is remembered, in the mode that stands; after 9 comes 0.
-    fn push(&mut self, x: Heard)
+    pub(crate) fn push(&mut self, x: Heard)
         requires { feed_refusal self.old x ≡ 0 }
         ensures { self.new ≡ pushed self.old x }
     {

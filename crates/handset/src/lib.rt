@@ -6,12 +6,14 @@ mod changing;
 mod feeding;
 mod making;
 mod modes;
+mod running;
 mod state;
 
 ghost use Rattle.std.specs.Prelude.{◌≡◌};
 
 use frame::Settings;
 use heard::{Memory, Slot};
+pub use running::Running;
 
 // The handset's state, 74 bytes: its settings, the subframe it expects, and for the last 13 subframes, newest first, the mode that
 // stood when each was fed, a bit each from the lowest on, and what it heard. A C caller lends it, and may have written any numbers.
