@@ -1,11 +1,9 @@
--- The records that a reader has before it: how `next` takes the first of them, and which they are. Assumes nothing.
+-- The records that a reader has before it: how `next` takes the first of them. Assumes nothing.
 use Prim.Native.Nat.{ℕ, zero, suc, ◌+◌, ◌-◌, ◌≤◌, ◌<◌}
 use mathlib.Core.Bool.{false, cond}
 use mathlib.Core.List.{List, [], ◌∷◌}
-use mathlib.Core.Logic.{◌⊎◌, ⊎_elim}
-use mathlib.Core.Path.{◌≡◌, refl, sym, ◌∙◌}
+use mathlib.Core.Path.{◌≡◌, refl, ◌∙◌}
 use native.Mathlib.Decide.{dec_le}
-use native.Mathlib.Numerals.{add-one}
 use native.Mathlib.Omega.{arith}
 use lib.Dec.{ltb}
 use borrow.Author.Tests.{le-ltb}
@@ -17,9 +15,9 @@ use Rattle.frame.specs.Refusals.{numbered, refused_or}
 use Rattle.heard.specs.declared.Slot.{Slot}
 use Rattle.reader.specs.declared.Reader.{Reader}
 use Rattle.reader.specs.Reading.{following_of, read_on, records_from, records_left}
-use Rattle.reader.specs.Record.{used_in, record_slot, read_as, record_of}
-use Rattle.reader.proofs.Given.{record_read_holds, next_number}
-use Rattle.trace.specs.Trace.{header_of, parts_refusal, trace_refusal}
+use Rattle.reader.specs.Record.{record_slot, read_as, record_of}
+use Rattle.reader.proofs.Given.{next_number}
+use Rattle.trace.specs.Trace.{header_of, parts_refusal}
 
 -- A record that is read is one of the trace's.
 inside : (l : List ℕ) (i : ℕ) (t : Slot) → record_of l i ≡ Ok (Some t) → i < (header_of l).records
@@ -62,44 +60,3 @@ module _ (r : Reader) where
   none_left (Ok (Some x)) given e = absurd (cc)
   none_left (Ok None) given e = ends _ _ given (λ others. refl)
   none_left (Err k) given e = ends _ _ given (λ others. refl)
-
-  -- At the first record a reader has all of them before it.
-  begins : r.next ≡ 0 → records_left r ≡ records_from r.trace.now 0 (header_of r.trace.now).records
-  unfolding records_left
-  begins e =
-      let all : (header_of r.trace.now).records - 0 ≡ (header_of r.trace.now).records = omega arith in
-      rw (e, all)
-
--- A loop over the numbers of a trace's records and the records together, before record i.
-pub record Before (l : List ℕ) (records i : ℕ) (r : Reader) : Type 0 where
-  pub count : i ≤ records
-  pub reads : records_left r ≡ records_from l i (records - i)
-
--- Where the trace is not refused, each turn takes what is used of record i, and the loop ends behind the last record.
-module _ (l : List ℕ) (records : ℕ) (accepted : trace_refusal l ≡ 0) (all : records ≡ (header_of l).records) where
-  pub starts : (r : Reader) → r.trace.now ≡ l → r.next ≡ 0 → Before l records 0 r
-  starts r same first =
-      let whole : records - 0 ≡ records = omega arith in
-      record { count = omega arith; reads = rw (begins r first, same, whole, all) }
-
-  one_more : (i : ℕ) → i < records → records_from l i (records - i) ≡ used_in (record_slot l i) ∷ records_from l (suc i) (records - suc i)
-  unfolding records_from
-  one_more i less =
-      let count : records - i ≡ suc (records - suc i) = omega arith in
-      rw (count, record_read_holds l accepted i (rw all at less), add-one)
-
-  module _ (i : ℕ) (r : Reader) (p : Before l records i r) where
-    pub turn : (x : Slot) (s : Reader) → i < records → records_left r ≡ x ∷ records_left s
-        → (x ≡ used_in (record_slot l i)) × Before l records (i + 1) s
-    turn x s less read =
-        let next : x ∷ records_left s ≡ used_in (record_slot l i) ∷ records_from l (suc i) (records - suc i) = sym read ∙ p.reads ∙ one_more i less in
-        let first : x ≡ used_in (record_slot l i) = cc in
-        let others : records_left s ≡ records_from l (suc i) (records - suc i) = cc in
-        (first, record { count = omega arith; reads = rw add-one others })
-
-    pub all_read : (i ≡ records) ⊎ (records_left r ≡ []) → i ≡ records
-    all_read = ⊎_elim (λ end. end) (λ none. go none (dec_le (suc i) records))
-      where
-        go : records_left r ≡ [] → Dec (suc i ≤ records) → i ≡ records
-        go none (yes less) = let next = sym p.reads ∙ none in let more = one_more i less in absurd (cc)
-        go none (no more) = omega (arith, p.count)

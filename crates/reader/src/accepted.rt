@@ -1,22 +1,28 @@
 // A trace that is accepted, and its records with their numbers.
-ghost use Rattle.std.specs.Prelude.{◌≡◌, IfOk};
+ghost use Rattle.std.specs.Prelude.{◌<◌, ◌≡◌, Ok, Some, IfOk};
 ghost use Rattle.std.specs.Iterator.Adapters.{zip_first, zip_second};
 ghost use Rattle.frame.specs.Refusals.{refusal_in};
+ghost use Rattle.reader.specs.Record.{record_slot, used_in, record_of};
 ghost use Rattle.trace.specs.Trace.{header_of, settings_of, trace_refusal};
 
 use crate::Reader;
+use crate::records::{slot_at, used_in};
 use frame::{Refusal, Settings};
+use heard::Slot;
 use std::iter::Zip;
 use std::ops::Range;
+use trace::RECORD;
 
-// A lent trace that can be read from end to end, and how many records it has. They are counted once: should a C caller's output overlap
-// the trace, no more are read than were counted before anything was written.
+// A lent trace that can be read from end to end, how many records it has, and where the first one begins. They are counted once: should
+// a C caller's output overlap the trace, no more are read than were counted before anything was written, and none elsewhere.
 #[derive(Clone, Copy)]
 pub struct Trace<'a> {
     pub bytes: &'a [u8],
     pub records: u16,
+    pub first: u16,
     pub ghost accepted: { trace_refusal bytes.now ≡ 0 },
     pub ghost counted: { records ≡ (header_of bytes.now).records },
+    pub ghost placed: { first ≡ (header_of bytes.now).first },
 }
 
 impl<'a> Trace<'a> {
@@ -27,9 +33,11 @@ impl<'a> Trace<'a> {
         ensures lent { IfOk result (λ trace. trace.bytes ≡ bytes.entry) }
     {
         trace::check_trace(bytes)?;
+        let header = trace::header_of(bytes);
         Ok(Trace {
             bytes,
-            records: trace::header_of(bytes).records,
+            records: header.records,
+            first: header.first,
         })
     }
 
@@ -37,6 +45,16 @@ impl<'a> Trace<'a> {
         ensures { result ≡ settings_of self.entry.bytes.now }
     {
         trace::settings_of(self.bytes)
+    }
+
+    // What is used of the record of this number, as a reader gives it; the header and the parts, which are accepted, are not tested again.
+    // A number past the records has what stands there, and past the end nothing.
+    #[tactic(auto, using(crate::proofs::Given::record_read_holds), unfolding(crate::specs::Record::record_slot))]
+    pub fn record(self, number: u16) -> Slot
+        ensures value { result ≡ used_in (record_slot self.entry.bytes.now number) }
+        ensures read { number < self.entry.records → record_of self.entry.bytes.now number ≡ Ok (Some result) }
+    {
+        used_in(slot_at(self.bytes, self.first as usize + RECORD * number as usize))
     }
 
     // The records as a reader gives them, each with its number.

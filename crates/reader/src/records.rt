@@ -10,7 +10,7 @@ use heard::{Heard, Slot, SlotKind};
 
 // The four bytes from `at` on.
 #[tactic(auto, unfolding(crate::specs::Record::slot_at))]
-fn slot_at(trace: &[u8], at: usize) -> Slot
+pub(crate) fn slot_at(trace: &[u8], at: usize) -> Slot
     requires { at < 2 ^ 32 }
     ensures { result ≡ slot_at trace.now at }
 {
@@ -34,36 +34,35 @@ fn used_results(results: u8) -> u8
     }
 }
 
-// The kind of a record; 22 for one over 3.
-fn kind_of(t: Slot) -> Result<SlotKind, Refusal>
-    ensures refused { refusal_in result ≡ cond (leb t.kind 3) 0 22 }
-    ensures value { IfOk result (λ kind. kind_number kind ≡ t.kind) }
+// 22 for a kind over 3.
+fn check_kind(t: Slot) -> Result<(), Refusal>
+    ensures { refusal_in result ≡ cond (leb t.kind 3) 0 22 }
 {
-    SlotKind::try_from(t.kind).map_err(|_| Refusal::TraceParts)
+    if SlotKind::try_from(t.kind).is_err() {
+        return Err(Refusal::TraceParts);
+    }
+    Ok(())
 }
 
-// A record of this kind with every field and bit that the kind does not use at 0.
+// A record with every field and bit that its kind does not use at 0; nothing for a kind over 3. The kinds stand here as the numbers that a
+// record has for them, 1 a grant, 2 a scheduled block, 3 a release: by way of a `SlotKind` a replay and the check before a writing take longer, a fifth or so.
 #[tactic(auto, unfolding(crate::specs::Record::used_in))]
-fn used_in(kind: SlotKind, t: Slot) -> Slot
-    requires { kind_number kind ≡ t.kind }
+pub(crate) fn used_in(t: Slot) -> Slot
     ensures { result ≡ used_in t }
 {
-    let results = used_results(t.results);
-    match kind {
-        SlotKind::Nothing => Slot {
-            cce: 0,
-            dai: 0,
-            results: 0,
+    match t.kind {
+        1 => Slot {
+            results: used_results(t.results),
             ..t
         },
-        SlotKind::Grant => Slot { results, ..t },
-        SlotKind::Block => Slot {
+        2 => Slot {
             cce: 0,
             dai: 0,
-            results,
+            results: used_results(t.results),
             ..t
         },
-        SlotKind::Release => Slot { results: 0, ..t },
+        3 => Slot { results: 0, ..t },
+        _ => Slot::default(),
     }
 }
 
@@ -71,8 +70,8 @@ fn used_in(kind: SlotKind, t: Slot) -> Slot
 pub fn used_of(t: Slot) -> Result<Slot, Refusal>
     ensures { numbered result ≡ used_of t }
 {
-    let kind = kind_of(t)?;
-    Ok(used_in(kind, t))
+    check_kind(t)?;
+    Ok(used_in(t))
 }
 
 // The record of number i, for any bytes and any number.

@@ -5,15 +5,11 @@ use mathlib.Core.Path.{◌≡◌, refl, sym, ap, ◌∙◌}
 use native.Mathlib.Nat.{add-zero, add-suc, suc-add, le_of_suc-le-suc, not-suc-le-zero}
 use native.Mathlib.Omega.{arith}
 use lib.ListN.{length, get_or}
-use Rattle.std.specs.declared.ops.Range.{Range}
 use Rattle.heard.specs.declared.Heard.TheVariants.{Nothing}
 use Rattle.heard.specs.declared.Slot.{Slot}
 use Rattle.heard.specs.Memory.{heard_in}
-use Rattle.reader.specs.declared.Reader.{Reader}
-use Rattle.reader.specs.declared.accepted.Trace.{Trace}
 use Rattle.reader.specs.Record.{used_in, brought_by, record_slot, brought_at}
 use Rattle.replaying.specs.Replay.{brought_from}
-use Rattle.replaying.proofs.Turns.{Turn}
 
 -- It has one entry for each record, in their order.
 pub brought_length : (l : List ℕ) (i count : ℕ) → length (brought_from l i count) ≡ count
@@ -33,9 +29,3 @@ unfolding brought_at brought_by
 brought_next l records i inside t read =
     let e : records - i ≡ suc (records - suc i) = omega arith in
     rw (e, read)
-
--- The same at a turn of the loop over the records.
-pub turn_brings : (trace : Trace) (numbers after : Range ℕ) (number : ℕ) (t : Slot) (reader : Reader) → Turn trace numbers after number t reader
-    → brought_from trace.bytes.now numbers.start (trace.records - numbers.start)
-    ≡ heard_in t ∷ brought_from trace.bytes.now (suc numbers.start) (trace.records - suc numbers.start)
-turn_brings trace numbers after number t reader this = brought_next trace.bytes.now trace.records numbers.start this.inside t this.read

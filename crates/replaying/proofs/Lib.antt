@@ -5,4 +5,3 @@ pub mod Feeds
 pub mod Plays
 pub mod Putting
 pub mod Starts
-pub mod Turns

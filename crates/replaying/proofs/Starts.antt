@@ -7,15 +7,13 @@ use native.Mathlib.Omega.{arith}
 use lib.Dec.{ltb}
 use lib.ListN.{length, drop, length-append}
 use borrow.Author.Tests.{ltb-false}
-use Rattle.std.proofs.Common.{Result, Ok, Err}
-use Rattle.std.specs.Result.{IfOk}
+use Rattle.std.proofs.Common.{Err}
 use Rattle.frame.specs.declared.refusal.Refusal.{Refusal}
-use Rattle.frame.specs.Refusals.{number_of, refusal_in}
+use Rattle.frame.specs.Refusals.{number_of}
 use Rattle.frame.specs.Settings.{or_else, settings_refusal}
 use Rattle.frame.proofs.Accepted.{neither, unmet}
 use Rattle.frame.proofs.Refused.{from_one}
-use Rattle.handset.specs.declared.Handset.{Handset}
-use Rattle.handset.specs.Make.{Made, fresh, made_as, make_of}
+use Rattle.handset.specs.Make.{fresh, make_of}
 use Rattle.trace.specs.Trace.{header_of, settings_of, trace_refusal}
 use Rattle.reader.specs.declared.accepted.Trace.{Trace}
 use Rattle.replaying.specs.declared.Outcome.{Outcome}
@@ -24,15 +22,6 @@ use Rattle.replaying.specs.declared.windows.Windows.{Windows}
 use Rattle.replaying.specs.Ended.{replayed_by}
 use Rattle.replaying.specs.Ready.{Ready}
 use Rattle.replaying.specs.Replay.{Replayed, brought_in, played, played_in, output_needed, start_refusal, ended_as, replay_of, written, output_of}
-
--- What was made, and the refusal, from a result of the code.
-pub made_refusal : (r : Result Handset Refusal) (m : Made) → made_as r ≡ m → refusal_in r ≡ m.refusal
-made_refusal (Ok h) m e = cc
-made_refusal (Err k) m e = cc
-
-pub made_handset : (r : Result Handset Refusal) (m : Made) → made_as r ≡ m → IfOk r (λ h. h ≡ m.handset)
-made_handset (Ok h) m e = cc
-made_handset (Err k) m e = tt
 
 -- The trace, then its settings, are two refusals of three.
 first_two : (t m next : ℕ) → or_else t (or_else m next) ≡ or_else (or_else t m) next

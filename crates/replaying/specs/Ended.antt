@@ -55,3 +55,9 @@ abbrev pub FeedsRecord : ℕ → Result Answer Stop → Result Answer ℕ → Ty
 FeedsRecord number (Ok a) x = x ≡ Ok a
 FeedsRecord number (Err (Refused r)) x = ⊥
 FeedsRecord number (Err (AtRecord r i)) x = (x ≡ Err (number_of r)) × (i ≡ number)
+
+-- The same where the answer is not asked for: the refusal alone.
+abbrev pub TakesRecord : ℕ → Result (Unit {0}) Stop → ℕ → Type 0
+TakesRecord number (Ok a) k = k ≡ 0
+TakesRecord number (Err (Refused r)) k = ⊥
+TakesRecord number (Err (AtRecord r i)) k = (k ≡ number_of r) × (i ≡ number)

@@ -1,25 +1,35 @@
 // One record fed to a handset, and what is written of the answer.
 ghost use Rattle.std.specs.Prelude.{◌≡◌};
-ghost use Rattle.frame.specs.Refusals.{numbered};
+ghost use Rattle.frame.specs.Refusals.{number_in, numbered};
 ghost use Rattle.heard.specs.Memory.{heard_in};
 ghost use Rattle.handset.specs.Feed.{feed_of};
-ghost use Rattle.replaying.specs.Ended.{FeedsRecord};
+ghost use Rattle.replaying.specs.Ended.{FeedsRecord, TakesRecord};
 ghost use Rattle.replaying.specs.Written.{window_fed};
 
 use crate::windows::window_bytes;
 use crate::{Stop, WINDOW};
 use frame::Refusal;
-use handset::Handset;
+use handset::{Handset, Running};
 use heard::{Heard, Slot};
 use reply::Answer;
 
 // Feeds record `number`, of which `slot` is what a reader gives; a refusal stops there, and leaves the handset as it was.
-pub fn feed_record(handset: &mut Handset, number: u16, slot: Slot) -> Result<Answer, Stop>
-    ensures answer { FeedsRecord number result (feed_of handset.old (heard_in slot)).answer }
-    ensures after { handset.new ≡ (feed_of handset.old (heard_in slot)).handset }
+pub fn feed_record(running: &mut Running, number: u16, slot: Slot) -> Result<Answer, Stop>
+    ensures answer { FeedsRecord number result (feed_of running.old.handset (heard_in slot)).answer }
+    ensures after { running.new.handset ≡ (feed_of running.old.handset (heard_in slot)).handset }
 {
-    handset
+    running
         .feed(Heard::from(slot))
+        .map_err(|refusal| Stop::AtRecord(refusal, number))
+}
+
+// The same where the answer is not asked for.
+pub fn take_record(running: &mut Running, number: u16, slot: Slot) -> Result<(), Stop>
+    ensures stop { TakesRecord number result (number_in (feed_of running.old.handset (heard_in slot)).answer) }
+    ensures after { running.new.handset ≡ (feed_of running.old.handset (heard_in slot)).handset }
+{
+    running
+        .take(Heard::from(slot))
         .map_err(|refusal| Stop::AtRecord(refusal, number))
 }
 

@@ -15,9 +15,9 @@ ghost use Rattle.replaying.specs.Ended.{replayed_by};
 ghost use Rattle.replaying.specs.Ready.{Ready};
 ghost use Rattle.replaying.specs.Replay.{brought_in, played, start_refusal, ended_as, replay_of, written, output_of};
 
-pub use feeding::{feed_record, feed_window};
+pub use feeding::{feed_record, feed_window, take_record};
 use frame::Refusal;
-use handset::Handset;
+use handset::Running;
 use reader::Trace;
 pub use stop::Stop;
 pub use windows::WINDOW;
@@ -31,42 +31,42 @@ pub struct Outcome {
 }
 
 // A trace that is accepted and the handset that its records are fed to; 21, 22, then the refusals of making one.
-#[tactic(auto, using(frame::proofs::Refused::first_refused, frame::proofs::Refused::first_accepted, crate::proofs::Starts::made_refusal, crate::proofs::Starts::made_handset))]
-pub fn begin(trace: &[u8]) -> Result<(Trace<'_>, Handset), Refusal>
+#[tactic(auto, using(frame::proofs::Refused::first_refused, frame::proofs::Refused::first_accepted))]
+pub fn begin(trace: &[u8]) -> Result<(Trace<'_>, Running), Refusal>
     ensures refusal { refusal_in result ≡ or_else (trace_refusal trace.now) (make_of (settings_of trace.now)).refusal }
-    ensures made { IfOk result (λ begun. (begun.0.bytes ≡ trace.entry) × (begun.1 ≡ (make_of (settings_of trace.now)).handset)) }
+    ensures made { IfOk result (λ begun. (begun.0.bytes ≡ trace.entry) × (begun.1.handset ≡ (make_of (settings_of trace.now)).handset)) }
 {
     let trace = Trace::new(trace)?;
-    let handset = Handset::new(trace.settings())?;
-    Ok((trace, handset))
+    let running = Running::new(trace.settings())?;
+    Ok((trace, running))
 }
 
 // The same before a replay: 23 then for an output of fewer bytes than the windows need that all records complete.
 #[tactic(auto, using(frame::proofs::Refused::first_refused, frame::proofs::Refused::first_accepted, crate::proofs::Starts::start_as), unfolding(crate::specs::Replay::output_needed))]
-fn start(trace: &[u8], room: usize) -> Result<(Trace<'_>, Handset), Refusal>
+fn start(trace: &[u8], room: usize) -> Result<(Trace<'_>, Running), Refusal>
     ensures refusal { refusal_in result ≡ start_refusal trace.now room }
-    ensures made { IfOk result (λ begun. (begun.0.bytes ≡ trace.entry) × (begun.1 ≡ (make_of (settings_of trace.now)).handset)) }
+    ensures made { IfOk result (λ begun. (begun.0.bytes ≡ trace.entry) × (begun.1.handset ≡ (make_of (settings_of trace.now)).handset)) }
 {
-    let (trace, handset) = begin(trace)?;
+    let (trace, running) = begin(trace)?;
     let windows = counting::windows_before(trace.settings().config, trace.records) as usize;
     if room < WINDOW * windows {
         return Err(Refusal::Output);
     }
-    Ok((trace, handset))
+    Ok((trace, running))
 }
 
 // Feeds the records one by one to a fresh handset, up to the first refusal. Whatever a record brings, and whatever the trace has
 // become, a subframe writes eight bytes or none by the handset's settings and number alone, and no more records are fed than were
 // counted, so nothing is written outside.
-fn play(trace: Trace, mut handset: Handset, windows: &mut Windows) -> Result<(), Stop>
-    requires { Ready trace handset windows.old }
+fn play(trace: Trace, mut running: Running, windows: &mut Windows) -> Result<(), Stop>
+    requires { Ready trace running.handset windows.old }
     ensures same_reference { windows.new.out.ghost_name ≡ windows.old.out.ghost_name }
-    ensures value { replayed_by (record { windows = windows.new.written; end = result }) ≡ ended_as (played handset 0 (brought_in trace.entry.bytes.now)) }
-    ensures out_after { windows.new.out.now ≡ written (played handset 0 (brought_in trace.entry.bytes.now)).bytes windows.old.out.now }
+    ensures value { replayed_by (record { windows = windows.new.written; end = result }) ≡ ended_as (played running.handset 0 (brought_in trace.entry.bytes.now)) }
+    ensures out_after { windows.new.out.now ≡ written (played running.handset 0 (brought_in trace.entry.bytes.now)).bytes windows.old.out.now }
 {
-    for (number, record) in trace.numbered() {
-        let n = handset.next;
-        let answer = feed_record(&mut handset, number, record)?;
+    for number in 0..trace.records {
+        let n = running.handset.next;
+        let answer = feed_record(&mut running, number, trace.record(number))?;
         windows.push(n, answer);
     }
     Ok(())
@@ -80,9 +80,9 @@ pub fn replay(trace: &[u8], out: &mut [u8]) -> Outcome
     ensures windows_in_bounds { 8 * result.windows ≤ length out.new }
 {
     match start(trace, out.len()) {
-        Ok((trace, handset)) => {
+        Ok((trace, running)) => {
             let mut windows = Windows::new(out);
-            let end = play(trace, handset, &mut windows);
+            let end = play(trace, running, &mut windows);
             Outcome {
                 windows: windows.written,
                 end,

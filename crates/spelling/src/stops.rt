@@ -3,17 +3,17 @@ ghost use Rattle.std.specs.Prelude.{◌≡◌, IfOk};
 ghost use Rattle.replaying.specs.Replay.{brought_in, played, ended_as};
 ghost use Rattle.spelling.specs.Writing.{stop_in, stop_of, stopped_by};
 
-use handset::Handset;
+use handset::Running;
 use reader::Trace;
 use replaying::Stop;
 
-// The first record that is refused where `handset` is fed all of them in turn. A loop beside `replaying::play`, which writes windows and
+// The first record that is refused where `running` is fed all of them in turn. A loop beside `replaying::play`, which writes windows and
 // so asks for an output with room for them: here is none.
-fn first_refused(trace: Trace, mut handset: Handset) -> Result<(), Stop>
-    ensures { stopped_by result ≡ stop_in (ended_as (played handset 0 (brought_in trace.entry.bytes.now))) }
+fn first_refused(trace: Trace, mut running: Running) -> Result<(), Stop>
+    ensures { stopped_by result ≡ stop_in (ended_as (played running.handset 0 (brought_in trace.entry.bytes.now))) }
 {
-    for (number, record) in trace.numbered() {
-        replaying::feed_record(&mut handset, number, record)?;
+    for number in 0..trace.records {
+        replaying::take_record(&mut running, number, trace.record(number))?;
     }
     Ok(())
 }
@@ -24,8 +24,8 @@ pub(crate) fn accepted(trace: &[u8]) -> Result<Trace<'_>, Stop>
     ensures stop { stopped_by result ≡ stop_of trace.now }
     ensures lent { IfOk result (λ given. given.bytes ≡ trace.entry) }
 {
-    let (trace, handset) = replaying::begin(trace)?;
-    first_refused(trace, handset)?;
+    let (trace, running) = replaying::begin(trace)?;
+    first_refused(trace, running)?;
     Ok(trace)
 }
 

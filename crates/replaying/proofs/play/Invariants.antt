@@ -3,4 +3,4 @@ use Rattle.replaying.proofs.Plays.{Playing}
 use Rattle.replaying.proofs.play.Given as goal
 
 abbrev pub invariant-loop-number : goal.invariant-loop-number
-invariant-loop-number l = Playing l.trace l.initial.handset l.initial.windows l.windows l.handset l.number-iterator.a l.number-iterator.b
+invariant-loop-number l = Playing l.trace l.initial.running.handset l.initial.windows l.windows l.running.handset l.number

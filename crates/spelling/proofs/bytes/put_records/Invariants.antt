@@ -3,4 +3,4 @@ use Rattle.spelling.proofs.Records.{Putting}
 use Rattle.spelling.proofs.bytes.put_records.Given as goal
 
 abbrev pub invariant-loop-number : goal.invariant-loop-number
-invariant-loop-number l = Putting l.trace l.initial.out l.out l.number-iterator.a l.number-iterator.b
+invariant-loop-number l = Putting l.trace l.initial.out l.out l.number

@@ -3,4 +3,4 @@ use Rattle.spelling.proofs.Feeding.{Feeding}
 use Rattle.spelling.proofs.stops.first_refused.Given as goal
 
 abbrev pub invariant-loop-number : goal.invariant-loop-number
-invariant-loop-number l = Feeding l.trace l.initial.handset l.handset l.number-iterator.a l.number-iterator.b
+invariant-loop-number l = Feeding l.trace l.initial.running.handset l.running.handset l.number
