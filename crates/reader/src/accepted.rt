@@ -6,7 +6,7 @@ ghost use Rattle.reader.specs.Record.{record_slot, used_in, record_of};
 ghost use Rattle.trace.specs.Trace.{header_of, settings_of, trace_refusal};
 
 use crate::Reader;
-use crate::records::{slot_at, used_in};
+use crate::records::{masked, slot_at, used_in};
 use frame::{Refusal, Settings};
 use heard::Slot;
 use std::iter::Zip;
@@ -47,14 +47,30 @@ impl<'a> Trace<'a> {
         trace::settings_of(self.bytes)
     }
 
+    // The record of this number as it stands, for any number: past the records what stands there, and past the end zeros.
+    #[tactic(auto, unfolding(crate::specs::Record::record_slot))]
+    fn slot(self, number: u16) -> Slot
+        ensures { result ≡ record_slot self.entry.bytes.now number }
+    {
+        slot_at(self.bytes, self.first as usize + RECORD * number as usize)
+    }
+
     // What is used of the record of this number, as a reader gives it; the header and the parts, which are accepted, are not tested again.
-    // A number past the records has what stands there, and past the end nothing.
-    #[tactic(auto, using(crate::proofs::Given::record_read_holds), unfolding(crate::specs::Record::record_slot))]
+    #[tactic(auto, using(crate::proofs::Given::record_read_holds))]
     pub fn record(self, number: u16) -> Slot
         ensures value { result ≡ used_in (record_slot self.entry.bytes.now number) }
         ensures read { number < self.entry.records → record_of self.entry.bytes.now number ≡ Ok (Some result) }
     {
-        used_in(slot_at(self.bytes, self.first as usize + RECORD * number as usize))
+        used_in(self.slot(number))
+    }
+
+    // The same with no branch on the record's kind: faster where, as in writing, no other branch is taken by it.
+    #[tactic(auto, using(crate::proofs::Given::record_read_holds))]
+    pub fn masked_record(self, number: u16) -> Slot
+        ensures value { result ≡ used_in (record_slot self.entry.bytes.now number) }
+        ensures read { number < self.entry.records → record_of self.entry.bytes.now number ≡ Ok (Some result) }
+    {
+        masked(self.slot(number))
     }
 
     // The records as a reader gives them, each with its number.

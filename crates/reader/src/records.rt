@@ -66,6 +66,25 @@ pub(crate) fn used_in(t: Slot) -> Slot
     }
 }
 
+// The same with no branch on the kind, for a caller that goes on alike whatever the kind is: kinds 1 and 3 keep CCE and DAI, 1 and 2 the
+// results, and none but these four anything.
+#[tactic(auto, using(crate::proofs::Masked::masked))]
+pub(crate) fn masked(t: Slot) -> Slot
+    ensures { result ≡ used_in t }
+{
+    let known = (t.kind < 4) as u8;
+    let odd = t.kind % 2;
+    let pdcch = known * odd;
+    let data = known * ((t.kind / 2 + odd) % 2);
+    let two = t.results / 4 % 2;
+    Slot {
+        kind: known * t.kind,
+        cce: pdcch * t.cce,
+        dai: pdcch * t.dai,
+        results: data * (t.results % 2 + two * (t.results / 2 % 2 * 2 + 4)),
+    }
+}
+
 // What of a record is used, every field and bit that its kind does not use being 0; 22 for a kind over 3.
 pub fn used_of(t: Slot) -> Result<Slot, Refusal>
     ensures { numbered result ≡ used_of t }

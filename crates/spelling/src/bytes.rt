@@ -77,7 +77,7 @@ fn put_records(trace: Trace, out: &mut [u8])
 {
     for number in 0..trace.records {
         let at = RECORDS_AT + RECORD * number as usize;
-        out[at..at + RECORD].copy_from_slice(&slot_bytes(trace.record(number)));
+        out[at..at + RECORD].copy_from_slice(&slot_bytes(trace.masked_record(number)));
     }
 }
 

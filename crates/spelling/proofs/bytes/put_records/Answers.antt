@@ -11,7 +11,7 @@ pub loop-number-preserved : goal.loop-number-preserved
 loop-number-preserved c =
     let written = c.copy_from_slice.ensures.after ∙ c.slot_bytes.ensures in
     let four : 4 ≡ 18 + 4 * c.loop-number.number + 4 - (18 + 4 * c.loop-number.number) = omega arith in
-    goes_on _ _ c.requires _ _ c.loop-number.invariant (omega arith) _ c.record.ensures.value _ (rw written (part_put _ _ _ _ four))
+    goes_on _ _ c.requires _ _ c.loop-number.invariant (omega arith) _ c.masked_record.ensures.value _ (rw written (part_put _ _ _ _ four))
 
 pub returns : goal.returns
 returns c = ends _ _ c.requires _ _ c.loop-number.invariant (omega arith)
