@@ -9,7 +9,8 @@ use lib.Dec.{T, eqb, leb, ltb}
 use lib.Ieee.Bits.{is_true}
 use lib.ListN.{length}
 use borrow.Author.Tests.{eqb-true, eqb-false, ne_eqb, ltb-true, leb-true}
-use Rattle.std.specs.List.{filter, zip}
+use Rattle.std.specs.List.{sum_by, zip}
+use Rattle.std.proofs.lemmas.List.Sums.{sum_by-cons}
 use Rattle.std.proofs.lemmas.Bool.{and_parts, not-true}
 use Rattle.frame.specs.Order.{member, falling, times_of}
 use Rattle.frame.specs.Table.{table, window_of}
@@ -78,26 +79,21 @@ module _ (sent : ℕ → Send) (k : ℕ) where
   unfolding times_of
   times_count c n = falling_count 13 (window_of c n) (is_true _ (window_passes _ apart_tested c n tt))
 
--- A PDCCH of a pair of a k and its record counts.
-abbrev pub counts : ℕ → ℕ × Sent → Bool
-counts k p = leb k p.0 && is_pdcch (send_of p.1)
+-- A PDCCH of a pair of a k and its record, as one of the count.
+abbrev pub counts : ℕ → ℕ × Sent → ℕ
+counts k p = cond (leb k p.0 && is_pdcch (send_of p.1)) 1 0
 
 -- The PDCCHs among the pairs, where the records say what was sent.
 module _ (sent : ℕ → Send) (k : ℕ) where
-  pub pairs_counted : (ks : List ℕ) (xs : List Sent) → map sent ks ≡ map send_of xs → length (filter (counts k) (zip ks xs)) ≡ sent_up_to sent k ks
+  pub pairs_counted : (ks : List ℕ) (xs : List Sent) → map sent ks ≡ map send_of xs → sum_by (counts k) (zip ks xs) ≡ sent_up_to sent k ks
   pairs_counted [] xs e = refl
   pairs_counted (j ∷ ks) [] e = absurd (cc)
   pairs_counted (j ∷ ks) (x ∷ xs) e =
       let here : sent j ≡ send_of x = cc in
       let rest : map sent ks ≡ map send_of xs = cc in
-      rw here (go (counts k (j, x)) (pairs_counted ks xs rest))
-    where
-      go : (b : Bool) → length (filter (counts k) (zip ks xs)) ≡ sent_up_to sent k ks
-          → length (cond b ((j, x) ∷ filter (counts k) (zip ks xs)) (filter (counts k) (zip ks xs))) ≡ cond b 1 0 + sent_up_to sent k ks
-      go true e = omega (arith, e)
-      go false e = omega (arith, e)
+      sum_by-cons (counts k) (j, x) (zip ks xs) ∙ rw (here, pairs_counted ks xs rest) refl
 
 pub up_to_counted : (w : SentIn) (k : ℕ) → length (records_in w) ≡ length (k_in w)
-    → length (filter (counts k) (pairs_in w)) ≡ sent_up_to (send_in w) k (times_of (k_in w))
+    → sum_by (counts k) (pairs_in w) ≡ sent_up_to (send_in w) k (times_of (k_in w))
 up_to_counted w k size =
     pairs_counted (send_in w) k (k_in w) (records_in w) (sent_list w (records_in w) refl size) ∙ sym (times_count (send_in w) k w.settings.config w.n)

@@ -12,4 +12,5 @@ pub mod Ranks
 pub mod Records
 pub mod Second
 pub mod Sets
+pub mod Together
 pub mod Worked

@@ -1,15 +1,15 @@
 -- The records of a window, gone through: the refusal that comes first, the scheduled blocks, and the position of the first of them.
 -- Assumes nothing.
 use Rattle.std.proofs.Common.{Option, Some, None}
-use Prim.Native.Nat.{ℕ, suc, ◌+◌}
-use mathlib.Core.Bool.{Bool, true, false, cond}
+use Prim.Native.Nat.{ℕ, suc}
+use mathlib.Core.Bool.{cond}
 use mathlib.Core.List.{List, [], ◌∷◌, map}
 use mathlib.Core.Path.{◌≡◌, refl, ◌∙◌}
 use native.Mathlib.Numerals.{add-one}
-use native.Mathlib.Omega.{arith}
 use lib.Dec.{ltb}
 use lib.ListN.{length}
-use Rattle.std.specs.List.{filter, zip, position_from, position_or_len}
+use Rattle.std.specs.List.{sum_by, zip, position_from, position_or_len}
+use Rattle.std.proofs.lemmas.List.Sums.{sum_by-cons}
 use Rattle.std.proofs.lemmas.Iterator.Adapters.{position_from-zero}
 use Rattle.frame.specs.declared.Settings.{Settings}
 use Rattle.frame.specs.Distance.{before}
@@ -42,10 +42,13 @@ pub records_refused : (w : SentIn) → length (records_in w) ≡ length (k_in w)
     → map (refusal_of_pair w.settings w.n) (pairs_in w) ≡ map (refusal_ago w.settings w.n (send_in w)) (k_in w)
 records_refused w size = pairs_refused w.settings w.n (send_in w) (k_in w) (records_in w) (sent_list w (records_in w) refl size)
 
+-- A scheduled block as one of their count.
+abbrev pub one_block : Sent → ℕ
+one_block x = cond (is_block (send_of x)) 1 0
+
 -- The scheduled blocks among records that say what was sent in the subframes of a list.
 module _ (sent : ℕ → Send) where
-  pub blocks_counted : (ks : List ℕ) (xs : List Sent) → map sent ks ≡ map send_of xs
-      → length (filter (λ (x : Sent). is_block (send_of x)) xs) ≡ blocks_sent sent ks
+  pub blocks_counted : (ks : List ℕ) (xs : List Sent) → map sent ks ≡ map send_of xs → sum_by one_block xs ≡ blocks_sent sent ks
   unfolding blocks_sent
   blocks_counted [] [] e = refl
   blocks_counted [] (x ∷ xs) e = absurd (cc)
@@ -53,12 +56,7 @@ module _ (sent : ℕ → Send) where
   blocks_counted (k ∷ ks) (x ∷ xs) e =
       let here : sent k ≡ send_of x = cc in
       let rest : map sent ks ≡ map send_of xs = cc in
-      rw here (go (is_block (send_of x)) (blocks_counted ks xs rest))
-    where
-      go : (b : Bool) → length (filter (λ (x : Sent). is_block (send_of x)) xs) ≡ blocks_sent sent ks
-          → length (cond b (x ∷ filter (λ (x : Sent). is_block (send_of x)) xs) (filter (λ (x : Sent). is_block (send_of x)) xs)) ≡ cond b 1 0 + blocks_sent sent ks
-      go true e = omega (arith, e)
-      go false e = omega (arith, e)
+      sum_by-cons one_block x xs ∙ rw (here, blocks_counted ks xs rest) refl
 
   -- The first of them is the position that is told.
   pub told_at : (i : ℕ) (ks : List ℕ) (xs : List Sent) → map sent ks ≡ map send_of xs

@@ -18,7 +18,7 @@ use Rattle.confirming.specs.Coded.{k_in, records_in, send_in}
 use Rattle.confirming.specs.Records.{nothing_sent, send_of}
 
 -- What a record says, by whether it has no PDCCH and no blocks.
-abbrev said : Sent → Bool → Bool → Send
+abbrev pub said : Sent → Bool → Bool → Send
 said x p q =
     cond p (cond q Nothing (Scheduled (record { blocks = x.blocks })))
     (cond q (Released (record { cce = x.cce; dai = x.dai })) (Granted (record { blocks = x.blocks; cce = x.cce; dai = x.dai })))

@@ -1,7 +1,10 @@
 -- The code's way to the definitions: what is kept of a reading, once what it names was found among what was sent.
 -- Assumes nothing.
 use Rattle.std.specs.Prelude.{Option, Some, None, ℕ, ◌/◌, ◌%◌, ◌^◌, Bool, cond, ◌&&◌, ◌||◌, List, eqb, leb, ltb, length, get_or, take}
+use Rattle.std.specs.List.{list_all, zip}
 use Rattle.std.specs.Option.{option_map}
+use Rattle.frame.specs.declared.Settings.{Settings}
+use Rattle.frame.specs.Distance.{before}
 use Rattle.frame.specs.Order.{times_of}
 use Rattle.frame.specs.Table.{window_of}
 use Rattle.symbols.specs.Delivered.{set_of}
@@ -11,14 +14,15 @@ use Rattle.station.specs.declared.Reading.{Reading}
 use Rattle.station.specs.declared.Reading.TheVariants as reading
 use Rattle.confirmation.specs.declared.Send.{Send}
 use Rattle.confirmation.specs.Confirmed.{named_sent, sent_up_to, acknowledged}
-use Rattle.confirmation.specs.Sent.{is_pdcch, blocks_of}
+use Rattle.confirmation.specs.Sent.{is_pdcch, blocks_of, as_heard}
+use Rattle.heard.specs.Heard.{heard_refusal}
 use Rattle.confirming.specs.declared.blocks.Acks.{Acks}
 use Rattle.confirming.specs.declared.blocks.Acks.TheVariants as acks
 use Rattle.confirming.specs.declared.blocks.Named.{Named}
 use Rattle.confirming.specs.declared.blocks.Named.TheVariants as named
 use Rattle.confirming.specs.declared.Sent.{Sent}
 use Rattle.confirming.specs.declared.SentIn.{SentIn}
-use Rattle.confirming.specs.Records.{sent_in}
+use Rattle.confirming.specs.Records.{send_of, sent_in}
 
 -- K of a window.
 abbrev pub k_in : SentIn → List ℕ
@@ -64,3 +68,11 @@ confirms_by (acks.Positions positions) k m x block = ltb block (blocks_of x) && 
 -- The positions whose block is confirmed.
 unfoldable pub confirmed_set : List ℕ → (ℕ → Send) → Acks → ℕ → ℕ
 confirmed_set ks sent acks block = set_of (length ks) (λ (m : ℕ). confirms_by acks (get_or ks m 0) m (sent (get_or ks m 0)) block)
+
+-- What was sent k before subframe n, as its record says it, is valid there by itself; k is 1 to 16, as in each window.
+unfoldable pub valid_ago : Settings → ℕ → ℕ × Sent → Bool
+valid_ago s n p = (ltb 0 p.0 && leb p.0 16) && eqb (heard_refusal s (before n p.0) (as_heard (send_of p.1))) 0
+
+-- So is each record of a window.
+abbrev pub all_valid : SentIn → Bool
+all_valid w = list_all (valid_ago w.settings w.n) (zip (k_in w) (records_in w))

@@ -18,7 +18,7 @@ impl Positions {
     pub fn contains(self, m: usize) -> bool
         ensures { result ≡ in_set self.0 m }
     {
-        m < 16 && (self.0 >> m) % 2 == 1
+        (m < 16) & ((self.0 >> (m % 16)) % 2 == 1)
     }
 }
 
@@ -44,7 +44,7 @@ impl Named {
         ensures { result ≡ holds_by self k (send_of x.now) }
     {
         match self {
-            Named::Pdcch(named, few) => x.is_pdcch() && (k == named || (few && named <= k)),
+            Named::Pdcch(named, few) => x.is_pdcch() & ((k == named) | (few & (named <= k))),
             Named::Block(named) => k == named,
         }
     }
@@ -59,15 +59,16 @@ enum Acks {
 }
 
 impl Acks {
-    // The reading confirms a block of what was sent k before the reply, at position m: it carries the block, which is acknowledged.
+    // The reading confirms a block of what was sent k before the reply, at position m: it carries the block, which is acknowledged. Neither
+    // this nor what it asks has a branch on what was sent, which no processor foresees, for speed.
     #[tactic(auto, using(crate::proofs::Records::blocks_of_holds, frame::proofs::Causes::decided), unfolding(crate::specs::Coded::confirms_by))]
     fn confirms(self, k: u16, m: usize, x: &Sent, block: u16) -> bool
         ensures { result ≡ confirms_by self k m (send_of x.now) block }
     {
-        block < x.blocks
-            && match self {
+        (block < x.blocks)
+            & match self {
                 Acks::Bits(named, b0, b1) => {
-                    named.holds(k, x) && x.is_acknowledged(block, b0, b1)
+                    named.holds(k, x) & x.is_acknowledged(block, b0, b1)
                 }
                 Acks::Positions(positions) => positions.contains(m),
             }
@@ -80,8 +81,8 @@ impl SentIn<'_> {
         ensures { result ≡ sent_up_to (send_in self.entry) k (times_of (k_in self.entry)) }
     {
         self.subframes()
-            .filter(|(at, x)| k <= **at && x.is_pdcch())
-            .count()
+            .map(|(at, x)| usize::from((k <= *at) & x.is_pdcch()))
+            .sum()
     }
 
     // What a reading names, if that was sent.

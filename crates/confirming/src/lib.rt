@@ -62,7 +62,7 @@ impl Sent {
     pub fn is_block(&self) -> bool
         ensures { result ≡ is_block (send_of self.now) }
     {
-        self.signalled == 0 && self.blocks != 0
+        (self.signalled == 0) & (self.blocks != 0)
     }
 
     // The bits acknowledge a block, 0 the first and 1 the second: of two bit 0 the first and bit 1 the second, and either a sole one. A
@@ -71,11 +71,10 @@ impl Sent {
     pub fn is_acknowledged(&self, block: u16, b0: u16, b1: u16) -> bool
         ensures { result ≡ acknowledged (send_of self.now) block b0 b1 }
     {
-        match (self.blocks, block) {
-            (2, 0) => b0 == 1,
-            (2, _) => b1 == 1,
-            _ => b0 == 1 || b1 == 1,
-        }
+        let own = if block == 0 { b0 } else { b1 };
+        let either = (b0 == 1) | (b1 == 1);
+        let two = self.blocks == 2;
+        (two & (own == 1)) | (!two & either)
     }
 }
 
@@ -155,7 +154,10 @@ impl<'a> SentIn<'a> {
     fn scheduled_blocks(self) -> usize
         ensures { result ≡ blocks_sent (send_in self.entry) (k_in self.entry) }
     {
-        self.records().iter().filter(|x| x.is_block()).count()
+        self.records()
+            .iter()
+            .map(|x| usize::from(x.is_block()))
+            .sum()
     }
 
     // The position of the first scheduled block that was sent, if one was.

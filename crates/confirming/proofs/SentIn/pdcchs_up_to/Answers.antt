@@ -2,13 +2,25 @@
 use mathlib.Core.Path.{◌∙◌}
 use borrow.Author.Rules.{rules}
 use borrow.Author.Tests.{tests}
-use Rattle.std.proofs.lemmas.Iterator.Consumers.{YieldsList-at, count_from_yields_List, YieldsList-from_filter}
+use native.Mathlib.Omega.{arith}
+use Rattle.std.proofs.lemmas.Iterator.{YieldsList-from_map}
+use Rattle.std.proofs.lemmas.Iterator.Adapters.{at_most_from_yields_List, fits_from_length}
+use Rattle.std.proofs.lemmas.Iterator.Consumers.{YieldsList-at, sum_by_from_yields_List}
+use Rattle.frame.proofs.Windows.{window_size}
 use Rattle.confirming.proofs.Counting.{counts, up_to_counted}
-use Rattle.confirming.proofs.Pairs.{YieldsPairs}
+use Rattle.confirming.proofs.Pairs.{pairs_in, pairs_length, YieldsPairs}
 use Rattle.confirming.proofs.SentIn.pdcchs_up_to.Goals as goal
+
+pub sum-requires-clause-fits : goal.sum-requires-clause-fits
+sum-requires-clause-fits c =
+    let w = c.args.self in
+    fits_from_length _ _ 9 _
+    (at_most_from_yields_List (YieldsList-at c.map.ensures.source (YieldsPairs w {s = c.subframes.result} c.subframes.ensures.ks c.subframes.ensures.records)) (omega (arith, pairs_length w c.subframes.ensures.size, window_size w.settings.config w.n)))
+    c.map.ensures.closure (omega arith) (λ x r q k. search (rules, tests))
 
 pub returns : goal.returns
 returns c =
-    count_from_yields_List c.filter.result c.count.result c.count.ensures.ran
-    (YieldsList-from_filter _ (counts c.args.k) (YieldsList-at c.filter.ensures.source (YieldsPairs c.args.self c.subframes.ensures.ks c.subframes.ensures.records)) c.filter.ensures.closure (λ x b q k. search (rules, tests)))
-    ∙ up_to_counted c.args.self c.args.k c.subframes.ensures.size
+    let w = c.args.self in
+    sum_by_from_yields_List (counts c.args.k) (pairs_in w) c.map.result c.sum.result c.sum.ensures.ran
+    (YieldsList-from_map _ (counts c.args.k) (YieldsList-at c.map.ensures.source (YieldsPairs w {s = c.subframes.result} c.subframes.ensures.ks c.subframes.ensures.records)) c.map.ensures.closure (λ x r q k. search (rules, tests)))
+    ∙ up_to_counted w c.args.k c.subframes.ensures.size

@@ -1,4 +1,4 @@
--- `confirming::SentIn::check_records` meets its contract: the chain picks the refusal that comes first. Assumes nothing.
+-- `confirming::SentIn::first_refused` meets its contract: the chain picks the refusal that comes first. Assumes nothing.
 use Rattle.std.proofs.Common.{Result, Ok}
 use mathlib.Core.Path.{refl, ap, ◌∙◌}
 use borrow.Author.Rules.{rules}
@@ -11,7 +11,7 @@ use Rattle.confirming.specs.Refusals.{lowest}
 use Rattle.confirming.proofs.Looking.{refusal_of_pair, records_refused}
 use Rattle.confirming.proofs.Pairs.{YieldsPairs}
 use Rattle.confirming.proofs.Picking.{lowest_picked}
-use Rattle.confirming.proofs.SentIn.check_records.Goals as goal
+use Rattle.confirming.proofs.SentIn.first_refused.Goals as goal
 
 pub returns : goal.returns
 returns c =
