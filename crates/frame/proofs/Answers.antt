@@ -1,21 +1,22 @@
 -- The answer for a downlink subframe: its refusal, and that in an accepted cell it is there and is the only one.
 -- Assumes nothing.
-use Prim.Native.Nat.{ℕ, ◌+◌, ◌<◌, ◌≤◌, ◌%◌}
-use mathlib.Core.Bool.{true, false, false≢true}
+use Prim.Native.Nat.{ℕ, ◌+◌, ◌≤◌, ◌%◌}
+use mathlib.Core.Bool.{Bool, true, false, cond, false≢true}
 use mathlib.Core.Path.{◌≡◌, refl, sym, ap, ◌∙◌}
 use native.Mathlib.Decide.{dec_lt}
 use native.Mathlib.Omega.{arith}
 use Rattle.std.proofs.Common.{Result, Ok, Err}
 use Rattle.frame.specs.declared.refusal.Refusal.{Refusal}
+use Rattle.frame.specs.declared.Answered.{Answered}
 use Rattle.frame.specs.declared.Settings.{Settings}
-use Rattle.frame.specs.Coded.{coded_position}
+use Rattle.frame.specs.Coded.{coded_position, coded_answer}
 use Rattle.frame.specs.Distance.{distance_of, uplink_of, answered_position, no_downlink_refusal, answered_refusal, answered_of, Answers, AnswersAlone, EachAnswered}
 use Rattle.frame.specs.Layout.{downlink}
 use Rattle.frame.specs.Once.{InWindow, InExactlyOne}
 use Rattle.frame.specs.Refusals.{number_of, refusal_in}
 use Rattle.frame.specs.Settings.{settings_refusal}
 use Rattle.frame.proofs.Causes.{refused_next}
-use Rattle.frame.proofs.Distances.{distance_most, downlink_distance, uplink_distance}
+use Rattle.frame.proofs.Distances.{uplink_distance}
 use Rattle.frame.proofs.Layouts.{outside_frame}
 use Rattle.frame.proofs.Refused.{chain_refused}
 use Rattle.frame.proofs.Windows.{inside_downlink, distance_inside, position_window, exactly_one_holds}
@@ -35,6 +36,23 @@ pub downlink_frame : (c d : ℕ) → downlink c d ≡ true → d ≤ 9
 downlink_frame c d e =
     elim (dec_lt 9 d) [ yes over ↦ absurd (false≢true (outside_frame c d over ∙ e)) | no within ↦ omega arith ]
 
+-- The table has a k exactly for a downlink subframe.
+no_answer : (c d : ℕ) → (coded_answer c d).k ≡ 0 → downlink c d ≡ false
+unfolding coded_answer
+no_answer c d none = go (downlink c d) refl none
+  where
+    go : (b : Bool) → downlink c d ≡ b → cond b (distance_of c d) 0 ≡ 0 → downlink c d ≡ false
+    go true e none = uplink_distance c d (downlink_frame c d e) none
+    go false e none = e
+
+an_answer : (c d : ℕ) → ((coded_answer c d).k ≡ 0 → ⊥) → downlink c d ≡ true
+unfolding coded_answer
+an_answer c d some = go (downlink c d) refl some
+  where
+    go : (b : Bool) → downlink c d ≡ b → (cond b (distance_of c d) 0 ≡ 0 → ⊥) → downlink c d ≡ true
+    go true e some = e
+    go false e some = absurd (some refl)
+
 -- What the code answers: the settings' refusal, or 7, or for a downlink subframe its answer.
 module _ (s : Settings) (d : ℕ) {T : Type 0} (asked : Result T Refusal) (told : refusal_in asked ≡ settings_refusal s) where
   pub answer_refused : (e : Refusal) → asked ≡ Err e → answered_of s d ≡ Err (number_of e)
@@ -48,22 +66,14 @@ module _ (s : Settings) (d : ℕ) {T : Type 0} (asked : Result T Refusal) (told 
   unfolding answered_of
   refused x ok e = rw (← at_other s d 0 (accepted x ok) refl e)
 
-  pub over_refused : (x : T) → asked ≡ Ok x → 9 < d → answered_of s d ≡ Err 7
-  over_refused x ok over = refused x ok (sym (outside_frame s.config d over))
+  pub none_refused : (x : T) → asked ≡ Ok x → (a : Answered) → a ≡ coded_answer s.config d → a.k ≡ 0 → answered_of s d ≡ Err 7
+  none_refused x ok a e none = refused x ok (no_answer s.config d (sym (ap (λ (a : Answered). a.k) e) ∙ none))
 
-  pub uplink_refused : (x : T) → asked ≡ Ok x → d ≤ 9 → (k : ℕ) → k ≡ distance_of s.config d → k ≡ 0 → answered_of s d ≡ Err 7
-  uplink_refused x ok within k e none = refused x ok (uplink_distance s.config d within (sym e ∙ none))
-
-  pub answer_told : (x : T) → asked ≡ Ok x → d ≤ 9 → (k m : ℕ) → k ≡ distance_of s.config d → (k ≡ 0 → ⊥) → m ≡ coded_position s.config d
-      → Ok (record { n = (d + k) % 10; k = k; position = m }) ≡ answered_of s d
-  unfolding coded_position uplink_of answered_of
-  answer_told x ok within k m ek some em =
-      let down = downlink_distance s.config d within (omega arith) in
-      rw (← at_downlink s d 0 (accepted x ok) refl down, ek, em, down)
-
--- The sum fits.
-pub answer_small : (c d k : ℕ) → d ≤ 9 → k ≡ distance_of c d → d + k < 65536
-answer_small c d k within e = omega (arith, distance_most c d)
+  pub answer_told : (x : T) → asked ≡ Ok x → (a : Answered) → a ≡ coded_answer s.config d → (a.k ≡ 0 → ⊥) → Ok a ≡ answered_of s d
+  unfolding coded_answer coded_position answered_of
+  answer_told x ok a e some =
+      let down = an_answer s.config d (λ none. some (ap (λ (a : Answered). a.k) e ∙ none)) in
+      rw (← at_downlink s d 0 (accepted x ok) refl down, e, down)
 
 -- An answer for d is a position of d in the window of d + k of the run.
 in_run : (c d n k m : ℕ) → Answers c d n k m → InWindow c (d + k) m d

@@ -1,23 +1,20 @@
--- Laws of distances and positions: how large they are, that a distance is the same in every frame of the run, and that there are none
+-- Laws of distances: how large they are, that a distance is the same in every frame of the run, and that there are none
 -- outside configurations 0 to 6.
 -- Assumes nothing.
-use Prim.Native.Nat.{ℕ, zero, suc, ◌+◌, ◌<◌, ◌≤◌, ◌%◌, zero-le, suc-le-suc}
+use Prim.Native.Nat.{ℕ, zero, suc, ◌+◌, ◌<◌, ◌≤◌, ◌%◌, zero-le}
 use mathlib.Core.Bool.{Bool, true, false, cond}
-use mathlib.Core.List.{List, [], ◌∷◌}
 use mathlib.Core.Path.{◌≡◌, refl}
 use native.Mathlib.Nat.{le_refl, le_step}
 use native.Mathlib.Omega.{arith}
 use native.Mathlib.Decide.{dec_lt}
 use lib.Dec.{T, eqb, leb, eqb→eq, leb→le}
-use lib.ListN.{length}
-use Rattle.frame.specs.Coded.{coded_position}
-use Rattle.frame.specs.Distance.{distance_up_to, distance_of, uplink_of, answered_position}
+use Rattle.frame.specs.Distance.{distance_up_to, distance_of}
 use Rattle.frame.specs.Layout.{layouts, letter_of, downlink}
-use Rattle.frame.specs.Order.{member, position_of}
+use Rattle.frame.specs.Order.{member}
 use Rattle.frame.specs.Table.{table, window_of}
 use Rattle.frame.proofs.Below.{below, below_at}
-use Rattle.frame.proofs.Layouts.{no_layout, no_letter, outside_frame}
-use Rattle.frame.proofs.Windows.{window_size, outside_configurations}
+use Rattle.frame.proofs.Layouts.{no_letter}
+use Rattle.frame.proofs.Windows.{outside_configurations}
 
 most_up_to : (k c d : ℕ) → distance_up_to k c d ≤ k
 unfolding distance_up_to
@@ -50,7 +47,7 @@ unfolding distance_up_to
 none_up_to zero c d h = refl
 none_up_to (suc k) c d h = rw (outside_configurations c ((d + suc k) % 10) h, none_up_to k c d h)
 
--- A configuration over 6 has no distances and no positions.
+-- A configuration over 6 has no distances.
 pub no_distance : (c d : ℕ) → 6 < c → distance_of c d ≡ 0
 unfolding distance_of
 no_distance c d h = none_up_to 13 c d h
@@ -84,29 +81,3 @@ uplink_distance c d h none = go (downlink c d) refl (answers_at c d h)
     go : (b : Bool) → downlink c d ≡ b → T (cond b (leb 1 (distance_of c d)) (eqb (distance_of c d) 0)) → b ≡ false
     go true e t = absurd (omega (arith, leb→le 1 (distance_of c d) t))
     go false e t = refl
-
-within_length : (k : ℕ) (ks : List ℕ) → position_of k ks ≤ length ks
-within_length k [] = zero-le
-within_length k (x ∷ xs) = go (eqb x k) (within_length k xs)
-  where
-    go : (b : Bool) → position_of k xs ≤ length xs → cond b zero (suc (position_of k xs)) ≤ suc (length xs)
-    go true h = zero-le
-    go false h = suc-le-suc h
-
--- No position is over 9.
-pub position_most : (c d : ℕ) → coded_position c d ≤ 9
-unfolding coded_position answered_position
-position_most c d = go (downlink c d)
-  where
-    go : (b : Bool) → cond b (position_of (distance_of c d) (window_of c (uplink_of c d))) 0 ≤ 9
-    go true = omega (arith, within_length (distance_of c d) (window_of c (uplink_of c d)), window_size c (uplink_of c d))
-    go false = zero-le
-
--- Outside the frame there is no position.
-pub outside_positions : (c d : ℕ) → 9 < d → 0 ≡ coded_position c d
-unfolding coded_position
-outside_positions c d h = rw (← outside_frame c d h)
-
-pub no_position : (c d : ℕ) → 6 < c → coded_position c d ≡ 0
-unfolding coded_position downlink letter_of
-no_position c d h = rw (no_layout c h)

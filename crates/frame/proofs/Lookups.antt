@@ -1,18 +1,22 @@
 -- A digit that is looked up is what the rows say, in a frame and outside it: a number of ten digits has 0 after them.
 -- Assumes nothing.
-use Prim.Native.Nat.{ℕ, ◌%◌, ◌<◌}
-use mathlib.Core.Path.{◌≡◌, ◌∙◌}
+use Prim.Native.Nat.{ℕ, suc, ◌+◌, ◌%◌, ◌<◌, ◌≤◌, zero-le}
+use mathlib.Core.Bool.{Bool, true, false, cond, not}
+use mathlib.Core.List.{List, [], ◌∷◌}
+use mathlib.Core.Path.{◌≡◌, refl, ap, ◌∙◌}
 use native.Mathlib.Decide.{dec_lt}
 use native.Mathlib.Omega.{arith}
-use lib.ListN.{length}
-use Rattle.frame.specs.Coded.{digits, digit_at, size_digits, earliest_digits, distance_digits, coded_position, position_digits}
-use Rattle.frame.specs.Distance.{distance_of}
+use lib.Dec.{T, eqb}
+use lib.ListN.{length, get_or, get_or-eq_default}
+use Rattle.frame.specs.Coded.{digits, digit_at, size_digits, earliest_digits, distance_digits, special_from, special_place, special_digits}
+use Rattle.frame.specs.Distance.{before, distance_of, subframe_of}
 use Rattle.frame.specs.Earliest.{earliest_k}
-use Rattle.frame.specs.Table.{window_of}
-use Rattle.frame.proofs.Distances.{distance_frame, distance_most, position_most, outside_positions}
+use Rattle.frame.specs.Layout.{layouts, letter_of, is_special}
+use Rattle.frame.specs.Table.{table, window_of}
+use Rattle.frame.proofs.Distances.{distance_frame, distance_most}
 use Rattle.frame.proofs.Earliest.{earliest_most, none_outside}
 use Rattle.frame.proofs.Hex.{digit_at_holds, no_digit}
-use Rattle.frame.proofs.Windows.{window_size, outside_subframes}
+use Rattle.frame.proofs.Windows.{every_position, position_passes, window_size, outside_configurations, outside_subframes}
 
 looked_up : (f : ℕ → ℕ) → ((n : ℕ) → f n < 16) → ((n : ℕ) → 9 < n → 0 ≡ f n) → (n : ℕ) → digit_at (digits 10 f) n ≡ f n
 looked_up f small outside n =
@@ -28,9 +32,49 @@ pub earliest_at : (c n w : ℕ) → w ≡ earliest_digits c → digit_at w n ≡
 unfolding earliest_digits
 earliest_at c n w row = rw row (looked_up (earliest_k c) (λ n. omega (arith, earliest_most c n)) (none_outside c) n)
 
-pub position_at : (c d w : ℕ) → w ≡ position_digits c → digit_at w d ≡ coded_position c d
-unfolding position_digits
-position_at c d w row = rw row (looked_up (coded_position c) (λ d. omega (arith, position_most c d)) (outside_positions c) d)
+special_from_most : (c n i : ℕ) (ks : List ℕ) → special_from c n i ks ≤ i + length ks
+special_from_most c n i [] = zero-le
+special_from_most c n i (k ∷ ks) = go (is_special c (before n k)) (special_from_most c n (suc i) ks)
+  where
+    go : (b : Bool) → special_from c n (suc i) ks ≤ suc i + length ks → cond b i (special_from c n (suc i) ks) ≤ i + suc (length ks)
+    go true h = omega arith
+    go false h = omega (arith, h)
+
+special_most : (c n : ℕ) → special_place c n ≤ 10
+unfolding special_place
+special_most c n = omega (arith, special_from_most c n 1 (window_of c n), window_size c n)
+
+none_beyond : (c n : ℕ) → 9 < n → 0 ≡ special_place c n
+unfolding special_place
+none_beyond c n h = rw (outside_subframes c n h)
+
+-- Windows outside configurations 0 to 6 have no special subframe.
+pub no_special : (c n : ℕ) → 6 < c → special_place c n ≡ 0
+unfolding special_place
+no_special c n h = rw (outside_configurations c n h)
+
+pub special_at : (c n w : ℕ) → w ≡ special_digits c → digit_at w n ≡ special_place c n
+unfolding special_digits
+special_at c n w row = rw row (looked_up (special_place c) (λ n. omega (arith, special_most c n)) (none_beyond c) n)
+
+special_tested : T (every_position (λ c n ks m. cond (is_special c (before n (get_or ks m 0))) (eqb (special_from c n 1 ks) (m + 1)) (not (eqb (special_from c n 1 ks) (m + 1)))) table)
+unfolding table layouts letter_of is_special
+special_tested = tt
+
+same_test : (a b : Bool) → T (cond b a (not a)) → a ≡ b
+same_test true true t = refl
+same_test false false t = refl
+same_test true false t = absurd t
+same_test false true t = absurd t
+
+-- A position of the window is special exactly where the lookup says so; any other reads as n itself.
+pub special_inside : (c n m w : ℕ) → w ≡ special_place c n → m < length (window_of c n) → eqb w (m + 1) ≡ is_special c (subframe_of c n m)
+unfolding special_place subframe_of
+special_inside c n m w read h = rw read (same_test _ _ (position_passes _ special_tested c n m h))
+
+pub special_beyond : (c n m : ℕ) → length (window_of c n) ≤ m → is_special c (n % 10) ≡ is_special c (subframe_of c n m)
+unfolding subframe_of
+special_beyond c n m h = ap (is_special c) (rw (get_or-eq_default (window_of c n) 0 {n = m} h) (omega arith))
 
 pub distance_at : (c d w : ℕ) → w ≡ distance_digits c → digit_at w (d % 10) ≡ distance_of c d
 unfolding distance_digits

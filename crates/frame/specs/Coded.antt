@@ -2,9 +2,10 @@
 -- subframe, one number a configuration, which has them as its hexadecimal digits.
 -- Assumes nothing.
 use Rattle.std.specs.Prelude.{ℕ, zero, suc, ◌+◌, ◌*◌, ◌/◌, ◌%◌, ◌^◌, cond, List, [], ◌∷◌, length, get_or}
-use Rattle.frame.specs.Distance.{distance_of, answered_position}
+use Rattle.frame.specs.declared.Answered.{Answered}
+use Rattle.frame.specs.Distance.{before, distance_of, uplink_of, answered_position}
 use Rattle.frame.specs.Earliest.{earliest_k}
-use Rattle.frame.specs.Layout.{Letter, D, S, U, downlink}
+use Rattle.frame.specs.Layout.{Letter, D, S, U, downlink, is_special}
 use Rattle.frame.specs.Table.{window_of}
 
 -- the number with the n digits f 0, f 1, .., f (n - 1), the first one lowest
@@ -59,6 +60,23 @@ distance_digits c = digits 10 (distance_of c)
 unfoldable pub coded_position : ℕ → ℕ → ℕ
 coded_position c d = cond (downlink c d) (answered_position c d) 0
 
--- the position of each of a configuration's ten subframes
-unfoldable pub position_digits : ℕ → ℕ
-position_digits c = digits 10 (coded_position c)
+-- the answer for a downlink subframe; n, k and position 0 for any other
+unfoldable pub coded_answer : ℕ → ℕ → Answered
+coded_answer c d = record { n = cond (downlink c d) (uplink_of c d) 0; k = cond (downlink c d) (distance_of c d) 0; position = coded_position c d }
+
+-- the answer of a subframe; zeros where the rows have none
+unfoldable pub answer_in : List (List Answered) → ℕ → ℕ → Answered
+answer_in rows c d = get_or (get_or rows c []) d (record { n = 0; k = 0; position = 0 })
+
+-- where the special subframe stands among k's of n's window, the first of which counts as i; 0 where none is special
+abbrev pub special_from : ℕ → ℕ → ℕ → List ℕ → ℕ
+special_from c n i [] = 0
+special_from c n i (k ∷ ks) = cond (is_special c (before n k)) i (special_from c n (suc i) ks)
+
+-- where it stands in the window, position 0 counted as 1
+unfoldable pub special_place : ℕ → ℕ → ℕ
+special_place c n = special_from c n 1 (window_of c n)
+
+-- where it stands in the windows of each of a configuration's ten subframes
+unfoldable pub special_digits : ℕ → ℕ
+special_digits c = digits 10 (special_place c)

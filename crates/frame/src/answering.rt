@@ -3,7 +3,7 @@ ghost use Rattle.std.specs.Prelude.{◌≡◌};
 ghost use Rattle.frame.specs.Distance.{answered_of, before, shares};
 ghost use Rattle.frame.specs.Refusals.{numbered};
 
-use crate::table::{distance_of, position_of};
+use crate::table::{answer_of, distance_of};
 use crate::{Answered, Refusal, Settings};
 
 // The subframe k before n, by its number in the frame.
@@ -15,24 +15,17 @@ pub fn before(n: u16, k: u16) -> u16
 
 impl Settings {
     // The uplink subframe that answers for subframe d, how far it is from d, and d's position in its window: or the first of refusals 1 to 6,
-    // 17, 19 and 24 that the settings meet, then 7 for a subframe d that is not downlink. Such a subframe is over 9, or its distance is 0.
-    #[tactic(auto, using(crate::proofs::Answers::answer_refused, crate::proofs::Answers::over_refused, crate::proofs::Answers::uplink_refused, crate::proofs::Answers::answer_told, crate::proofs::Answers::answer_small))]
+    // 17, 19 and 24 that the settings meet, then 7 for a subframe d that is not downlink, which has no k.
+    #[tactic(auto, using(crate::proofs::Answers::answer_refused, crate::proofs::Answers::none_refused, crate::proofs::Answers::answer_told))]
     pub fn answered(self, d: u16) -> Result<Answered, Refusal>
         ensures { numbered result ≡ answered_of self d }
     {
         self.check()?;
-        if 9 < d {
+        let answer = answer_of(self.config, d);
+        if answer.k == 0 {
             return Err(Refusal::Subframe);
         }
-        let k = distance_of(self.config, d);
-        if k == 0 {
-            return Err(Refusal::Subframe);
-        }
-        Ok(Answered {
-            n: (d + k) % 10,
-            k,
-            position: position_of(self.config, d),
-        })
+        Ok(answer)
     }
 }
 

@@ -87,15 +87,16 @@ impl Settings {
         Ok(())
     }
 
-    // The ports: 24, also where there are two of them with mode 1 or with a scheduled resource.
-    #[tactic(auto, unfolding(crate::specs::Settings::ports_refusal))]
+    // The ports: 24, also where there are two of them with mode 1 or with a scheduled resource. One port is refused by nothing and tested
+    // first, since most cells have one.
+    #[tactic(auto, unfolding(crate::specs::Settings::ports_refusal, crate::specs::Settings::ports_mode_refusal, crate::specs::Settings::has_second_port))]
     fn check_ports(self) -> Result<(), Refusal>
         ensures { refusal_in result ≡ ports_refusal self }
     {
-        if !(1..=2).contains(&self.ports) {
-            return Err(Refusal::Ports);
+        if self.ports == 1 {
+            return Ok(());
         }
-        if self.has_second_port() && self.has_scheduled() {
+        if !self.has_second_port() || self.has_scheduled() {
             return Err(Refusal::Ports);
         }
         self.check_ports_mode()

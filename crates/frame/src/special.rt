@@ -1,11 +1,11 @@
 // Special subframes too short for data (document 02, U2; TS 36.213, section 7.1.7).
 ghost use Rattle.std.specs.Prelude.{◌≡◌};
 ghost use Rattle.frame.specs.Distance.{subframe_of};
+ghost use Rattle.frame.specs.Layout.{is_special};
 ghost use Rattle.frame.specs.Refusals.{refusal_in};
 ghost use Rattle.frame.specs.Special.{special_refusal, no_pdsch, too_short};
 
-use crate::answering::before;
-use crate::table::{is_special, window_of};
+use crate::table::{is_special, size_of, special_of};
 use crate::{Refusal, Settings};
 
 // The special configuration allows no PDSCH: 0 and 5 with the normal prefix, 0 and 4 with the extended one.
@@ -18,14 +18,16 @@ pub fn no_pdsch(prefix: u16, special: u16) -> bool
     ((prefix == 0) & normal) | ((prefix == 1) & extended)
 }
 
-// The subframe at position m of the window of n; n itself, by its number in the frame, where the window has no such position.
-fn subframe_of(config: u16, n: u16, m: u16) -> u16
-    ensures { result ≡ subframe_of config n m }
+// The subframe at position m of the window of n is special: a lookup, where the subframe itself would be found by its k and a division. A
+// position that the window does not have reads as n itself.
+#[tactic(auto, using(crate::proofs::Lookups::special_inside, crate::proofs::Lookups::special_beyond))]
+fn is_special_at(config: u16, n: u16, m: u16) -> bool
+    ensures { result ≡ is_special config (subframe_of config n m) }
 {
-    match window_of(config, n).get(m as usize) {
-        Some(&k) => before(n, k),
-        None => n % 10,
+    if size_of(config, n) <= m {
+        return is_special(config, n % 10);
     }
+    special_of(config, n) == m + 1
 }
 
 impl Settings {
@@ -51,12 +53,11 @@ impl Settings {
         no_pdsch(self.prefix, self.special) & is_special(self.config, n)
     }
 
-    // The subframe at position m of the window of n is too short for data. The window is looked up only where some subframe is.
+    // The subframe at position m of the window of n is too short for data. Which is special is looked up only where some subframe is.
     #[tactic(auto, unfolding(crate::specs::Special::too_short))]
     pub fn position_too_short(self, n: u16, m: u16) -> bool
         ensures { result ≡ too_short self (subframe_of self.config n m) }
     {
-        no_pdsch(self.prefix, self.special)
-            && is_special(self.config, subframe_of(self.config, n, m))
+        no_pdsch(self.prefix, self.special) && is_special_at(self.config, n, m)
     }
 }

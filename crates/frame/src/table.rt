@@ -1,13 +1,14 @@
 // The frame layouts and Table 10.1-1 (document 01, "Frame and windows"), one row of source for each configuration. A table is lent and looked
 // up, not matched on: so it is read in its place, by one load, and the tables that a call reads don't become jumps by configuration.
 ghost use Rattle.std.specs.Prelude.{◌≡◌, length, map};
-ghost use Rattle.frame.specs.Coded.{letter_byte, letter_in, row_in, grid, list_in, size_digits, earliest_digits, distance_digits, position_digits, coded_position};
+ghost use Rattle.frame.specs.Coded.{letter_byte, letter_in, row_in, grid, list_in, size_digits, earliest_digits, distance_digits, special_place, special_digits, answer_in, coded_answer};
 ghost use Rattle.frame.specs.Distance.{distance_of};
 ghost use Rattle.frame.specs.Earliest.{earliest_k};
 ghost use Rattle.frame.specs.Layout.{letter_of, downlink, is_special};
 ghost use Rattle.frame.specs.Order.{order_of};
 ghost use Rattle.frame.specs.Table.{window_of};
 
+use crate::Answered;
 use crate::digits::digit_at;
 
 // Configurations 0 to 6, subframes 0 to 9: D downlink, S special, U uplink.
@@ -89,7 +90,7 @@ fn digits_in(rows: &'static [u64], config: u16) -> u64
 }
 
 // Derived from the rows: M of subframes 9 to 0 of a configuration, a digit each; 0 where there is no window. The four tables of digits
-// stand beside the rows for speed, since the largest k, a distance and a position would be searches of the rows. They are proved equal to
+// stand beside the rows for speed, since the largest k, a distance and a special subframe would be searches of the rows. They are proved equal to
 // what the rows say.
 fn sizes_of(config: u16) -> u64
     ensures { result ≡ size_digits config }
@@ -145,22 +146,63 @@ fn distances_of(config: u16) -> u64
     )
 }
 
-// Derived from the rows: the positions of subframes 9 to 0 of a configuration in their windows, a digit each; 0 for an uplink subframe.
-fn positions_of(config: u16) -> u64
-    ensures { result ≡ position_digits config }
+// Derived from the rows: where the special subframe of a configuration's windows stands in each, of subframes 9 to 0, a digit each: 1 for
+// position 0, and so on; 0 for a window without one. No window has two.
+fn specials_of(config: u16) -> u64
+    ensures { result ≡ special_digits config }
 {
     digits_in(
         &[
-            0x0000000000,
-            0x0001000010,
-            0x0203102031,
-            0x0101000021,
-            0x2103210030,
-            0x0658432071,
-            0x0000000000,
+            0x0010000100,
+            0x0020000200,
+            0x0040000400,
+            0x0000000300,
+            0x0000000400,
+            0x0000000800,
+            0x0100001000,
         ],
         config,
     )
+}
+
+// The answer for a downlink subframe, by n, k and its position; and a subframe without one. A macro, since a constant calls no function.
+macro_rules! at {
+    ($n:expr, $k:expr, $position:expr) => {
+        Answered {
+            n: $n,
+            k: $k,
+            position: $position,
+        }
+    };
+}
+
+const NO: Answered = at!(0, 0, 0);
+
+// Derived from the rows: the answer for each subframe of a configuration, none for an uplink one. It is one lookup, where two numbers of
+// digits and a sum would be three steps.
+#[rattlefmt::skip]
+const ANSWERED: [[Answered; 10]; 7] = [
+    [at!(4, 4, 0), at!(7, 6, 0), NO, NO, NO, at!(9, 4, 0), at!(2, 6, 0), NO, NO, NO],
+    [at!(7, 7, 0), at!(7, 6, 1), NO, NO, at!(8, 4, 0), at!(2, 7, 0), at!(2, 6, 1), NO, NO, at!(3, 4, 0)],
+    [at!(7, 7, 1), at!(7, 6, 3), NO, at!(7, 4, 2), at!(2, 8, 0), at!(2, 7, 1), at!(2, 6, 3), NO, at!(2, 4, 2), at!(7, 8, 0)],
+    [at!(4, 4, 1), at!(2, 11, 2), NO, NO, NO, at!(2, 7, 0), at!(2, 6, 1), at!(3, 6, 0), at!(3, 5, 1), at!(4, 5, 0)],
+    [at!(2, 12, 0), at!(2, 11, 3), NO, NO, at!(2, 8, 1), at!(2, 7, 2), at!(3, 7, 3), at!(3, 6, 0), at!(3, 5, 1), at!(3, 4, 2)],
+    [at!(2, 12, 1), at!(2, 11, 7), NO, at!(2, 9, 2), at!(2, 8, 3), at!(2, 7, 4), at!(2, 6, 8), at!(2, 5, 5), at!(2, 4, 6), at!(2, 13, 0)],
+    [at!(7, 7, 0), at!(8, 7, 0), NO, NO, NO, at!(2, 7, 0), at!(3, 7, 0), NO, NO, at!(4, 5, 0)],
+];
+
+// The answer in a table of answers; none where there is none.
+#[tactic(auto, unfolding(crate::specs::Coded::answer_in))]
+fn answer_in(rows: &'static [[Answered; 10]], config: u16, d: u16) -> Answered
+    ensures { result ≡ answer_in rows.now config d }
+{
+    match rows.get(config as usize) {
+        Some(row) => match row.get(d as usize) {
+            Some(&answer) => answer,
+            None => NO,
+        },
+        None => NO,
+    }
 }
 
 // Derived from the rows: the positions of the windows with k falling, that is in time order; a table, since a sort would need room for its
@@ -224,10 +266,17 @@ pub fn distance_of(config: u16, d: u16) -> u16
     digit_at(distances_of(config), d % 10)
 }
 
-// The position of downlink subframe d in its window; 0 for any other.
-#[tactic(auto, using(crate::proofs::Lookups::position_at))]
-pub fn position_of(config: u16, d: u16) -> u16
-    ensures { result ≡ coded_position config d }
+// The answer for downlink subframe d of a frame; n, k and position 0 for any other.
+pub fn answer_of(config: u16, d: u16) -> Answered
+    ensures { result ≡ coded_answer config d }
 {
-    digit_at(positions_of(config), d)
+    answer_in(&ANSWERED, config, d)
+}
+
+// Where the special subframe stands in the window of subframe n: 1 for position 0, and so on; 0 where the window has none.
+#[tactic(auto, using(crate::proofs::Lookups::special_at))]
+pub fn special_of(config: u16, n: u16) -> u16
+    ensures { result ≡ special_place config n }
+{
+    digit_at(specials_of(config), n)
 }
