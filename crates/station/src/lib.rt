@@ -96,7 +96,9 @@ fn dynamic_place(window: Window, r: Resource) -> Result<Place, Refusal>
     Ok(Place::Pdcch(m, c))
 }
 
-// The place of a reply: where a position is told, the scheduled resource is the block there, and any other is dynamic.
+// The place of a reply: where a position is told, the scheduled resource is the block there, and any other is dynamic. It is part of
+// `read`, since a window that is lent to a call is written to memory and read back in other pieces.
+#[inline(always)]
 #[tactic(auto, using(frame::proofs::Refused::result_refused, frame::proofs::Refused::result_accepted, crate::proofs::Placed::place_tested), unfolding(crate::specs::Readings::told_refusal))]
 fn place_of(window: Window, told: Option<u16>, r: Resource) -> Result<Place, Refusal>
     ensures { numbered result ≡ place_of window.settings window.n told r.0 }
@@ -114,6 +116,8 @@ fn place_of(window: Window, told: Option<u16>, r: Resource) -> Result<Place, Ref
 // The reply that came on resource r in uplink subframe n with the bits b0 and b1, the second 0 in a one-bit reply. `told` is the
 // position of the scheduled block that was sent in the window, if one was. Resource and bits are three numbers here, in `confirm`
 // and in `credit`, as the C interface and the definitions have them: a struct of them would be built by each call and taken apart here.
+// It is part of each caller: so the settings are read where they lie, and the answer is not put together here and taken apart there.
+#[inline(always)]
 #[tactic(auto, using(crate::proofs::Placed::window_refused, crate::proofs::Placed::place_refused, crate::proofs::Placed::place_read))]
 pub fn read(
     s: Settings,
