@@ -24,16 +24,16 @@ use station::Reading;
 fn is_bad_size(itbs: u16, nprb: u16) -> bool
     ensures { result ≡ bad_size itbs nprb }
 {
-    26 < itbs || !(1..=110).contains(&nprb)
+    (26 < itbs) | !(1..=110).contains(&nprb)
 }
 
-// So is that of one of the blocks that a record carries.
+// So is that of one of the blocks that a record carries. No branch on how many, for speed.
 #[tactic(auto, using(frame::proofs::Causes::decided), unfolding(crate::specs::Credit::bad_record))]
 fn has_bad_size(x: &Sent) -> bool
     ensures { result ≡ bad_record x.now }
 {
-    (0 < x.blocks && is_bad_size(x.itbs0, x.nprb0))
-        || (1 < x.blocks && is_bad_size(x.itbs1, x.nprb1))
+    ((0 < x.blocks) & is_bad_size(x.itbs0, x.nprb0))
+        | ((1 < x.blocks) & is_bad_size(x.itbs1, x.nprb1))
 }
 
 // So is that of one of the window's records.
