@@ -217,9 +217,7 @@ const ORDERS: [[&[u16]; 10]; 7] = [
     [N, N, &[0], &[0], &[0], N, N, &[0], &[0], N],
 ];
 
-// The positions of the window of subframe n in time order. Empty where there is no window. It is no part of a caller: with it
-// `feedback_window` would take more stack than the header states.
-#[inline(never)]
+// The positions of the window of subframe n in time order. Empty where there is no window.
 pub fn order_of(config: u16, n: u16) -> &'static [u16]
     ensures { result.now ≡ order_of (window_of config n) }
 {

@@ -1,8 +1,9 @@
 // Windows, and the answer for a downlink subframe.
-ghost use Rattle.std.specs.Prelude.{◌≡◌, ◌≤◌, length};
+ghost use Rattle.std.specs.Prelude.{◌≡◌};
 ghost use Rattle.frame.specs.Refusals.{numbered};
-ghost use Rattle.numbers.specs.Answers.{padded, answered_answer};
-ghost use Rattle.numbers.specs.Windows.{tested_answer};
+ghost use Rattle.frame.specs.Table.{window_of};
+ghost use Rattle.numbers.specs.Answers.{window_as, answered_answer};
+ghost use Rattle.numbers.specs.Windows.{answer_in, tested_answer};
 
 use frame::{Answered, Refusal, Window};
 
@@ -17,28 +18,86 @@ pub struct WindowAnswer {
     pub order: [u16; 9],
 }
 
-// The numbers of a list, and zeros behind them.
-fn padded(list: &[u16]) -> [u16; 9]
-    requires { length list.now ≤ 9 }
-    ensures { result ≡ padded 9 list.now }
+// A list of one to four numbers or of nine, and zeros behind it. Macros, since a constant calls no function.
+macro_rules! nine {
+    ($a:expr) => {
+        [$a, 0, 0, 0, 0, 0, 0, 0, 0]
+    };
+    ($a:expr, $b:expr) => {
+        [$a, $b, 0, 0, 0, 0, 0, 0, 0]
+    };
+    ($a:expr, $b:expr, $c:expr) => {
+        [$a, $b, $c, 0, 0, 0, 0, 0, 0]
+    };
+    ($a:expr, $b:expr, $c:expr, $d:expr) => {
+        [$a, $b, $c, $d, 0, 0, 0, 0, 0]
+    };
+    ($($number:expr),+) => {
+        [$($number),+]
+    };
+}
+
+// The answer of a window, by M, K in the print's order and its positions in time order.
+macro_rules! window {
+    ($size:expr, [$($k:expr),+], [$($position:expr),+]) => {
+        WindowAnswer {
+            refusal: 0,
+            size: $size,
+            k: nine!($($k),+),
+            order: nine!($($position),+),
+        }
+    };
+}
+
+// A subframe without a window.
+const N: WindowAnswer = WindowAnswer {
+    refusal: 0,
+    size: 0,
+    k: [0; 9],
+    order: [0; 9],
+};
+
+// Derived from the frame's tables: the answer for each subframe of a configuration, whole, since a list would be copied by its length, in a
+// call. It is proved equal to what the frame's rows say.
+#[rattlefmt::skip]
+const WINDOWS: [[WindowAnswer; 10]; 7] = [
+    [N, N, window!(1, [6], [0]), N, window!(1, [4], [0]), N, N, window!(1, [6], [0]), N, window!(1, [4], [0])],
+    [N, N, window!(2, [7, 6], [0, 1]), window!(1, [4], [0]), N, N, N, window!(2, [7, 6], [0, 1]), window!(1, [4], [0]), N],
+    [N, N, window!(4, [8, 7, 4, 6], [0, 1, 3, 2]), N, N, N, N, window!(4, [8, 7, 4, 6], [0, 1, 3, 2]), N, N],
+    [N, N, window!(3, [7, 6, 11], [2, 0, 1]), window!(2, [6, 5], [0, 1]), window!(2, [5, 4], [0, 1]), N, N, N, N, N],
+    [N, N, window!(4, [12, 8, 7, 11], [0, 3, 1, 2]), window!(4, [6, 5, 4, 7], [3, 0, 1, 2]), N, N, N, N, N, N],
+    [N, N, window!(9, [13, 12, 9, 8, 7, 5, 4, 11, 6], [0, 1, 7, 2, 3, 4, 8, 5, 6]), N, N, N, N, N, N, N],
+    [N, N, window!(1, [7], [0]), window!(1, [7], [0]), window!(1, [5], [0]), N, N, window!(1, [7], [0]), window!(1, [7], [0]), N],
+];
+
+// The answer in a table of answers; zeros where there is none.
+#[tactic(auto, unfolding(crate::specs::Windows::answer_in))]
+fn answer_in(rows: &'static [[WindowAnswer; 10]], config: u16, n: u16) -> WindowAnswer
+    ensures { result ≡ answer_in rows.now config n }
 {
-    let mut entries = [0; 9];
-    entries[..list.len()].copy_from_slice(list);
-    entries
+    match rows.get(config as usize) {
+        Some(row) => match row.get(n as usize) {
+            Some(&answer) => answer,
+            None => N,
+        },
+        None => N,
+    }
+}
+
+// The answer of the window of subframe n; zeros where there is none.
+fn answer_of(config: u16, n: u16) -> WindowAnswer
+    ensures { result ≡ window_as 0 (window_of config n) }
+{
+    answer_in(&WINDOWS, config, n)
 }
 
 impl From<Result<Window, Refusal>> for WindowAnswer {
     ghost from_gives = { λ x a. a ≡ tested_answer x };
 
-    #[tactic(auto, using(frame::proofs::Windows::window_size, frame::proofs::Times::order_size, frame::proofs::Refused::from_one))]
+    #[tactic(auto, using(frame::proofs::Refused::from_one))]
     fn from(x: Result<Window, Refusal>) -> WindowAnswer {
         match x {
-            Ok(window) => WindowAnswer {
-                refusal: 0,
-                size: window.size,
-                k: padded(window.ks()),
-                order: padded(window.order()),
-            },
+            Ok(window) => answer_of(window.settings.config, window.n),
             Err(refusal) => WindowAnswer {
                 refusal: refusal.into(),
                 ..WindowAnswer::default()
