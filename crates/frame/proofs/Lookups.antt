@@ -1,17 +1,20 @@
 -- A digit that is looked up is what the rows say, in a frame and outside it: a number of ten digits has 0 after them.
 -- Assumes nothing.
-use Prim.Native.Nat.{ℕ, suc, ◌+◌, ◌%◌, ◌<◌, ◌≤◌, zero-le}
-use mathlib.Core.Bool.{Bool, true, false, cond, not}
+use Prim.Native.Nat.{ℕ, zero, suc, ◌*◌, ◌^◌, ◌+◌, ◌%◌, ◌<◌, ◌≤◌, zero-le}
+use mathlib.Core.Bool.{Bool, true, false, cond, not, ◌&&◌, ◌||◌}
 use mathlib.Core.List.{List, [], ◌∷◌}
 use mathlib.Core.Path.{◌≡◌, refl, ap, ◌∙◌}
 use native.Mathlib.Decide.{dec_lt}
+use native.Mathlib.Nat.{zero-div, zero-mod}
 use native.Mathlib.Omega.{arith}
 use lib.Dec.{T, eqb}
 use lib.ListN.{length, get_or, get_or-eq_default}
-use Rattle.frame.specs.Coded.{digits, digit_at, size_digits, earliest_digits, distance_digits, special_from, special_place, special_digits}
+use borrow.Author.Tests.{ne_eqb}
+use Rattle.frame.specs.Coded.{digits, digit_at, size_digits, earliest_digits, distance_digits, special_from, special_place, special_digits, row_in}
 use Rattle.frame.specs.Distance.{before, distance_of, subframe_of}
 use Rattle.frame.specs.Earliest.{earliest_k}
 use Rattle.frame.specs.Layout.{layouts, letter_of, is_special}
+use Rattle.frame.specs.Special.{no_pdsch}
 use Rattle.frame.specs.Table.{table, window_of}
 use Rattle.frame.proofs.Distances.{distance_frame, distance_most}
 use Rattle.frame.proofs.Earliest.{earliest_most, none_outside}
@@ -80,3 +83,45 @@ pub distance_at : (c d w : ℕ) → w ≡ distance_digits c → digit_at w (d % 
 unfolding distance_digits
 distance_at c d w row =
     rw row (digit_at_holds 10 (distance_of c) (λ d. omega (arith, distance_most c d)) (d % 10) (omega arith)) ∙ distance_frame c d
+
+-- 1 where the special configuration allows no PDSCH with the prefix
+abbrev shown : ℕ → ℕ → ℕ
+shown p s = cond (no_pdsch p s) 1 0
+
+shown_small : (p s : ℕ) → shown p s < 16
+shown_small p s = go (no_pdsch p s)
+  where
+    go : (b : Bool) → cond b 1 0 < 16
+    go true = omega arith
+    go false = omega arith
+
+none_shown : (p s : ℕ) → 9 < s → 0 ≡ shown p s
+unfolding no_pdsch
+none_shown p s h =
+    rw (ne_eqb s 0 (λ e. omega arith), ne_eqb s 5 (λ e. omega arith), ne_eqb s 4 (λ e. omega arith)) (go (eqb p 0) (eqb p 1))
+  where
+    go : (a b : Bool) → ◌≡◌ {A = ℕ} 0 (cond ((a && (false || false)) || (b && (false || false))) 1 0)
+    go true true = refl
+    go true false = refl
+    go false true = refl
+    go false false = refl
+
+shown_at : (p s : ℕ) → eqb (digit_at (digits 10 (shown p)) s) 1 ≡ no_pdsch p s
+shown_at p s = rw (looked_up (shown p) (shown_small p) (none_shown p) s) (go (no_pdsch p s))
+  where
+    go : (b : Bool) → eqb (cond b 1 0) 1 ≡ b
+    go true = refl
+    go false = refl
+
+-- A special configuration without PDSCH is looked up by its prefix; no other prefix has one.
+pub no_pdsch_at : (p s w : ℕ) → w ≡ row_in (1048577 ∷ 65537 ∷ []) p → eqb (digit_at w s) 1 ≡ no_pdsch p s
+unfolding row_in no_pdsch
+no_pdsch_at zero s w read =
+    let row : 1048577 ≡ digits 10 (shown 0) = refl in
+    rw (read, row) (shown_at 0 s)
+no_pdsch_at (suc zero) s w read =
+    let row : 65537 ≡ digits 10 (shown 1) = refl in
+    rw (read, row) (shown_at 1 s)
+no_pdsch_at (suc (suc p)) s w read =
+    rw (read, zero-div (2 ^ (4 * s)), zero-mod 16, ne_eqb (suc (suc p)) 0 (λ e. omega arith), ne_eqb (suc (suc p)) 1 (λ e. omega arith))
+    refl

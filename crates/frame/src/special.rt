@@ -5,17 +5,17 @@ ghost use Rattle.frame.specs.Layout.{is_special};
 ghost use Rattle.frame.specs.Refusals.{refusal_in};
 ghost use Rattle.frame.specs.Special.{special_refusal, no_pdsch, too_short};
 
-use crate::table::{is_special, size_of, special_of};
+use crate::digits::digit_at;
+use crate::table::{digits_in, is_special, size_of, special_of};
 use crate::{Refusal, Settings};
 
-// The special configuration allows no PDSCH: 0 and 5 with the normal prefix, 0 and 4 with the extended one.
-#[tactic(auto, unfolding(crate::specs::Special::no_pdsch))]
+// The special configuration allows no PDSCH: 0 and 5 with the normal prefix, 0 and 4 with the extended one, each by a digit 1. A lookup,
+// since tests of the numbers would be branches that the processor cannot foretell where settings change.
+#[tactic(auto, using(crate::proofs::Lookups::no_pdsch_at))]
 pub fn no_pdsch(prefix: u16, special: u16) -> bool
     ensures { result ≡ no_pdsch prefix special }
 {
-    let normal = (special == 0) | (special == 5);
-    let extended = (special == 0) | (special == 4);
-    ((prefix == 0) & normal) | ((prefix == 1) & extended)
+    digit_at(digits_in(&[0x100001, 0x10001], prefix), special) == 1
 }
 
 // The subframe at position m of the window of n is special: a lookup, where the subframe itself would be found by its k and a division. A

@@ -80,11 +80,11 @@ pub fn window_of(config: u16, n: u16) -> &'static [u16]
 
 // The row in a table of numbers; 0 where there is none.
 #[tactic(auto, unfolding(crate::specs::Coded::row_in))]
-fn digits_in(rows: &'static [u64], config: u16) -> u64
-    ensures { result ≡ row_in rows.now config }
+pub fn digits_in(rows: &'static [u64], row: u16) -> u64
+    ensures { result ≡ row_in rows.now row }
 {
-    match rows.get(config as usize) {
-        Some(&row) => row,
+    match rows.get(row as usize) {
+        Some(&digits) => digits,
         None => 0,
     }
 }
