@@ -7,7 +7,7 @@ use mathlib.Core.Path.{◌≡◌, refl}
 use native.Mathlib.Nat.{le_refl, le_step}
 use native.Mathlib.Omega.{arith}
 use native.Mathlib.Decide.{dec_lt}
-use lib.Dec.{T, eqb, leb, eqb→eq, leb→le}
+use lib.Dec.{T, eqb, leb, leb→le}
 use Rattle.frame.specs.Distance.{distance_up_to, distance_of}
 use Rattle.frame.specs.Layout.{layouts, letter_of, downlink}
 use Rattle.frame.specs.Order.{member}
@@ -67,13 +67,6 @@ answers_at c d h =
       | yes inside ↦ below_at 10 (answers c) (below_at 7 (λ c. below 10 (answers c)) answers_tested c inside) d (omega arith)
       | no over ↦ rw (no_letter c d (omega arith), no_distance c d (omega arith)) tt
     ]
-
-pub downlink_distance : (c d : ℕ) → d ≤ 9 → 0 < distance_of c d → downlink c d ≡ true
-downlink_distance c d h some = go (downlink c d) refl (answers_at c d h)
-  where
-    go : (b : Bool) → downlink c d ≡ b → T (cond b (leb 1 (distance_of c d)) (eqb (distance_of c d) 0)) → b ≡ true
-    go true e t = refl
-    go false e t = absurd (omega (arith, eqb→eq (distance_of c d) 0 t))
 
 pub uplink_distance : (c d : ℕ) → d ≤ 9 → distance_of c d ≡ 0 → downlink c d ≡ false
 uplink_distance c d h none = go (downlink c d) refl (answers_at c d h)
