@@ -26,29 +26,29 @@ use Rattle.claims.specs.Offsets.{offset_of}
 use Rattle.claims.proofs.Share.{in_range}
 
 -- Sixteen bits hold the first product.
-pub flat_most : (map : Map) (p : ℕ) → p ≤ 3 → (map.size - 1) * edge map.nrb p ≤ 1072
-flat_most map p h =
+pub bases_most : (map : Map) (p : ℕ) → p ≤ 3 → (map.size - 1) * edge map.nrb p ≤ 1072
+bases_most map p h =
     mul-le-mul {n₂ = 8} {m₂ = 134} (omega (arith, map.bounds.size_most))
     (omega (arith, edge_rises map.nrb p h, edge_top map.nrb p h, edge_most map.nrb map.bounds.nrb_most))
 
 module _ (o : Offsets) where
-  flat_at : (p : ℕ) → p ≤ 3 → get_or o.flat p 0 ≡ (o.map.size - 1) * edge o.map.nrb p
-  flat_at p h = ap (λ xs. get_or xs p 0) o.flat_made ∙ get_or-map-range_with_len (λ x. (o.map.size - 1) * edge o.map.nrb x) 0 4 p p 0 (omega arith) (omega arith)
+  flat_at : (p : ℕ) → p ≤ 3 → get_or o.bases p 0 ≡ (o.map.size - 1) * edge o.map.nrb p
+  flat_at p h = ap (λ xs. get_or xs p 0) o.bases_made ∙ get_or-map-range_with_len (λ x. (o.map.size - 1) * edge o.map.nrb x) 0 4 p p 0 (omega arith) (omega arith)
 
-  wide_at : (p : ℕ) → p ≤ 3 → get_or o.wide p 0 ≡ edge o.map.nrb (p + 1) - edge o.map.nrb p
-  wide_at p h = ap (λ xs. get_or xs p 0) o.wide_made ∙ get_or-map-range_with_len (λ x. edge o.map.nrb (x + 1) - edge o.map.nrb x) 0 4 p p 0 (omega arith) (omega arith)
+  wide_at : (p : ℕ) → p ≤ 3 → get_or o.widths p 0 ≡ edge o.map.nrb (p + 1) - edge o.map.nrb p
+  wide_at p h = ap (λ xs. get_or xs p 0) o.widths_made ∙ get_or-map-range_with_len (λ x. edge o.map.nrb (x + 1) - edge o.map.nrb x) 0 4 p p 0 (omega arith) (omega arith)
 
   -- With a position of sixteen bits, whatever it is, the sum stays far below 2^64.
-  pub flat_and_wide : (m p : ℕ) → m ≤ 65535 → p ≤ 3 → get_or o.flat p 0 + m * get_or o.wide p 0 ≤ 8782762
-  flat_and_wide m p short h =
+  pub bases_and_widths : (m p : ℕ) → m ≤ 65535 → p ≤ 3 → get_or o.bases p 0 + m * get_or o.widths p 0 ≤ 8782762
+  bases_and_widths m p short h =
       let top : edge o.map.nrb (p + 1) ≤ 134 = omega (arith, edge_top o.map.nrb p h, edge_most o.map.nrb o.map.bounds.nrb_most) in
-      let flat : (o.map.size - 1) * edge o.map.nrb p ≤ 1072 = flat_most o.map p h in
-      let wide : m * (edge o.map.nrb (p + 1) - edge o.map.nrb p) ≤ 8781690 = mul-le-mul {n₂ = 65535} {m₂ = 134} short (omega arith) in
+      let bases : (o.map.size - 1) * edge o.map.nrb p ≤ 1072 = bases_most o.map p h in
+      let widths : m * (edge o.map.nrb (p + 1) - edge o.map.nrb p) ≤ 8781690 = mul-le-mul {n₂ = 65535} {m₂ = 134} short (omega arith) in
       rw (flat_at p h, wide_at p h) (omega arith)
 
   -- The sum is the formula with 0 for N1.
   pub offset_made : (m c : ℕ) → (ltb m o.map.size && ltb c (edge o.map.nrb 4)) ≡ true
-      → get_or o.flat (region_of o.map.nrb c) 0 + m * get_or o.wide (region_of o.map.nrb c) 0 + c ≡ resource_number o.map.nrb 0 o.map.size m c
+      → get_or o.bases (region_of o.map.nrb c) 0 + m * get_or o.widths (region_of o.map.nrb c) 0 + c ≡ resource_number o.map.nrb 0 o.map.size m c
   unfolding resource_number
   offset_made m c has =
       let nrb : ℕ = o.map.nrb in

@@ -4,8 +4,8 @@
 ghost use Rattle.std.specs.Prelude.{◌≡◌, ◌%◌};
 ghost use Rattle.counting.specs.Windows.{complete_at, complete_in, windows_before};
 
-// Derived from Table 10.1-1: for each configuration how many windows subframes 0 to n complete, n 0 to 9. A table, since counting them takes 30 ns
-// where a lookup takes 3.
+// Derived from Table 10.1-1: for each configuration how many windows subframes 0 to n complete, n 0 to 9. A table, since counting them
+// takes 30 ns where a lookup takes 3.
 const COMPLETE: [[u16; 10]; 7] = [
     [0, 0, 1, 1, 2, 2, 2, 3, 3, 4],
     [0, 0, 1, 2, 2, 2, 2, 3, 4, 4],

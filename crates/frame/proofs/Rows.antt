@@ -1,5 +1,5 @@
--- Tables with a row for each configuration: what is looked up is what the definition says, where the rows are the definition's; also outside
--- the table, where the definition has what a lookup gives there.
+-- Tables with a row for each configuration: what is looked up is what the definition says, where the rows are the definition's; also
+-- outside the table, where the definition has what a lookup gives there.
 -- Assumes nothing.
 use Prim.Native.Nat.{ℕ, zero, suc, ◌≤◌, ◌<◌, zero-le, suc-le-suc}
 use mathlib.Core.Bool.{false}

@@ -14,8 +14,8 @@ pub fn before(n: u16, k: u16) -> u16
 }
 
 impl Settings {
-    // The uplink subframe that answers for subframe d, how far it is from d, and d's position in its window: or the first of refusals 1 to 6,
-    // 17, 19 and 24 that the settings meet, then 7 for a subframe d that is not downlink, which has no k.
+    // The uplink subframe that answers for subframe d, how far it is from d, and d's position in its window: or the first of refusals 1 to
+    // 6, 17, 19 and 24 that the settings meet, then 7 for a subframe d that is not downlink, which has no k.
     #[tactic(auto, using(crate::proofs::Answers::answer_refused, crate::proofs::Answers::none_refused, crate::proofs::Answers::answer_told))]
     pub fn answered(self, d: u16) -> Result<Answered, Refusal>
         ensures { numbered result ≡ answered_of self d }

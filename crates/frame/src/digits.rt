@@ -1,5 +1,5 @@
-// Ten numbers below 16, one for each subframe, as the hexadecimal digits of one number: subframe n has digit n, counted from the
-// lowest, which is 0. A lookup is a shift.
+// Numbers below 16 as the hexadecimal digits of one number, counted from the lowest, which is 0: of ten subframes subframe n has digit n. A
+// lookup is a shift.
 ghost use Rattle.std.specs.Prelude.{◌≡◌};
 ghost use Rattle.frame.specs.Coded.{digit_at};
 

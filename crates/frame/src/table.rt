@@ -1,7 +1,8 @@
-// The frame layouts and Table 10.1-1 (document 01, "Frame and windows"), one row of source for each configuration. A table is lent and looked
-// up, not matched on: so it is read in its place, by one load, and the tables that a call reads don't become jumps by configuration.
+// The frame layouts and Table 10.1-1 (document 01, "Frame and windows"), one row of source for each configuration. A table is lent and
+// looked up, not matched on: so it is read in its place, by one load, and the tables that a call reads don't become jumps by
+// configuration.
 ghost use Rattle.std.specs.Prelude.{◌≡◌, length, map};
-ghost use Rattle.frame.specs.Coded.{letter_byte, letter_in, row_in, grid, list_in, size_digits, earliest_digits, distance_digits, special_place, special_digits, answer_in, coded_answer};
+ghost use Rattle.frame.specs.Coded.{letter_byte, letter_in, row_in, list_in, size_digits, earliest_digits, distance_digits, special_place, special_digits, answer_in, coded_answer};
 ghost use Rattle.frame.specs.Distance.{distance_of};
 ghost use Rattle.frame.specs.Earliest.{earliest_k};
 ghost use Rattle.frame.specs.Layout.{letter_of, downlink, is_special};
@@ -90,8 +91,8 @@ pub fn digits_in(rows: &'static [u64], row: u16) -> u64
 }
 
 // Derived from the rows: M of subframes 9 to 0 of a configuration, a digit each; 0 where there is no window. The four tables of digits
-// stand beside the rows for speed, since the largest k, a distance and a special subframe would be searches of the rows. They are proved equal to
-// what the rows say.
+// stand beside the rows for speed, since the largest k, a distance and a special subframe would be searches of the rows. They are proved
+// equal to what the rows say.
 fn sizes_of(config: u16) -> u64
     ensures { result ≡ size_digits config }
 {

@@ -1,14 +1,12 @@
 -- A subframe more in the memory: the newest stands before the others, and the oldest is dropped.
 -- Assumes nothing.
-use Prim.Native.Nat.{ℕ, zero, suc, ◌+◌, ◌-◌, ◌≤◌}
+use Prim.Native.Nat.{ℕ, zero, suc, ◌+◌, ◌≤◌}
 use mathlib.Core.List.{List, [], ◌∷◌}
 use mathlib.Core.Path.{◌≡◌, refl, sym, subst, ◌∙◌}
 use native.Mathlib.Omega.{arith}
 use lib.ListN.{length, take, drop, set}
 use lib.Seq.{drop-cons, take-length}
-use borrow.Rule.Slice.PartMut.{mid_of}
 use Rattle.std.specs.List.{copy_within}
-use Rattle.std.proofs.lemmas.List.{take_rest}
 use Rattle.std.proofs.Math.Seq.{paste}
 use Rattle.std.proofs.lemmas.List.Edits.{take-paste, length-paste}
 use Rattle.heard.specs.declared.Slot.{Slot}
@@ -31,7 +29,3 @@ pushed_before (x ∷ xs) new t size e =
     subst (λ (n : ℕ). take n (paste past 1 past 12) ≡ paste past 1 past 12) long (take-length (paste past 1 past 12)) in
     let whole : new ≡ x ∷ take 12 past = e ∙ sym all ∙ front in
     rw (whole, slots_taken 12 0 past (omega arith))
-
--- A part of the memory that ends where it does is what is left of it.
-pub part_left : (i count : ℕ) (past : List Slot) → length past ≡ 13 → count ≡ 13 - i → mid_of i count past ≡ drop i past
-part_left i count past size e = rw (e, ← size) (take_rest past i)

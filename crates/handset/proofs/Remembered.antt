@@ -16,7 +16,7 @@ use Rattle.heard.specs.declared.Slot.{Slot}
 use Rattle.heard.specs.Heard.{heard_refusal, block_before, second_refusal, cause_of}
 use Rattle.heard.specs.Memory.{none, heard_in, block_ago}
 use Rattle.heard.proofs.Remembered.{kind_block}
-use Rattle.handset.specs.Checked.{slot_valid, nothings, all_valid, any_block, blocks_apart}
+use Rattle.handset.specs.Checked.{slot_valid, padding, all_valid, any_block, blocks_apart}
 use Rattle.handset.specs.Sound.{slot_sound, previous, all_sound}
 
 -- A slot is sound where it is valid by itself, and is no scheduled block or the first one heard in its window.
@@ -58,12 +58,12 @@ none_apart c n (t ∷ ts) e = go (eqb t.kind 2) e (λ h. none_apart c (previous 
     go false h rest = rest h
 
 -- Slots of nothing behind them change nothing.
-valid_padded : (s : Settings) (n : ℕ) (past : List Slot) → all_valid s n (past ++ nothings) ≡ all_valid s n past
+valid_padded : (s : Settings) (n : ℕ) (past : List Slot) → all_valid s n (past ++ padding) ≡ all_valid s n past
 unfolding all_valid slot_valid heard_in heard_refusal
 valid_padded s n [] = refl
 valid_padded s n (t ∷ ts) = rw (valid_padded s (previous n) ts)
 
-block_padded : (past : List Slot) → any_block (past ++ nothings) ≡ any_block past
+block_padded : (past : List Slot) → any_block (past ++ padding) ≡ any_block past
 unfolding any_block
 block_padded [] = refl
 block_padded (t ∷ ts) = rw (block_padded ts)
@@ -93,7 +93,7 @@ module _ (slots : List Slot) (i : ℕ) (h : i < length slots) where
       go false b c = refl
 
 -- After the loop over the 13 slots and the three of nothing behind them.
-module _ (past : List Slot) (slots : List Slot) (padded : slots ≡ past ++ nothings) (i : ℕ) (done : length slots ≤ i) where
+module _ (past : List Slot) (slots : List Slot) (padded : slots ≡ past ++ padding) (i : ℕ) (done : length slots ≤ i) where
   pub valid_told : (s : Settings) (next : ℕ) (valid : Bool) → all_valid s next slots ≡ (valid && all_valid s (before next i) (drop i slots))
       → all_valid s next past ≡ valid
   unfolding all_valid
@@ -124,12 +124,12 @@ none_of kind cce dai results a b c d = rw (a, b, c, d) refl
 pub is_none : (t : Slot) → (t.kind ≡ 0) × ((t.cce ≡ 0) × ((t.dai ≡ 0) × (t.results ≡ 0))) → t ≡ none
 is_none t e = none_of t.kind t.cce t.dai t.results e.0 e.1.0 e.1.1.0 e.1.1.1
 
-pub all_put : (past slots : List Slot) (i : ℕ) → length past ≡ 13 → i ≡ 13 → slots ≡ take i past ++ drop i (replicate 16 none) → slots ≡ past ++ nothings
+pub all_put : (past slots : List Slot) (i : ℕ) → length past ≡ 13 → i ≡ 13 → slots ≡ take i past ++ drop i (replicate 16 none) → slots ≡ past ++ padding
 all_put past slots i size done e =
-    e ∙ rw done (ap (λ (k : ℕ). take k past ++ nothings) (sym size) ∙ ap (λ (l : List Slot). l ++ nothings) (take-length past))
+    e ∙ rw done (ap (λ (k : ℕ). take k past ++ padding) (sym size) ∙ ap (λ (l : List Slot). l ++ padding) (take-length past))
 
-pub sixteen : (past slots : List Slot) → length past ≡ 13 → slots ≡ past ++ nothings → length slots ≡ 16
-sixteen past slots e f = rw f (length-append past nothings ∙ rw e refl)
+pub sixteen : (past slots : List Slot) → length past ≡ 13 → slots ≡ past ++ padding → length slots ≡ 16
+sixteen past slots e f = rw f (length-append past padding ∙ rw e refl)
 
 -- What a state that remembers this comes to.
 module _ (s : Settings) (n : ℕ) (past : List Slot) where

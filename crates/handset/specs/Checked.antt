@@ -13,8 +13,8 @@ unfoldable pub slot_valid : Settings → ℕ → Slot → Bool
 slot_valid s n t = leb t.kind 3 && eqb (heard_refusal s n (heard_in t)) 0
 
 -- Three slots of nothing, which the code puts behind the 13.
-abbrev pub nothings : List Slot
-nothings = none ∷ none ∷ none ∷ []
+abbrev pub padding : List Slot
+padding = none ∷ none ∷ none ∷ []
 
 -- Every slot is valid by itself: the newest in the subframe before n, and so on back.
 unfoldable pub all_valid : Settings → ℕ → List Slot → Bool

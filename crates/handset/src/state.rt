@@ -7,12 +7,12 @@ ghost use Rattle.frame.specs.Refusals.{refusal_in};
 ghost use Rattle.frame.specs.Settings.{has_scheduled, settings_refusal};
 ghost use Rattle.frame.specs.Special.{no_pdsch};
 ghost use Rattle.resource.specs.Formula.{edge};
-ghost use Rattle.handset.specs.Checked.{slot_valid, nothings, all_valid, any_block, blocks_apart};
-ghost use Rattle.handset.specs.Sound.{previous, all_sound, state_refusal};
+ghost use Rattle.handset.specs.Checked.{slot_valid, padding, blocks_apart};
+ghost use Rattle.handset.specs.Sound.{all_sound, state_refusal};
 
 use crate::Handset;
 use frame::{Refusal, Settings};
-use heard::{Memory, Slot, SlotKind};
+use heard::{Slot, SlotKind};
 
 // What a cell's settings, which are accepted, allow a remembered subframe, made once for all of them.
 #[derive(Clone, Copy)]
@@ -73,8 +73,8 @@ fn word_of(t: Slot) -> u32
     u32::from_le_bytes([t.kind, t.cce, t.dai, t.results])
 }
 
-// A remembered subframe is of a kind that there is, and what it heard is valid by itself in a subframe of this letter. It is `check_heard` of
-// that, with no branch on what was heard, for speed.
+// A remembered subframe is of a kind that there is, and what it heard is valid by itself in a subframe of this letter. It is
+// `check_heard` of that, with no branch on what was heard, for speed.
 #[tactic(auto, using(crate::proofs::Together::valid_coded))]
 fn is_valid(limits: Limits, letter: u8, t: Slot) -> bool
     ensures { (n : ℕ) → letter ≡ letter_byte (letter_of limits.settings.config n) → result ≡ slot_valid limits.settings n t }
@@ -94,10 +94,10 @@ fn is_valid(limits: Limits, letter: u8, t: Slot) -> bool
         & (limits.scheduled | (kind != 2))
 }
 
-// The slots and three of nothing behind them, since the compiler tests sixteen four at a time and 13 one by one. A loop, which it makes no
-// copy of.
+// The slots and three of nothing behind them: sixteen are tested four at a time, where the compiler tests 13 one by one. They are put there
+// one by one: of a slice copied at once it would make a copy in memory.
 fn padded(past: &[Slot; 13]) -> [Slot; 16]
-    ensures { result ≡ past.now ++ nothings }
+    ensures { result ≡ past.now ++ padding }
 {
     let mut slots = [Slot::default(); 16];
     for (i, &t) in past.iter().enumerate() {
@@ -118,8 +118,9 @@ fn subframe_after(n: u16) -> u16
 }
 
 impl Handset {
-    // No remembered scheduled block is a second one in its window. From the oldest on each block takes its window, by the time when that is
-    // answered: 13 and how far after the slot, less how long ago the slot. No branch on the kinds, for speed.
+    // No remembered scheduled block is a second one in its window. From the oldest on each block takes its window. A window goes by the time
+    // when it is answered: slot i's subframe is i + 1 before the one expected, and its answer so far after it as `distance_of` says. No branch
+    // on the kinds, for speed.
     #[tactic(auto, using(frame::proofs::Distances::distance_most))]
     fn blocks_apart(&self) -> bool
         requires { self.now.next ≤ 9 }

@@ -221,7 +221,7 @@ impl Memory<'_> {
         ensures before { 1 ≤ k → result ≡ get_or self.entry.past.now (k - 1) none }
         ensures none_yet { k ≡ 0 → result ≡ none }
     {
-        // (of 0 it is more than any length)
+        // (0 becomes more than any length)
         let ago = usize::from(k).wrapping_sub(1);
         self.past.get(ago).copied().unwrap_or_default()
     }

@@ -57,7 +57,7 @@ const N: WindowAnswer = WindowAnswer {
     order: [0; 9],
 };
 
-// Derived from the frame's tables: the answer for each subframe of a configuration, whole, since a list would be copied by its length, in a
+// Derived from the frame's tables: the whole answer for each subframe of a configuration. Lists of other lengths would each be copied by a
 // call. It is proved equal to what the frame's rows say.
 #[rattlefmt::skip]
 const WINDOWS: [[WindowAnswer; 10]; 7] = [

@@ -1,7 +1,6 @@
 // One record: where it stands, and what of it is used.
 ghost use Rattle.std.specs.Prelude.{◌<◌, ◌^◌, ◌≡◌, cond, leb, IfOk, IfSome};
 ghost use Rattle.frame.specs.Refusals.{refusal_in, numbered};
-ghost use Rattle.heard.specs.Kinds.{kind_number};
 ghost use Rattle.reader.specs.Reading.{heard_of};
 ghost use Rattle.reader.specs.Record.{slot_at, used_results, used_in, used_of, record_of};
 
@@ -45,7 +44,8 @@ fn check_kind(t: Slot) -> Result<(), Refusal>
 }
 
 // A record with every field and bit that its kind does not use at 0; nothing for a kind over 3. The kinds stand here as the numbers that a
-// record has for them, 1 a grant, 2 a scheduled block, 3 a release: by way of a `SlotKind` a replay and the check before a writing take longer, a fifth or so.
+// record has for them, 1 a grant, 2 a scheduled block, 3 a release: by way of a `SlotKind` a replay and the check before a writing take
+// some fifth longer.
 #[tactic(auto, unfolding(crate::specs::Record::used_in))]
 pub(crate) fn used_in(t: Slot) -> Slot
     ensures { result ≡ used_in t }

@@ -97,7 +97,7 @@ fn dynamic_place(window: Window, r: Resource) -> Result<Place, Refusal>
 }
 
 // The place of a reply: where a position is told, the scheduled resource is the block there, and any other is dynamic. It is part of
-// `read`, since a window that is lent to a call is written to memory and read back in other pieces.
+// `read`, for speed: else the window would go there through memory.
 #[inline(always)]
 #[tactic(auto, using(frame::proofs::Refused::result_refused, frame::proofs::Refused::result_accepted, crate::proofs::Placed::place_tested), unfolding(crate::specs::Readings::told_refusal))]
 fn place_of(window: Window, told: Option<u16>, r: Resource) -> Result<Place, Refusal>

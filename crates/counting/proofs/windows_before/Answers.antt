@@ -1,5 +1,5 @@
--- `counting::windows_before` meets its contract. The whole frames complete no more windows than they have subframes, and all subframes no more than
--- there are.
+-- `counting::windows_before` meets its contract. The whole frames complete no more windows than they have subframes, and all subframes no
+-- more than there are.
 use Rattle.std.proofs.Common.{arith}
 use Rattle.counting.proofs.Frames.{complete_within, frames_most, windows_most, some_left, none_left}
 use Rattle.counting.proofs.windows_before.Goals as goal

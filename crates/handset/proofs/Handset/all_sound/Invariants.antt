@@ -1,5 +1,5 @@
--- `handset::Handset::all_sound` meets its contract. The loop's invariant: the slots before i are valid if `valid` says so, and one of them is a
--- scheduled block if `block` does. Assumes nothing.
+-- `handset::Handset::all_sound` meets its contract. The loop's invariant: the slots before i are valid if `valid` says so, and one of them
+-- is a scheduled block if `block` does. Assumes nothing.
 use mathlib.Core.Bool.{◌&&◌, ◌||◌}
 use mathlib.Core.Path.{◌≡◌}
 use lib.ListN.{drop}

@@ -1,5 +1,5 @@
--- `handset::Handset::blocks_apart` meets its contract. The loop's invariant: of the slots gone through, from 13 - k on, it is known which windows
--- they take, and whether a block is a second one. Assumes nothing.
+-- `handset::Handset::blocks_apart` meets its contract. The loop's invariant: of the slots gone through, from 13 - k on, it is known which
+-- windows they take, and whether a block is a second one. Assumes nothing.
 use Prim.Native.Nat.{ℕ, ◌-◌, ◌<◌}
 use mathlib.Core.Bool.{false, not}
 use mathlib.Core.Path.{◌≡◌}
