@@ -3,9 +3,9 @@
 
 mod bytes;
 
-ghost use Rattle.std.specs.Prelude.{◌≡◌};
+ghost use Rattle.std.specs.Prelude.{◌≡◌, leb};
 ghost use Rattle.frame.specs.Refusals.{refusal_in};
-ghost use Rattle.trace.specs.Trace.{header_of, settings_of, settings_part, records_part, apart, settings_fit, records_fit, length_refusal, parts_refusal, kinds_known, trace_refusal};
+ghost use Rattle.trace.specs.Trace.{header_of, settings_of, settings_part, records_part, apart, settings_fit, records_fit, length_refusal, parts_refusal, byte_at, place_of, kinds_known, trace_refusal};
 
 pub use bytes::byte_at;
 use bytes::{number_at, settings_at};
@@ -120,15 +120,20 @@ pub fn check_parts(trace: &[u8]) -> Result<(), Refusal>
     Ok(())
 }
 
-// Every record's kind is one that there is, 0 to 3.
+// The kind of record i is one that there is, 0 to 3.
+fn kind_known(trace: &[u8], header: Header, i: u16) -> bool
+    ensures { result ≡ leb (byte_at trace.now (place_of header.first i)) 3 }
+{
+    SlotKind::try_from(byte_at(trace, header.first as usize + RECORD * i as usize)).is_ok()
+}
+
+// Every record's kind is known. The records are looked at from both ends, so that a kind over 3 is found as soon near the last as near
+// the first.
 fn kinds_known(trace: &[u8], header: Header) -> bool
     ensures { result ≡ kinds_known trace.now header.first header.records }
 {
-    let first = header.first as usize;
-    (0..header.records).all(|i| SlotKind::try_from(byte_at(
-        trace,
-        first + RECORD * i as usize,
-    )).is_ok())
+    (0..header.records.div_ceil(2)).all(|i| kind_known(trace, header, i)
+        && kind_known(trace, header, header.records - 1 - i))
 }
 
 // 21, then 22 for the parts and for a kind over 3 in any record; none for a trace that can be read from end to end.
