@@ -1,11 +1,12 @@
 -- Texts put on a line one after the other are the text put on it together.
 -- Assumes nothing.
-use Rattle.std.proofs.Common.{ℕ, zero, suc, ◌+◌, ◌-◌, ◌≤◌, ◌≡◌, min, List, [], ◌∷◌, ◌++◌, length, take, drop, get_or, ◌<◌, refl, ap, ◌∙◌, arith, append_assoc, length-append, Result, Ok, Some, decimal, add-one, drop-cons}
+use Rattle.std.proofs.Common.{ℕ, zero, suc, ◌+◌, ◌-◌, ◌≤◌, ◌≡◌, min, List, [], ◌∷◌, ◌++◌, length, take, drop, set, replicate, get_or, ◌<◌, refl, sym, ap, ◌∙◌, arith, append_assoc, length-append, length-take-le, drop_at, decimal, add-one, drop-cons}
 use Rattle.std.proofs.lemmas.Fmt.{length-decimal-le}
-use Rattle.std.proofs.lemmas.List.{take_all, take_min, length-take, append-nil, drop_all}
+use Rattle.std.proofs.lemmas.List.{take_all, take_min, take_more_set, length-take, append-nil, drop_all, drop-replicate}
+use Rattle.std.proofs.lemmas.Slice.{take-put_mid}
 use native.Mathlib.Nat.{suc-sub-suc, sub-zero, zero-sub}
-use Rattle.std.specs.Io.KnownBytes.{WriteAppends}
-use Rattle.line.specs.Line.{added, listed}
+use borrow.Rule.Slice.PartMut.{put_mid}
+use Rattle.line.specs.Line.{added, padded, listed}
 
 take-nil : (n : ℕ) → take {A = ℕ} n [] ≡ []
 take-nil n = take_all n [] (omega arith)
@@ -15,12 +16,42 @@ take-append zero a b = rw zero-sub
 take-append (suc n) [] b = rw sub-zero
 take-append (suc n) (x ∷ a) b = ap (λ l. x ∷ l) (rw suc-sub-suc (take-append n a b))
 
--- As much of a text as `write` takes.
-pub added_written : {E : Type 0} (line text new : List ℕ) (r : Result ℕ E) → r ≡ Ok (min (100 - length line) (length text))
-    → WriteAppends (Some line) (Some new) r text → new ≡ added line text
+-- A text written over the zeros after a line's own bytes, as much of it as there is room for.
+module _ (bytes text : List ℕ) (size end : ℕ) (start : size ≤ end) (room : end ≤ 100) (whole : length bytes ≡ 100)
+    (fits : length text ≡ end - size) where
+  pub taken_written : take end (put_mid size (end - size) bytes text) ≡ take size bytes ++ text
+  taken_written = take-put_mid size (end - size) bytes text end (omega arith) (omega arith)
+
+  pub padded_written : padded (take size bytes) ≡ bytes
+      → padded (take end (put_mid size (end - size) bytes text)) ≡ put_mid size (end - size) bytes text
+  padded_written zeros =
+      let before : length (take size bytes) ≡ size = length-take-le size bytes (omega arith) in
+      let after : drop size bytes ≡ replicate (100 - size) 0 =
+      ap (drop size) (sym zeros) ∙ drop_at (take size bytes) _ size before ∙ ap (λ k. replicate (100 - k) 0) before in
+      let left : 100 - length (take size bytes ++ text) ≡ 100 - size - (end - size) = simp length-append (omega (arith, before, fits)) in
+      rw (taken_written, append_assoc, left, after, drop-replicate {X = ℕ} (end - size) (100 - size) 0)
+
+-- The part of a text that there is room for.
+pub added_part : (line text : List ℕ) → line ++ take (min (100 - length line) (length text)) text ≡ added line text
 unfolding added
-added_written {E} line text new r count h =
-    (rw count at h) ∙ ap (λ l. line ++ l) (take_min (100 - length line) text)
+added_part line text = ap (λ l. line ++ l) (take_min (100 - length line) text)
+
+-- A byte written over the first of the zeros.
+pub added_byte : (bytes line : List ℕ) (size b : ℕ) → length bytes ≡ 100 → take size bytes ≡ line → size < 100
+    → take (size + 1) (set bytes size b) ≡ added line (b ∷ [])
+unfolding added
+added_byte bytes line size b whole text room =
+    let before : length line ≡ size = ap length (sym text) ∙ length-take-le size bytes (omega arith) in
+    take_more_set bytes size b (omega arith)
+    ∙ ap (λ l. l ++ b ∷ []) text
+    ∙ ap (λ l. line ++ l) (sym (take_all (100 - length line) (b ∷ []) (omega arith)))
+
+-- A full line stays as it is.
+pub added_full : (bytes line text : List ℕ) (size : ℕ) → take size bytes ≡ line → length bytes ≡ 100 → 100 ≤ size → line ≡ added line text
+unfolding added
+added_full bytes line text size e whole full =
+    let none : 100 - length line ≡ 0 = omega (arith, ap length (sym e), length-take size bytes) in
+    sym (rw none (append-nil line))
 
 -- No text.
 pub added_none : (line : List ℕ) → added line [] ≡ line

@@ -8,22 +8,33 @@
 ghost use Rattle.std.specs.Prelude.{◌≡◌, [], ◌∷◌, ◌++◌, decimal};
 ghost use Rattle.line.specs.Line.{added, decimal_digit, listed};
 
-use arrayvec::ArrayVec;
-use std::io::Write;
 use std::marker::Model;
 
-// A text of at most 100 bytes. What is put on a full line is left out.
-#[derive(Drop)]
+// A text of at most 100 bytes. What is put on a full line is left out. It is an array, since the kit's `ArrayVec` can't be copied, and the
+// bytes after the text are 0, so that the text says what they all are, as `Copy` asks of a `Model`.
+#[derive(Clone, Copy)]
 pub struct Line {
-    bytes: ArrayVec<u8, 100>,
+    bytes: [u8; 100],
+    size: usize,
 }
 
 impl Model for Line {
-    ghost use Rattle.std.specs.Prelude.{List, ℕ};
+    ghost use Rattle.std.specs.Prelude.{ℕ, ◌≡◌, ◌≤◌, List, length, take};
+    ghost use Rattle.std.proofs.Common.{arith, length-take-le};
+    ghost use Rattle.line.specs.Line.{padded};
 
     ghost Value = { List ℕ };
 
-    ghost view = { λ l. l.bytes.items };
+    ghost view = { λ l. take l.size l.bytes };
+
+    ghost invariant = { λ l. (l.size ≤ 100) × (length l.bytes ≡ 100) × (padded (take l.size l.bytes) ≡ l.bytes) };
+
+    ghost inverse = { λ text. record { bytes = padded text; size = length text } };
+
+    ghost inverse_ok = { λ l h i. record {
+      bytes = h.2 i;
+      size = length-take-le l.size l.bytes (omega (arith, h.0, h.1)) i;
+    } };
 }
 
 impl Line {
@@ -32,7 +43,8 @@ impl Line {
         ensures { result ≡ [] }
     {
         Line {
-            bytes: ArrayVec::new(),
+            bytes: [0; 100],
+            size: 0,
         }
     }
 
@@ -40,22 +52,26 @@ impl Line {
     pub fn as_bytes(&self) -> &[u8]
         ensures { result.now ≡ self.now }
     {
-        self.bytes.as_slice()
+        &self.bytes[..self.size]
     }
 
     // Puts bytes after the text, as many as there is room for.
-    #[tactic(auto, using(crate::proofs::Adding::added_written))]
     pub fn extend_from_slice(&mut self, bytes: &[u8])
         ensures { self.new ≡ added self.old bytes.now }
     {
-        // It takes what fits, and never fails.
-        let _ = self.bytes.write(bytes);
+        let count = (100 - self.size).min(bytes.len());
+        self.bytes[self.size..self.size + count].copy_from_slice(&bytes[..count]);
+        self.size += count;
     }
 
+    #[tactic(auto, using(crate::proofs::Adding::added_byte, crate::proofs::Adding::added_full))]
     pub fn push(&mut self, b: u8)
         ensures { self.new ≡ added self.old (b ∷ []) }
     {
-        self.extend_from_slice(&[b]);
+        if self.size < 100 {
+            self.bytes[self.size] = b;
+            self.size += 1;
+        }
     }
 
     pub fn push_str(&mut self, text: &str)
