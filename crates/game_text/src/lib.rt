@@ -40,7 +40,7 @@ fn push_cells(line: &mut Line, size: u16, grants: u16)
 fn push_row(line: &mut Line, size: u16, grants: u16)
     ensures { line.new ≡ added line.old (row size grants) }
 {
-    line.push_labelled("G ", grants);
+    line.push_labelled(b"G ", grants);
     push_cells(line, size, grants);
 }
 
@@ -48,7 +48,7 @@ fn push_row(line: &mut Line, size: u16, grants: u16)
 fn push_title(line: &mut Line, size: u16)
     ensures { line.new ≡ added line.old (title size) }
 {
-    line.push_labelled("Window size ", size);
+    line.push_labelled(b"Window size ", size);
     line.push_str(
         ": R the radio can force a reply that hides a loss, S the scheduler can prevent it",
     );

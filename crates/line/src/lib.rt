@@ -90,16 +90,16 @@ impl Line {
 
     // Puts a text on the line, then a number.
     #[tactic(auto, using(crate::proofs::Adding::added_append))]
-    pub fn push_labelled(&mut self, text: &str, x: u16)
+    pub fn push_labelled(&mut self, text: &[u8], x: u16)
         ensures { self.new ≡ added self.old (text.now ++ decimal x) }
     {
-        self.push_str(text);
+        self.extend_from_slice(text);
         self.push_number(x);
     }
 
     // Puts numbers on the line, a text before each.
     #[tactic(auto, using(crate::proofs::Adding::listed_more, crate::proofs::Adding::listed_all))]
-    pub fn push_listed(&mut self, text: &str, xs: &[u16])
+    pub fn push_listed(&mut self, text: &[u8], xs: &[u16])
         ensures { self.new ≡ added self.old (listed text.now xs.now) }
     {
         for x in xs {

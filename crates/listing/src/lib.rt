@@ -15,8 +15,8 @@ fn push_line(page: &mut Line, c: u16, n: u16)
     let ks = frame::window_of(c, n);
     if !ks.is_empty() {
         page.push_number(c);
-        page.push_listed(" ", &[n, ks.len() as u16]);
-        page.push_listed(" ", ks);
+        page.push_listed(b" ", &[n, ks.len() as u16]);
+        page.push_listed(b" ", ks);
         page.push(b'\n');
     }
 }

@@ -36,7 +36,7 @@ fn k_text(c: u16, n: u16) -> Line
         [] => line.push(b'-'),
         [first, rest @ ..] => {
             line.push_number(*first);
-            line.push_listed(", ", rest);
+            line.push_listed(b", ", rest);
         }
     }
     line
@@ -93,9 +93,9 @@ fn push_said(line: &mut Line, says: Option<Symbol>)
 {
     match says {
         Some(symbol) => {
-            line.push_labelled("n_PUCCH,", symbol.index);
-            line.push_labelled("    ", symbol.b0);
-            line.push_labelled(", ", symbol.b1);
+            line.push_labelled(b"n_PUCCH,", symbol.index);
+            line.push_labelled(b"    ", symbol.b0);
+            line.push_labelled(b", ", symbol.b1);
         }
         None => {
             push_cell(line, b"N/A", 13);
@@ -119,8 +119,8 @@ fn push_symbol_row(line: &mut Line, row: &TableRow)
 fn push_title(line: &mut Line, size: u16)
     ensures { line.new ≡ added line.old (title size) }
 {
-    line.push_labelled("Table 10.1-", size);
-    line.push_labelled(": Transmission of ACK/NACK multiplexing for M = ", size);
+    line.push_labelled(b"Table 10.1-", size);
+    line.push_labelled(b": Transmission of ACK/NACK multiplexing for M = ", size);
 }
 
 // Puts the heading of the table for M = size on the line: as many columns HARQ-ACK(i) as the table has.

@@ -65,9 +65,9 @@ fn push_sent(line: &mut Line, window: Written)
         None => line.push_str("silent"),
         Some(kind) => {
             line.push_str(kind_text(kind));
-            line.push_labelled(", resource ", window.resource);
-            line.push_labelled(", bits ", window.b0 as u16);
-            line.push_labelled(" ", window.b1 as u16);
+            line.push_labelled(b", resource ", window.resource);
+            line.push_labelled(b", bits ", window.b0 as u16);
+            line.push_labelled(b" ", window.b1 as u16);
         }
     }
 }
@@ -78,8 +78,8 @@ fn line_of(frame: u16, window: Written) -> Line
     ensures { result ≡ line_text frame window.n window.kind window.resource window.b0 window.b1 }
 {
     let mut line = Line::new();
-    line.push_labelled("frame ", frame);
-    line.push_labelled(" subframe ", window.n as u16);
+    line.push_labelled(b"frame ", frame);
+    line.push_labelled(b" subframe ", window.n as u16);
     line.push_str(": ");
     push_sent(&mut line, window);
     line.push(b'\n');
@@ -112,9 +112,9 @@ pub fn refusal_text(refusal: u16, at: Option<u16>) -> Line
     if refusal == 0 {
         return line;
     }
-    line.push_labelled("refused ", refusal);
+    line.push_labelled(b"refused ", refusal);
     if let Some(number) = at {
-        line.push_labelled(" at record ", number);
+        line.push_labelled(b" at record ", number);
     }
     line.push(b'\n');
     line
