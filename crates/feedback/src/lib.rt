@@ -35,6 +35,7 @@ use numbers::{
     FedAnswer, GameAnswer, InverseAnswer, MadeAnswer, OpenedAnswer, ReadingAnswer, RecordAnswer,
     ReplayAnswer, ReplaySizeAnswer, ResourceAnswer, SilenceAnswer, WindowAnswer, WriteAnswer,
 };
+use reader::Reader;
 use resource::{Cce, Resource};
 
 // The number of the structs' layout, which the name carries too: a program that was compiled for another layout does not link.
@@ -269,7 +270,7 @@ pub extern "C" fn feedback_replay(trace: &[u8], out: &mut [u8]) -> ReplayAnswer
 pub extern "C" fn feedback_record(trace: &[u8], next: usize) -> RecordAnswer
     ensures { result ≡ record_answer (record_of trace.now next) }
 {
-    reader::record_at(trace, next).into()
+    Reader { trace, next }.read().into()
 }
 
 #[unsafe(no_mangle)]
