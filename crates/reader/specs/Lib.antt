@@ -1,2 +1,3 @@
+pub mod Numbered
 pub mod Reading
 pub mod Record

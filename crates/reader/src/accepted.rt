@@ -1,6 +1,5 @@
 // A trace that is accepted, and its records with their numbers.
-ghost use Rattle.std.specs.Prelude.{◌<◌, ◌≡◌, Ok, Some, IfOk};
-ghost use Rattle.std.specs.Iterator.Adapters.{zip_first, zip_second};
+ghost use Rattle.std.specs.Prelude.{◌-◌, ◌≤◌, ◌<◌, ◌≡◌, Ok, Some, IfOk};
 ghost use Rattle.frame.specs.Refusals.{refusal_in};
 ghost use Rattle.reader.specs.Record.{record_slot, used_in, record_of};
 ghost use Rattle.trace.specs.Trace.{header_of, settings_of, trace_refusal};
@@ -9,8 +8,6 @@ use crate::Reader;
 use crate::records::{masked, slot_at, used_in};
 use frame::{Refusal, Settings};
 use heard::Slot;
-use std::iter::Zip;
-use std::ops::Range;
 use trace::RECORD;
 
 // A lent trace that can be read from end to end, how many records it has, and where the first one begins. They are counted once: should
@@ -74,11 +71,72 @@ impl<'a> Trace<'a> {
     }
 
     // The records as a reader gives them, each with its number.
-    pub fn numbered(self) -> Zip<Range<u16>, Reader<'a>>
-        ensures numbers { zip_first result ≡ record { start = 0; end = self.entry.records } }
-        ensures trace { (zip_second result).trace ≡ self.entry.bytes }
-        ensures first { (zip_second result).next ≡ 0 }
+    pub fn numbered(self) -> Records<'a>
+        ensures trace { result.trace ≡ self.entry }
+        ensures first { result.reader.next ≡ 0 }
     {
-        (0..self.records).zip(Reader::new(self.bytes))
+        Records {
+            trace: self,
+            reader: Reader::new(self.bytes),
+            masked: false,
+        }
+    }
+
+    // The same by `masked_record`, for a loop that takes no other branch on a record.
+    pub fn masked(self) -> Records<'a>
+        ensures trace { result.trace ≡ self.entry }
+        ensures first { result.reader.next ≡ 0 }
+    {
+        let mut records = self.numbered();
+        records.masked = true;
+        records
+    }
+}
+
+// The records of an accepted trace, each with its number: the reader counts, and what it would give is taken from the trace, whose header
+// and parts are not tested again. What follows is part of each loop over them, for speed: so `masked` is known there.
+#[derive(Clone, Copy)]
+pub struct Records<'a> {
+    pub trace: Trace<'a>,
+    pub reader: Reader<'a>,
+    pub masked: bool,
+    pub ghost lent: { reader.trace ≡ trace.bytes },
+    pub ghost counted: { reader.next ≤ trace.records },
+}
+
+impl Records<'_> {
+    // The record of this number.
+    #[inline(always)]
+    fn record(&self, number: u16) -> Slot
+        ensures value { result ≡ used_in (record_slot self.now.trace.bytes.now number) }
+        ensures read { number < self.now.trace.records → record_of self.now.trace.bytes.now number ≡ Ok (Some result) }
+    {
+        if self.masked {
+            self.trace.masked_record(number)
+        } else {
+            self.trace.record(number)
+        }
+    }
+}
+
+impl Iterator for Records<'_> {
+    ghost use Rattle.std.specs.Iterator.{at_most};
+    ghost use Rattle.reader.specs.Numbered.{GivesNumbered};
+
+    type Item = (u16, Slot);
+
+    ghost next_gives = { GivesNumbered };
+
+    ghost remaining = { λ r. at_most (r.trace.records - r.reader.next) };
+
+    #[inline(always)]
+    fn next(&mut self) -> Option<(u16, Slot)> {
+        if self.reader.next >= self.trace.records as usize {
+            return None;
+        }
+        let number = self.reader.next as u16;
+        let record = self.record(number);
+        self.reader.advance();
+        Some((number, record))
     }
 }

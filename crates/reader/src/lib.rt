@@ -9,7 +9,7 @@ ghost use Rattle.frame.specs.Refusals.{numbered};
 ghost use Rattle.reader.specs.Reading.{following_of};
 ghost use Rattle.reader.specs.Record.{record_of};
 
-pub use accepted::Trace;
+pub use accepted::{Records, Trace};
 use frame::Refusal;
 use heard::Slot;
 pub use records::{heard_at, record_at, used_of};

@@ -106,14 +106,14 @@ module _ (trace : Trace) (h₀ : Handset) (old : Windows) where
         brings = brought_next l records i inside t read
 
         -- The record is refused.
-        pub stops : (stop : Stop) → FeedsRecord i (Err stop) (feed_of h (heard_in t)).answer
+        pub stops : (number : ℕ) → number ≡ i → (stop : Stop) → FeedsRecord number (Err stop) (feed_of h (heard_in t)).answer
             → (replayed_by (record { windows = windows.written; end = Err stop }) ≡ ended_as whole) × (out ≡ written whole.bytes old.out.now)
         unfolding played
-        stops (Refused k) f = absurd f
-        stops (AtRecord k j) f =
+        stops number same (Refused k) f = absurd f
+        stops number same (AtRecord k j) f =
             let one = from_one k in
             let left = rw (brings, f.0, one.1) at p.left in
-            rw (one.1, f.1) (rw (eqb-suc-zero one.0) at (closes (omega arith) (suc one.0) i left))
+            rw (one.1, f.1, same) (rw (eqb-suc-zero one.0) at (closes (omega arith) (suc one.0) i left))
 
         -- It is not.
         module _ (a : Answer) (f : FeedsRecord i (Ok a) (feed_of h (heard_in t)).answer) where

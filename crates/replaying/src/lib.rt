@@ -64,9 +64,9 @@ fn play(trace: Trace, mut running: Running, windows: &mut Windows) -> Result<(),
     ensures value { replayed_by (record { windows = windows.new.written; end = result }) ≡ ended_as (played running.handset 0 (brought_in trace.entry.bytes.now)) }
     ensures out_after { windows.new.out.now ≡ written (played running.handset 0 (brought_in trace.entry.bytes.now)).bytes windows.old.out.now }
 {
-    for number in 0..trace.records {
+    for (number, record) in trace.numbered() {
         let n = running.handset.next;
-        let answer = feed_record(&mut running, number, trace.record(number))?;
+        let answer = feed_record(&mut running, number, record)?;
         windows.push(n, answer);
     }
     Ok(())

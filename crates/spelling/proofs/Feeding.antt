@@ -56,12 +56,13 @@ module _ (trace : Trace) (h₀ : Handset) where
       brings = brought_next l records i inside t read
 
       -- The record is refused.
-      pub stops : (stop : Ending) → TakesRecord i (Err stop) (number_in (feed_of h (heard_in t)).answer) → stopped_by {T = Unit {0}} (Err stop) ≡ whole
+      pub stops : (number : ℕ) → number ≡ i → (stop : Ending) → TakesRecord number (Err stop) (number_in (feed_of h (heard_in t)).answer)
+          → stopped_by {T = Unit {0}} (Err stop) ≡ whole
       unfolding played
-      stops (Refused k) f = absurd f
-      stops (AtRecord k j) f =
+      stops number same (Refused k) f = absurd f
+      stops number same (AtRecord k j) f =
           let one = from_one k in
-          rw (one.1, f.1) (rw (brings, f.0, one.1, eqb-suc-zero one.0) at p.left)
+          rw (one.1, f.1, same) (rw (brings, f.0, one.1, eqb-suc-zero one.0) at p.left)
 
       -- It is not.
       pub goes_on : TakesRecord i (Ok tt) (number_in (feed_of h (heard_in t)).answer) → (h′ : Handset) → h′ ≡ (feed_of h (heard_in t)).handset → Feeding h′ (i + 1)

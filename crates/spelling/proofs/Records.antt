@@ -49,8 +49,9 @@ module _ (trace : Trace) (old : List ℕ) where
             let e : records - i ≡ suc (records - suc i) = omega (arith, inside) in
             rw (e, read)
 
-        pub goes_on : (out′ : List ℕ) → out′ ≡ put_at (18 + 4 * i) (slot_bytes t) out → Putting out′ (i + 1)
-        goes_on out′ here =
+        pub goes_on : (number : ℕ) → number ≡ i → (out′ : List ℕ) → out′ ≡ put_at (18 + 4 * number) (slot_bytes t) out → Putting out′ (i + 1)
+        goes_on number this out′ put =
+            let here : out′ ≡ put_at (18 + 4 * i) (slot_bytes t) out = rw this at put in
             let size = records_length l (suc i) (records - suc i) in
             let after : 18 + 4 * i + 4 ≡ 18 + 4 * suc i = omega arith in
             let rest : List ℕ = records_bytes l (suc i) (records - suc i) in

@@ -75,9 +75,9 @@ fn put_records(trace: Trace, out: &mut [u8])
     requires { Writable trace out.old }
     ensures { out.new ≡ put_at 18 (records_bytes trace.entry.bytes.now 0 trace.entry.records) out.old }
 {
-    for number in 0..trace.records {
+    for (number, record) in trace.masked() {
         let at = RECORDS_AT + RECORD * number as usize;
-        out[at..at + RECORD].copy_from_slice(&slot_bytes(trace.masked_record(number)));
+        out[at..at + RECORD].copy_from_slice(&slot_bytes(record));
     }
 }
 

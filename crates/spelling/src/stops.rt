@@ -12,8 +12,8 @@ use replaying::Stop;
 fn first_refused(trace: Trace, mut running: Running) -> Result<(), Stop>
     ensures { stopped_by result ≡ stop_in (ended_as (played running.handset 0 (brought_in trace.entry.bytes.now))) }
 {
-    for number in 0..trace.records {
-        replaying::take_record(&mut running, number, trace.record(number))?;
+    for (number, record) in trace.numbered() {
+        replaying::take_record(&mut running, number, record)?;
     }
     Ok(())
 }
