@@ -1,16 +1,21 @@
 -- `first_index` is the first index at which the test passes, and only that index is first; so for the first bad claim and the first clash.
 -- Assumes nothing.
-use Prim.Native.Nat.{ℕ, zero, suc, ◌+◌, ◌<◌, ◌≤◌}
+use Prim.Native.Nat.{ℕ, zero, suc, ◌+◌, ◌-◌, ◌<◌, ◌≤◌}
 use mathlib.Core.Bool.{Bool, true, false, cond, not, false≢true}
-use mathlib.Core.List.{List, [], ◌∷◌}
+use mathlib.Core.List.{List, [], ◌∷◌, ◌++◌}
 use mathlib.Core.Logic.{⊎_elim}
-use mathlib.Core.Path.{◌≡◌, refl, sym, ◌∙◌}
+use mathlib.Core.Path.{◌≡◌, refl, sym, ap, ◌∙◌}
 use native.Mathlib.Nat.{eq-or-lt_of_le, zero-add}
 use native.Mathlib.Omega.{arith}
-use lib.ListN.{length, get_or}
+use lib.ListN.{length, get_or, take, drop, length-drop}
 use borrow.Author.Tests.{le-ltb}
-use Rattle.std.specs.Prelude.{None}
-use Rattle.std.specs.List.{position, position_or_len}
+use Rattle.std.specs.Prelude.{Some, None}
+use Rattle.std.specs.List.{position, position_from, position_or_len}
+use Rattle.std.specs.Option.{option_map, option_or}
+use Rattle.std.proofs.Common.{add_assoc, add-zero}
+use Rattle.std.proofs.Math.Seq.{take-length, drop-append_seam}
+use Rattle.std.proofs.lemmas.List.{drop-drop}
+use Rattle.std.proofs.lemmas.Iterator.Adapters.{position_from-zero}
 use Rattle.frame.specs.declared.Settings.{Settings}
 use Rattle.claims.specs.Claims.{is_bad, first_index, first_bad, earlier, first_clash, found}
 use Rattle.claims.specs.First.{First}
@@ -88,6 +93,42 @@ unfolding first_bad
 no_bad s n claims good =
     position_bad s n claims
     ∙ rw (le-ltb (first_bad s n claims) (length claims) (omega (arith, first_none _ (length claims) (length claims) good (omega arith) (omega arith))))
+
+-- A search counts from 0 on; what one finds that counts from i on is i further.
+module _ (test : ℕ → Bool) where
+  pub counted_from_zero : (xs : List ℕ) → position test xs ≡ position_from test 0 xs
+  counted_from_zero xs = position_from-zero test xs
+
+  further : (xs : List ℕ) (i k : ℕ) → position_from test (i + k) xs ≡ option_map (λ (at : ℕ). i + at) (position_from test k xs)
+  further [] i k = refl
+  further (x ∷ xs) i k = rw (add_assoc i k 1) (go (test x) (further xs i (k + 1)))
+    where
+      go : (b : Bool) → position_from test (i + (k + 1)) xs ≡ option_map (λ (at : ℕ). i + at) (position_from test (k + 1) xs)
+          → cond b (Some (i + k)) (position_from test (i + (k + 1)) xs) ≡ option_map (λ (at : ℕ). i + at) (cond b (Some k) (position_from test (k + 1) xs))
+      go true rest = refl
+      go false rest = rest
+
+  pub counted_from : (xs : List ℕ) (i : ℕ) → position_from test i xs ≡ option_map (λ (at : ℕ). i + at) (position test xs)
+  counted_from xs i = rw (counted_from_zero xs) (rw add-zero at (further xs i 0))
+
+  -- A search goes on behind the first list where it finds nothing there.
+  pub counted_on : (xs ys : List ℕ) (i : ℕ) → position_from test i (xs ++ ys) ≡ option_or (position_from test i xs) (position_from test (i + length xs) ys)
+  counted_on [] ys i = rw (add-zero i)
+  counted_on (x ∷ xs) ys i = go (test x) (counted_on xs ys (i + 1))
+    where
+      go : (b : Bool) → position_from test (i + 1) (xs ++ ys) ≡ option_or (position_from test (i + 1) xs) (position_from test (i + 1 + length xs) ys)
+          → cond b (Some i) (position_from test (i + 1) (xs ++ ys)) ≡ option_or (cond b (Some i) (position_from test (i + 1) xs)) (position_from test (i + suc (length xs)) ys)
+      go true rest = refl
+      go false rest = let n : i + suc (length xs) ≡ i + 1 + length xs = omega arith in rw n rest
+
+-- What is left behind a piece, and what a search of the rest of a list finds.
+module _ (all : List ℕ) (i : ℕ) where
+  pub left_behind : (piece rest : List ℕ) → drop i all ≡ piece ++ rest → drop (i + length piece) all ≡ rest
+  left_behind piece rest e = sym (drop-drop (length piece) i all) ∙ ap (drop (length piece)) e ∙ drop-append_seam piece rest
+
+  pub found_in_rest : (test : ℕ → Bool) (rest : List ℕ) → drop i all ≡ rest → position test all ≡ position_from test i rest
+      → position test all ≡ option_map (λ (at : ℕ). i + at) (position test (take (length all - i) (drop i all)))
+  found_in_rest test rest e is = is ∙ rw (rw length-drop at (take-length (drop i all)), e) (counted_from test rest i)
 
 pub first_bad_holds : (s : Settings) (n : ℕ) (claims : List ℕ)
     → First (λ (i : ℕ). is_bad s n (get_or claims i 0)) 0 (length claims) (first_bad s n claims)

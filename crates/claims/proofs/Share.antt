@@ -30,7 +30,7 @@ in_range s n claim e =
     (ltb-true _ _ f.0, ltb-true _ _ f.1)
 
 module _ (s : Settings) (n : ℕ) (accepted : window_refusal s n ≡ 0) where
-  has_resource : (a : ℕ) → is_bad s n a ≡ false → (r : ℕ) × Has s n a r
+  pub has_resource : (a : ℕ) → is_bad s n a ≡ false → (r : ℕ) × Has s n a r
   has_resource a e =
       let f = in_range s n a e in
       let g = (calls_one_to_one s n accepted).into (claim_position a) (claim_cce a) f.0 f.1 in

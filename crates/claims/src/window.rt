@@ -9,6 +9,9 @@ use crate::scratch::Form;
 use frame::Window;
 use resource::Map;
 
+// How many claims are looked at together, in the search for a bad one.
+const PIECE: usize = 64;
+
 // The window that claims are for, with the offsets of its resources, whether there are two antenna ports, and the number of resources
 // that a claim may have, a mark for each.
 #[derive(Clone, Copy)]
@@ -46,10 +49,27 @@ impl ClaimedWindow {
         !self.offsets.has(claim / 256, claim % 256)
     }
 
-    // The first bad claim. Most lists have none, and a pass that does not stop at one takes several claims at a time; so only a list that
-    // has one is searched for it.
-    #[tactic(auto, using(crate::proofs::First::no_bad))]
+    // The first bad claim. It is looked for piece by piece, the last piece a shorter one, so that nothing is read behind the piece that
+    // has it.
+    #[tactic(auto, using(crate::proofs::First::counted_from_zero, crate::proofs::First::counted_from, crate::proofs::First::counted_on))]
     pub(crate) fn first_bad(&self, claims: &[u16]) -> Option<usize>
+        ensures { result ≡ position (is_bad self.now.window.settings self.now.window.n) claims.now }
+    {
+        let mut good = 0;
+        for piece in claims.chunks_exact(PIECE) {
+            if let Some(index) = self.first_bad_in(piece) {
+                return Some(good + index);
+            }
+            good += piece.len();
+        }
+        let index = self.first_bad_in(&claims[good..])?;
+        Some(good + index)
+    }
+
+    // The same of one piece. Most have no bad claim, and a pass that does not stop at one takes several claims at a time; so only a piece
+    // that has one is searched for it.
+    #[tactic(auto, using(crate::proofs::First::no_bad))]
+    fn first_bad_in(&self, claims: &[u16]) -> Option<usize>
         ensures { result ≡ position (is_bad self.now.window.settings self.now.window.n) claims.now }
     {
         let mut bad = false;
