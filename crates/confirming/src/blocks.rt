@@ -2,11 +2,13 @@
 ghost use Rattle.std.specs.Prelude.{◌≡◌, ◌<◌};
 ghost use Rattle.confirmation.specs.Confirmed.{sent_up_to};
 ghost use Rattle.frame.specs.Order.{times_of};
+ghost use Rattle.frame.specs.Refusals.{numbered};
 ghost use Rattle.confirming.specs.Blocks.{confirmed_as, confirmed_by};
 ghost use Rattle.confirming.specs.Coded.{in_set, k_in, send_in, holds_by, named_by, acks_of, confirms_by, confirmed_set};
 ghost use Rattle.confirming.specs.Records.{send_of};
 
 use crate::{Sent, SentIn};
+use frame::Refusal;
 use station::{Place, Reading};
 
 // A set of positions, bit m for position m. A reading has the number alone, as C and the definitions do.
@@ -135,15 +137,14 @@ impl SentIn<'_> {
         }
     }
 
-    // The blocks that a reading confirms. It takes no refused one, which its callers pass on with `?`: that such a one confirms nothing is
-    // in the promise of `confirm`. If it took one, `credit` would have to answer a refusal that cannot come.
+    // The blocks that the reading of the reply confirms. A refused one confirms none, and its refusal is answered.
     #[tactic(auto, using(crate::proofs::Confirming::blocks_confirmed, crate::proofs::Confirming::none_confirmed))]
-    pub fn confirmed(self, reading: Reading) -> Blocks
-        ensures { confirmed_as (Ok result) ≡ confirmed_by (k_in self.entry) (send_in self.entry) (Ok reading) }
+    pub fn confirmed(self, reading: Result<Reading, Refusal>) -> Result<Blocks, Refusal>
+        ensures { confirmed_as result ≡ confirmed_by (k_in self.entry) (send_in self.entry) (numbered reading) }
     {
-        match self.acks(reading) {
-            Some(acks) => self.confirmed_by(acks),
-            None => Blocks::default(),
+        match self.acks(reading?) {
+            Some(acks) => Ok(self.confirmed_by(acks)),
+            None => Ok(Blocks::default()),
         }
     }
 }

@@ -180,7 +180,7 @@ impl<'a> SentIn<'a> {
 }
 
 // The blocks of a sent window that the reply confirms. Sizes are not looked at. Settings, n and what was sent come apart, as from C.
-#[tactic(auto, using(crate::proofs::Answering::reading_refused, crate::proofs::Answering::reading_confirms))]
+#[tactic(auto, unfolding(crate::specs::Blocks::confirmed_of))]
 pub fn confirm(
     s: Settings,
     n: u16,
@@ -196,6 +196,5 @@ pub fn confirm(
         n,
         sent,
     };
-    let reading = window.read(r, b0, b1)?;
-    Ok(window.confirmed(reading))
+    window.confirmed(window.read(r, b0, b1))
 }

@@ -14,7 +14,6 @@ use Rattle.frame.specs.Settings.{or_else}
 use Rattle.frame.specs.Table.{window_of}
 use Rattle.frame.proofs.Refused.{from_one}
 use Rattle.station.specs.declared.Reading.{Reading}
-use Rattle.station.specs.declared.Reading.TheVariants.{Bundled, Multiplexed}
 use Rattle.station.specs.Readings.{read_of}
 use Rattle.confirmation.specs.Sent.{told_of}
 use Rattle.confirming.specs.declared.SentWindow.{SentWindow}
@@ -44,10 +43,6 @@ met (suc k) j x e = cc
 unmet : {T : Type 0} (k : ℕ) (x y : T) → unless_refused k x ≡ Ok y → (k ≡ 0) × (x ≡ y)
 unmet zero x y e = (refl, cc)
 unmet (suc k) x y e = absurd (cc)
-
-accepted : (read : Reading) → number_in (Ok read) ≡ 0
-accepted (Bundled place b0 b1) = refl
-accepted (Multiplexed place positions) = refl
 
 module _ (s : Settings) (n : ℕ) (w : SentWindow) (r b0 b1 : ℕ) (a : Account) where
   abbrev K : List ℕ
@@ -83,22 +78,26 @@ module _ (s : Settings) (n : ℕ) (w : SentWindow) (r b0 b1 : ℕ) (a : Account)
       unfolding prior_refusal
       charge_refused e is = prior_refused e (rw (none.0, ← charged, is))
 
-      -- The reading.
-      module _ (x : T) (free : charge ≡ Ok x) (reading : Result Reading Refusal) (reads : numbered reading ≡ read_of s n told r b0 b1) where
+      -- The reading, and the octets that it credits.
+      module _ (x : T) (free : charge ≡ Ok x) (reading : Result Reading Refusal) (reads : numbered reading ≡ read_of s n told r b0 b1)
+          (counted : Result ℕ Refusal) (counts : numbered counted ≡ unless_refused (number_in (numbered reading)) (credited_octets s.config n w (numbered reading))) where
         read_answer : answer ≡ credit_by s.config n w (numbered reading) a
         unfolding prior_refusal
         read_answer = prior_free (rw (none.0, ← charged, free)) ∙ rw (none.1, reads)
 
-        pub reading_refused : (e : Refusal) → reading ≡ Err e → answer ≡ refused e a
+        pub reading_refused : (e : Refusal) → counted ≡ Err e → answer ≡ refused e a
         unfolding credit_by
-        reading_refused e is = let p = from_one e in read_answer ∙ rw (is, p.1)
+        reading_refused e is =
+            let p = from_one e in
+            let first : number_in (numbered reading) ≡ number_of e = met _ _ (credited_octets s.config n w (numbered reading)) (sym counts ∙ rw is) in
+            read_answer ∙ rw (first, p.1)
 
         -- The octets, added to the account.
-        module _ (read : Reading) (is : reading ≡ Ok read) (octets : ℕ) (summed : octets ≡ credited_octets s.config n w (Ok read))
-            {U : Type 0} (sum : Result U Refusal) (added : refusal_in sum ≡ (add_of a octets).refusal) where
+        module _ (octets : ℕ) (is : counted ≡ Ok octets) {U : Type 0} (sum : Result U Refusal) (added : refusal_in sum ≡ (add_of a octets).refusal) where
           added_answer : answer ≡ added_of a octets
           unfolding credit_by
-          added_answer = read_answer ∙ rw (is, accepted read, ← summed)
+          added_answer =
+              let free = unmet _ (credited_octets s.config n w (numbered reading)) octets (sym counts ∙ rw is) in read_answer ∙ rw (free.0, free.1)
 
           pub sum_refused : (e : Refusal) → sum ≡ Err e → (b : Account) → b ≡ (add_of a octets).account → answer ≡ refused e b
           sum_refused e over b after =

@@ -1,6 +1,6 @@
 -- Octets as the code finds them: a block, a record, a window.
 -- Assumes nothing.
-use Rattle.std.proofs.Common.{Ok, Some}
+use Rattle.std.proofs.Common.{Result, Ok, Some}
 use Prim.Native.Nat.{ℕ, zero, suc, ◌+◌, ◌/◌, ◌^◌, ◌<◌, ◌≤◌}
 use mathlib.Core.Bool.{Bool, true, false, cond, ◌&&◌, and-false, and-true}
 use mathlib.Core.List.{List, [], ◌∷◌}
@@ -95,14 +95,14 @@ own_in p n f true m h e = rw e (set_in n f m h ∙ sym (and-true (f m)))
 own_in p n f false m h e = none_in m ∙ sym (and-false (f m))
 
 -- The octets of the sets of credited blocks are those of the credited blocks.
-pub credited_is : (config n : ℕ) (w : SentWindow) (read : Reading) (b : Blocks)
-    → confirmed_as (Ok b) ≡ confirmed_by (window_of config n) (sent_in (window_of config n) w) (Ok read)
-    → octets_where config n w (block_in (own_blocks read b)) ≡ credited_octets config n w (Ok read)
+pub credited_is : (config n : ℕ) (w : SentWindow) (read : Result Reading ℕ) (b : Blocks)
+    → confirmed_as (Ok b) ≡ confirmed_by (window_of config n) (sent_in (window_of config n) w) read
+    → octets_where config n w (block_in (own_blocks read b)) ≡ credited_octets config n w read
 unfolding credited_octets octets_where octets_at own_blocks confirmed_by credited
 credited_is config n w read b e =
     let ks : List ℕ = window_of config n in
-    let test : ℕ → ℕ → Bool = confirmed ks (sent_in ks w) (Ok read) in
+    let test : ℕ → ℕ → Bool = confirmed ks (sent_in ks w) read in
     let first : b.first.0 ≡ set_of (length ks) (λ (m : ℕ). test m 0) = ap (λ (c : Confirmed). c.first) e in
     let second : b.second.0 ≡ set_of (length ks) (λ (m : ℕ). test m 1) = ap (λ (c : Confirmed). c.second) e in
     sum_same (length ks) _ _
-    (λ m h. rw (own_in b.first (length ks) (λ (m : ℕ). test m 0) (own_bit (Ok read) 0) m h first, own_in b.second (length ks) (λ (m : ℕ). test m 1) (own_bit (Ok read) 1) m h second) refl)
+    (λ m h. rw (own_in b.first (length ks) (λ (m : ℕ). test m 0) (own_bit read 0) m h first, own_in b.second (length ks) (λ (m : ℕ). test m 1) (own_bit read 1) m h second) refl)

@@ -4,7 +4,7 @@
 mod octets;
 
 ghost use Rattle.std.specs.Prelude.{◌≡◌, length};
-ghost use Rattle.frame.specs.Refusals.{refusal_in};
+ghost use Rattle.frame.specs.Refusals.{refusal_in, numbered, unless_refused, number_in};
 ghost use Rattle.frame.specs.Settings.{or_else};
 ghost use Rattle.confirming.specs.Coded.{k_in, records_in};
 ghost use Rattle.account.specs.Account.{account_refusal};
@@ -63,12 +63,12 @@ fn check_charge(window: SentIn, account: &Account) -> Result<(), Refusal>
     account.check()
 }
 
-// The octets that a reading credits.
-#[tactic(auto, using(crate::proofs::Sums::credited_is))]
-fn credited_octets(window: SentIn, reading: Reading) -> u32
-    ensures { result ≡ credited_octets window.entry.settings.config window.entry.n window.entry.sent.now (Ok reading) }
+// The octets that a reading credits; a refused one credits none, and its refusal is answered.
+fn credited_octets(window: SentIn, reading: Result<Reading, Refusal>) -> Result<u32, Refusal>
+    ensures { numbered result ≡ unless_refused (number_in (numbered reading)) (credited_octets window.entry.settings.config window.entry.n window.entry.sent.now (numbered reading)) }
 {
-    octets_of(window, own_blocks(reading, window.confirmed(reading)))
+    let confirmed = window.confirmed(reading)?;
+    Ok(octets_of(window, own_blocks(reading, confirmed)))
 }
 
 // The octets credited for the reply that came on resource r with the bits b0 and b1 to what was sent in the window of n; they are added
@@ -91,8 +91,8 @@ pub fn credit(
     };
     let told = window.check()?;
     check_charge(window, account)?;
-    let reading = station::read(s, n, told, r, b0, b1)?;
-    let octets = credited_octets(window, reading);
+    let reading = station::read(s, n, told, r, b0, b1);
+    let octets = credited_octets(window, reading)?;
     account.add(octets)?;
     Ok(octets)
 }

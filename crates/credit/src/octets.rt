@@ -1,19 +1,21 @@
 // The octets of the blocks that a reading credits.
 ghost use Rattle.std.specs.Prelude.{◌≡◌, cond, ◌+◌, ◌/◌, ◌≤◌};
+ghost use Rattle.frame.specs.Refusals.{numbered};
 ghost use Rattle.sizes.specs.Table.{block_size, table_column};
 ghost use Rattle.credit.specs.Coded.{own_blocks, block_in};
 ghost use Rattle.credit.specs.Credit.{octets_of, octets_where};
 
 use confirming::{Blocks, Positions, Sent, SentIn};
+use frame::Refusal;
 use station::Reading;
 
 // Of the confirmed blocks those whose own bit is ACK.
 #[tactic(auto, using(frame::proofs::Causes::decided), unfolding(crate::specs::Coded::own_blocks))]
-pub fn own_blocks(reading: Reading, confirmed: Blocks) -> Blocks
-    ensures { result ≡ own_blocks reading confirmed }
+pub fn own_blocks(reading: Result<Reading, Refusal>, confirmed: Blocks) -> Blocks
+    ensures { result ≡ own_blocks (numbered reading) confirmed }
 {
     match reading {
-        Reading::Bundled(_, b0, b1) => Blocks {
+        Ok(Reading::Bundled(_, b0, b1)) => Blocks {
             first: if b0 == 1 {
                 confirmed.first
             } else {
@@ -25,7 +27,8 @@ pub fn own_blocks(reading: Reading, confirmed: Blocks) -> Blocks
                 Positions::default()
             },
         },
-        Reading::Multiplexed(_, _) => confirmed,
+        Ok(Reading::Multiplexed(_, _)) => confirmed,
+        Err(_) => Blocks::default(),
     }
 }
 

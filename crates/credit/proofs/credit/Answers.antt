@@ -11,15 +11,16 @@ returns-in_err-check_charge c =
     refused_as _ _ _ _ c.from_residual-in_err-check_charge.ensures.1
     (charge_refused _ _ _ _ _ _ _ _ c.check.ensures _ c.in_ok-told.was _ c.check_charge.ensures _ c.in_err-check_charge.was)
 
-pub returns-in_err-reading : goal.returns-in_err-reading
-returns-in_err-reading c =
-    refused_as _ _ _ _ c.from_residual-in_err-reading.ensures.1
-    (reading_refused _ _ _ _ _ _ _ _ c.check.ensures _ c.in_ok-told.was _ c.check_charge.ensures _ c.in_ok-check_charge.was _ c.read.ensures _ c.in_err-reading.was)
+pub returns-in_err-octets : goal.returns-in_err-octets
+returns-in_err-octets c =
+    refused_as _ _ _ _ c.from_residual-in_err-octets.ensures.1
+    (reading_refused _ _ _ _ _ _ _ _ c.check.ensures _ c.in_ok-told.was _ c.check_charge.ensures _ c.in_ok-check_charge.was _ c.read-reading.ensures _ c.credited_octets.ensures _ c.in_err-octets.was)
 
 pub returns-in_err-add : goal.returns-in_err-add
 returns-in_err-add c =
     refused_as _ _ _ _ c.from_residual-in_err-add.ensures.1
-    (sum_refused _ _ _ _ _ _ _ _ c.check.ensures _ c.in_ok-told.was _ c.check_charge.ensures _ c.in_ok-check_charge.was _ c.read.ensures _ c.in_ok-reading.was _ c.credited_octets-octets.ensures _ c.add.ensures.refusal _ c.in_err-add.was _ c.add.ensures.after)
+    (sum_refused _ _ _ _ _ _ _ _ c.check.ensures _ c.in_ok-told.was _ c.check_charge.ensures _ c.in_ok-check_charge.was _ c.read-reading.ensures _ c.credited_octets.ensures _ c.in_ok-octets.was _ c.add.ensures.refusal _ c.in_err-add.was _ c.add.ensures.after)
 
 pub returns : goal.returns
-returns c = sum_credited _ _ _ _ _ _ _ _ c.check.ensures _ c.in_ok-told.was _ c.check_charge.ensures _ c.in_ok-check_charge.was _ c.read.ensures _ c.in_ok-reading.was _ c.credited_octets-octets.ensures _ c.add.ensures.refusal _ c.in_ok-add.was _ c.add.ensures.after
+returns c =
+    sum_credited _ _ _ _ _ _ _ _ c.check.ensures _ c.in_ok-told.was _ c.check_charge.ensures _ c.in_ok-check_charge.was _ c.read-reading.ensures _ c.credited_octets.ensures _ c.in_ok-octets.was _ c.add.ensures.refusal _ c.in_ok-add.was _ c.add.ensures.after
